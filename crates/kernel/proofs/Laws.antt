@@ -1,0 +1,10 @@
+-- Laws about the definitions of specs/, one file for each.
+pub mod Lists
+pub mod Search
+pub mod Rules
+pub mod Linkage
+pub mod Targets
+pub mod Accepted
+pub mod Stored
+pub mod Held
+pub mod Sets

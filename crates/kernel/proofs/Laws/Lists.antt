@@ -1,0 +1,47 @@
+-- Laws of lists that the kit does not have.
+use Prim.Native.Nat.{ℕ, zero, suc, _+_, _-_, _≤_, _<_}
+use mathlib.Core.Path.{_≡_, refl, ap, sym, _∙_}
+use mathlib.Core.List.{List, [], _∷_, _++_, map}
+use mathlib.Core.Option.{none, some}
+use native.Mathlib.Omega.{arith}
+use lib.ListN.{length, getD, getElem?, take, drop, set, replicate, length-drop, length-take, length-append}
+use lib.ListN.{length-replicate}
+use lib.Seq.{take-all, take-suc, set-at, take-length, append-snoc}
+use Rattle.kernel.specs.Stored.{filled}
+
+-- the part of a list from n on, as `&xs[n..]` has it
+pub part-from : (n : ℕ) (xs : List ℕ) → take (length xs - n) (drop n xs) ≡ drop n xs
+part-from n xs = take-all (length xs - n) (drop n xs) (omega (arith, length-drop n xs))
+
+-- what stands at a position
+pub some-at : {A : Type 0} (l : List A) (p : ℕ) (a d : A) → getElem? l p ≡ some a → (p < length l) × (getD l p d ≡ a)
+some-at [] p a d e = let z : _≡_ {A = ℕ} 0 1 = cc in absurd (omega arith)
+some-at (x ∷ l) zero a d e = (omega arith, cc)
+some-at (x ∷ l) (suc p) a d e = let r = some-at l p a d e in (omega (arith, r .0), r .1)
+
+pub at-some : {A : Type 0} (l : List A) (p : ℕ) (d : A) → p < length l → getElem? l p ≡ some (getD l p d)
+at-some [] p d h = absurd (omega arith)
+at-some (x ∷ l) zero d h = refl
+at-some (x ∷ l) (suc p) d h = at-some l p d (omega arith)
+
+pub at-past : {A : Type 0} (l : List A) → getElem? l (length l) ≡ none
+at-past [] = refl
+at-past (x ∷ l) = at-past l
+
+-- an element under a map, whatever stands past the ends
+pub map-at : {A B : Type 0} (f : A → B) (l : List A) (t : ℕ) (a : A) (b : B) → t < length l
+    → getD (map f l) t b ≡ f (getD l t a)
+map-at f [] t a b h = absurd (omega arith)
+map-at f (x ∷ l) zero a b h = refl
+map-at f (x ∷ l) (suc t) a b h = map-at f l t a b (omega arith)
+
+-- A list that is filled up from the left: with its first p elements in place, the next one goes to p.
+pub fill-on : {A : Type 0} (n p : ℕ) (l : List A) (d v : A) → p < n → p < length l → getD l p d ≡ v
+    → set (filled n d (take p l)) p v ≡ filled n d (take (p + 1) l)
+fill-on n p l d v room h e =
+    let here : length (take p l) ≡ p = omega (arith, length-take p l) in
+    let next : length (take (suc p) l) ≡ suc p = omega (arith, length-take (suc p) l) in
+    let one : p + 1 ≡ suc p = omega arith in
+    let more : n - p ≡ suc (n - suc p) = omega arith in
+    rw (one, here, next, more, set-at (take p l) d (replicate (n - suc p) d) v p here, take-suc l p d h, e)
+    (sym (append-snoc (take p l) v (replicate (n - suc p) d)))

@@ -1,0 +1,145 @@
+// The rules of a header and of a record (refusals 2 and 4).
+ghost use mathlib.Core.Path.{_≡_};
+ghost use mathlib.Core.Bool.{not};
+ghost use Prim.Native.Nat.{_+_, _*_, _<_, _^_};
+ghost use lib.ListN.{length, getD};
+ghost use lib.Dec.{ltb, eqb};
+ghost use Rattle.kernel.specs.Fields.{recordCount};
+ghost use Rattle.kernel.specs.Rules.{headRule, headerRule, recordRule, badRecord};
+ghost use Rattle.kernel.specs.Rules.{limitA, limitB, limitConstant, limitTarget};
+use crate::fields::both;
+use crate::fields::byte_at;
+use crate::fields::head_of;
+use crate::fields::next_of;
+use crate::fields::quad_at;
+use crate::fields::word_at;
+
+// The limit of a field in the row of an operation; 0 where there is no such operation.
+fn limit(row: &[usize], op: usize) -> usize
+    ensures { λ r. ⌜ r ≡ getD (now (row .entry)) op 0 ⌝ }
+{
+    if op < row.len() { row[op] } else { 0 }
+}
+
+// The limits of register a, operand b, the constant and the target, by operation.
+fn limit_a(op: usize) -> usize
+    ensures { λ r. ⌜ r ≡ limitA op ⌝ }
+{
+    limit(&[0, 8, 8, 8, 8, 1, 1, 8], op)
+}
+
+fn limit_b(ls: usize, ks: usize, op: usize) -> usize
+    ensures { λ r. ⌜ r ≡ limitB ls ks op ⌝ }
+{
+    limit(&[0, 1, 8, ls, ls, ks, ks, 1], op)
+}
+
+fn limit_constant(op: usize) -> usize
+    ensures { λ r. ⌜ r ≡ limitConstant op ⌝ }
+{
+    limit(&[0, 4294967296, 1, 1, 1, 1, 1, 1], op)
+}
+
+fn limit_target(n: usize, op: usize) -> usize
+    requires { ⌜ n < 65536 ⌝ }
+    ensures { λ r. ⌜ r ≡ limitTarget n op ⌝ }
+{
+    limit(&[0, 1, 1, 1, 1, 1, 1, n + 1], op)
+}
+
+// The rule of record i.
+fn record_rule(s: &[u8], i: usize) -> bool
+    requires { ⌜ i < 65536 ⌝ }
+    ensures { λ r. ⌜ r ≡ recordRule (now (s .entry)) i ⌝ }
+{
+    let at = 4 + 12 * i;
+    let op = byte_at(s, at);
+    let ls = byte_at(s, 1);
+    let ks = byte_at(s, 2);
+    let n = word_at(s, 6);
+    let a = byte_at(s, at + 1) < limit_a(op);
+    let b = byte_at(s, at + 2) < limit_b(ls, ks, op);
+    let reserved = byte_at(s, at + 3) == 0;
+    let constant = quad_at(s, at + 4) < limit_constant(op);
+    let target = word_at(s, at + 8) < limit_target(n, op);
+    let next = next_of(s, i) <= n;
+    both(
+        a,
+        both(
+            b,
+            both(reserved, both(constant, both(target, both(next, true)))),
+        ),
+    )
+}
+
+// The lowest record that breaks its rule, or 0.
+pub fn bad_record(s: &[u8]) -> usize
+    ensures { λ r. ⌜ r ≡ badRecord (now (s .entry)) ⌝ }
+{
+    let e = word_at(s, 6) + 1;
+    let mut i = 1;
+    while i < e {
+        if !record_rule(s, i) {
+            return i;
+        }
+        i += 1;
+    }
+    0
+}
+
+// The length of the file is not that of its records.
+pub fn bad_length(s: &[u8]) -> bool
+    ensures { λ r. ⌜ r ≡ not (eqb (length (now (s .entry))) (16 + 12 * recordCount (now (s .entry)))) ⌝ }
+{
+    s.len() != 16 + 12 * word_at(s, 6)
+}
+
+// The mask has no bit from location ls up.
+fn mask_rule(mask: usize, ls: usize) -> bool
+    requires { ⌜ mask < 65536 ⌝ }
+    ensures { λ r. ⌜ r ≡ ltb mask (2 ^ ls) ⌝ }
+{
+    if ls < 16 { mask < 1 << ls } else { true }
+}
+
+// The head of lane t is at most the record count, and zero from lane T up.
+fn head_rule(s: &[u8], t: usize) -> bool
+    requires { ⌜ t < 4 ⌝ }
+    ensures { λ r. ⌜ r ≡ headRule (now (s .entry)) t ⌝ }
+{
+    let h = head_of(s, t);
+    if t < byte_at(s, 0) {
+        h <= word_at(s, 6)
+    } else {
+        h <= 0
+    }
+}
+
+// The rule of the header.
+pub fn header_rule(s: &[u8]) -> bool
+    ensures { λ r. ⌜ r ≡ headerRule (now (s .entry)) ⌝ }
+{
+    let ts = byte_at(s, 0);
+    let ls = byte_at(s, 1);
+    let heads = both(
+        head_rule(s, 0),
+        both(
+            head_rule(s, 1),
+            both(head_rule(s, 2), both(head_rule(s, 3), true)),
+        ),
+    );
+    let counts = both(
+        byte_at(s, 3) == 0,
+        both(
+            mask_rule(word_at(s, 4), ls),
+            both(word_at(s, 6) <= 256, heads),
+        ),
+    );
+    both(
+        1 <= ts,
+        both(
+            ts <= 4,
+            both(1 <= ls, both(ls <= 16, both(byte_at(s, 2) <= 4, counts))),
+        ),
+    )
+}

@@ -1,0 +1,12 @@
+-- Small laws by subject.
+pub mod Bools
+pub mod Lists
+pub mod Cookbook
+pub mod Paths
+pub mod Steps
+pub mod Place
+pub mod Rows
+pub mod Pass
+pub mod Chosen
+pub mod Layout
+pub mod Lowered

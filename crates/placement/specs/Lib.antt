@@ -1,0 +1,9 @@
+-- Placement: the cookbook table, a lane as a chain of steps, the paper's sentence, the computed placement, and lowered
+-- lanes.
+pub mod Cookbook
+pub mod Chain
+pub mod Steps
+pub mod Sentence
+pub mod Place
+pub mod Placed
+pub mod Sheet
