@@ -12,7 +12,7 @@ use borrow.Author.Tests.{eq-eqb, not-false}
 use Rattle.kernel.specs.declared.accepted.Op.{Op}
 use Rattle.kernel.specs.declared.accepted.Op.the-variants.{Set, Add, Load, Store, Lock, Unlock, Skip}
 use Rattle.kernel.specs.Search.{lowest}
-use Rattle.kernel.specs.Held.{noLocks, same, held, heldFrom, jump, partsBy, partedBy, parted, misuse, faultAt}
+use Rattle.kernel.specs.Held.{noLocks, same, held, heldFrom, jumpFrom, partsBy, partedBy, parted, misuse, faultAt}
 use Rattle.kernel.specs.Held.{faultPosition, recordAt, laneFault}
 use Rattle.kernel.specs.Lawful.{Bounded, Keeps}
 use Rattle.kernel.proofs.Laws.Lists.{some-at, at-past}
@@ -58,15 +58,15 @@ module _ (rs : List ℕ) (ops : List Op) (len : length rs ≡ length ops)
 
   -- each SKIP has the set of the position that it leads to, or leads elsewhere
   agreed : (n q p : ℕ) → partedBy ops n q ≡ false → p < n
-      → partsBy (jump (getElem? ops p)) q (held ops p) (held ops q) ≡ false
+      → partsBy (jumpFrom (getElem? ops p)) q (held ops p) (held ops q) ≡ false
   unfolding partedBy
   agreed zero q p e h = absurd (omega arith)
   agreed (suc n) q p e h =
       go (decLe (suc p) n)
-      (neither (partsBy (jump (getElem? ops n)) q (held ops n) (held ops q)) (partedBy ops n q) e) (agreed n q p)
+      (neither (partsBy (jumpFrom (getElem? ops n)) q (held ops n) (held ops q)) (partedBy ops n q) e) (agreed n q p)
     where
       Agrees : ℕ → Type 0
-      Agrees p = partsBy (jump (getElem? ops p)) q (held ops p) (held ops q) ≡ false
+      Agrees p = partsBy (jumpFrom (getElem? ops p)) q (held ops p) (held ops q) ≡ false
 
       go : Dec (suc p ≤ n) → Agrees n × (partedBy ops n q ≡ false) → (partedBy ops n q ≡ false → p < n → Agrees p)
           → Agrees p

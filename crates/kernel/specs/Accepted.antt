@@ -2,6 +2,7 @@
 use Prim.Native.Nat.{ℕ, suc, _+_, _/_, _%_, _^_}
 use mathlib.Core.List.{List, [], _∷_, map}
 use mathlib.Core.Bool.{Bool, cond}
+use mathlib.Core.Option.{Option, none, some}
 use lib.ListN.{take}
 use lib.Dec.{eqb}
 use Rattle.kernel.specs.declared.accepted.Op.{Op}
@@ -60,6 +61,16 @@ programOf s =
       records = map (recordsAt s) (take (laneCount s) (heads s));
       lanes = map (opsAt s) (take (laneCount s) (heads s));
     }
+
+-- where an operation leads besides the next position: the target of a SKIP
+abbrev pub jump : Op → Option ℕ
+jump (Set a c) = none
+jump (Add a b) = none
+jump (Load a b) = none
+jump (Store a b) = none
+jump (Lock b) = none
+jump (Unlock b) = none
+jump (Skip a q) = some q
 
 -- bit x of the mask: location x is volatile
 abbrev pub isVolatile : ℕ → ℕ → Bool

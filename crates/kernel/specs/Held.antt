@@ -8,7 +8,7 @@ use lib.Dec.{eqb}
 use Rattle.kernel.specs.declared.accepted.Op.{Op}
 use Rattle.kernel.specs.declared.accepted.Op.the-variants.{Set, Add, Load, Store, Lock, Unlock, Skip}
 use Rattle.kernel.specs.Search.{lowest, firstOf, all}
-use Rattle.kernel.specs.Accepted.{Program}
+use Rattle.kernel.specs.Accepted.{Program, jump}
 
 abbrev pub noLocks : List Bool
 noLocks = replicate 4 false
@@ -39,16 +39,10 @@ heldFrom h (o ∷ os) = heldFrom (after h o) os
 abbrev pub held : List Op → ℕ → List Bool
 held ops p = heldFrom noLocks (take p ops)
 
--- where an operation leads besides the next position
-abbrev pub jump : Option Op → Option ℕ
-jump none = none
-jump (some (Set a c)) = none
-jump (some (Add a b)) = none
-jump (some (Load a b)) = none
-jump (some (Store a b)) = none
-jump (some (Lock b)) = none
-jump (some (Unlock b)) = none
-jump (some (Skip a q)) = some q
+-- where the operation at a position leads besides the next one; the end leads nowhere
+abbrev pub jumpFrom : Option Op → Option ℕ
+jumpFrom none = none
+jumpFrom (some o) = jump o
 
 -- a jump from a position with the set h leads to p, where the set is another
 abbrev pub partsBy : Option ℕ → ℕ → List Bool → List Bool → Bool
@@ -58,7 +52,7 @@ partsBy (some q) p h g = cond (eqb q p) (not (same h g)) false
 -- some SKIP among the first n operations leads to p with a set other than p's
 unfoldable pub partedBy : List Op → ℕ → ℕ → Bool
 partedBy ops zero p = false
-partedBy ops (suc q) p = cond (partsBy (jump (getElem? ops q)) p (held ops q) (held ops p)) true (partedBy ops q p)
+partedBy ops (suc q) p = cond (partsBy (jumpFrom (getElem? ops q)) p (held ops q) (held ops p)) true (partedBy ops q p)
 
 -- two ways to p disagree
 abbrev pub parted : List Op → ℕ → Bool

@@ -8,7 +8,7 @@ use mathlib.Core.Option.{Option, none, some}
 use lib.ListN.{getD, length}
 use Rattle.kernel.specs.declared.accepted.Op.{Op}
 use Rattle.kernel.specs.declared.held.Held.{Held}
-use Rattle.kernel.specs.Held.{held, jump, partedBy}
+use Rattle.kernel.specs.Held.{held, jumpFrom, partedBy}
 
 -- where an operation leads besides the next position; a number past every position of a lane where it leads nowhere
 -- else
@@ -17,7 +17,7 @@ orElse d none = d
 orElse d (some q) = q
 
 abbrev pub jumpOr : ℕ → Option Op → ℕ
-jumpOr d o = orElse d (jump o)
+jumpOr d o = orElse d (jumpFrom o)
 
 abbrev pub noJump : ℕ
 noJump = 65536

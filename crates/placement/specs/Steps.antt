@@ -4,7 +4,7 @@ use mathlib.Core.Path.{_≡_, refl}
 use mathlib.Core.Bool.{Bool, cond}
 use mathlib.Core.List.{List, [], _∷_, map}
 use mathlib.Core.Option.{Option, none, some}
-use Rattle.kernel.specs.Accepted.{isVolatile}
+use Rattle.kernel.specs.Accepted.{isVolatile, jump}
 use Rattle.kernel.specs.declared.accepted.Op.{Op}
 use Rattle.kernel.specs.declared.accepted.Op.the-variants.{Set, Add, Load, Store, Lock, Unlock, Skip as SkipOp}
 use Rattle.placement.specs.Cookbook.{Class, PL, PS, VL, VS}
@@ -19,16 +19,6 @@ classOf vol (Store a x) = some (cond (vol x) VS PS)
 classOf vol (Lock l) = some VL
 classOf vol (Unlock l) = some VS
 classOf vol (SkipOp a t) = none
-
--- the target of a SKIP
-abbrev pub jump : Op → Option ℕ
-jump (Set a c) = none
-jump (Add a b) = none
-jump (Load a x) = none
-jump (Store a x) = none
-jump (Lock l) = none
-jump (Unlock l) = none
-jump (SkipOp a t) = some t
 
 abbrev pub stepBy : Option Class → Option ℕ → Step
 stepBy (some c) t = Access c

@@ -17,7 +17,7 @@ use Rattle.kernel.specs.declared.accepted.Op.{Op}
 use Rattle.kernel.specs.declared.accepted.Slot.{Slot}
 use Rattle.kernel.specs.declared.accepted.Lane.{Lane}
 use Rattle.kernel.specs.declared.held.Held.{Held}
-use Rattle.kernel.specs.Held.{noLocks, same, after, heldFrom, held, jump, partsBy, partedBy, misuse, faultAt}
+use Rattle.kernel.specs.Held.{noLocks, same, after, heldFrom, held, jumpFrom, partsBy, partedBy, misuse, faultAt}
 use Rattle.kernel.specs.Held.{recordAt}
 use Rattle.kernel.specs.Stored.{noOp}
 use Rattle.kernel.specs.Sets.{orElse, noJump, jumpOr, noHeld, SetsTo, MarksTo}
@@ -115,7 +115,7 @@ module _ (ops : List Op) (p : ℕ) (marks : List Bool) (m : MarksTo ops p marks)
   unfolding partedBy
   away q x e n =
       let one : p + 1 ≡ suc p = omega arith in
-      rw (one, here, parts-other (jump (some (getD ops p noOp))) x (held ops p) (held ops x) (λ z. n (z ∙ sym e)))
+      rw (one, here, parts-other (jumpFrom (some (getD ops p noOp))) x (held ops p) (held ops x) (λ z. n (z ∙ sym e)))
 
   pub marks-past : {q : ℕ} → q ≡ jumpOr noJump (some (getD ops p noOp)) → length ops < q → MarksTo ops (p + 1) marks
   marks-past {q} e far =
@@ -147,7 +147,7 @@ module _ (ops : List Op) (p : ℕ) (marks : List Bool) (m : MarksTo ops p marks)
             here,
           )
           (sym (ap (λ b. cond b true (partedBy ops p q))
-          (parts-here (jump (some (getD ops p noOp))) q (held ops p) (held ops q) e (omega arith))))
+          (parts-here (jumpFrom (some (getD ops p noOp))) q (held ops p) (held ops q) e (omega arith))))
 
 -- what the sets and the marks say of one position, and of the end
 module _ (ops : List Op) (at : List Held) (marks : List Bool)

@@ -1,0 +1,80 @@
+-- What every call leaves of the output buffer: its length; after a refusal all of it; after a success the bytes behind
+-- those that were written. Theorems `lower-kept` and `run-kept`.
+use Prim.Native.Nat.{ℕ, _^_, _≤_, _<_}
+use native.Mathlib.Omega.{arith}
+use mathlib.Core.Path.{_≡_, refl}
+use mathlib.Core.Bool.{Bool, true, false, cond}
+use mathlib.Core.List.{List, _++_}
+use lib.Dec.{eqb, ltb}
+use lib.ListN.{length, drop, length-append, length-drop}
+use lib.Seq.{drop-at}
+use borrow.Author.Tests.{ltb-false}
+use Rattle.kernel.specs.Accepted.{Program}
+use Rattle.kernel.specs.Lawful.{Lawful}
+use Rattle.verdict.specs.Verdict.{Verdict, refused, accepted, verdict}
+use Rattle.verdict.proofs.Lawful.{accepted-lawful}
+use Rattle.sheet.specs.Levels.{Level}
+use Rattle.sheet.specs.Bytes.{sheetBytes, Lowered, wrote, refuses}
+use Rattle.sheet.proofs.Sizes.{sheet-small}
+use Rattle.machine.specs.Rules.{Machine}
+use Rattle.machine.specs.Run.{Answer, runProgram}
+use Rattle.lanes.specs.Moves.{oddBytes, movesIn}
+use Rattle.lanes.specs.Record.{stateBytes}
+use Rattle.lanes.specs.Interface.{packed, packedLowering, recordSize, stored, runCallBy, lowerCallBy}
+use Rattle.lanes.proofs.Sizes.{state-length}
+
+-- an answer from 2^32 up is a refusal, one below it the number of bytes written
+pub record Kept (buffer : List ℕ) (r : ℕ × List ℕ) : Type 0 where
+  pub same-length : length (r .1) ≡ length buffer
+  pub refused-same : 2 ^ 32 ≤ r .0 → r .1 ≡ buffer
+  pub rest-same : r .0 < 2 ^ 32 → drop (r .0) (r .1) ≡ drop (r .0) buffer
+
+kept-refused : (n : ℕ) (buffer : List ℕ) → Kept buffer (n, buffer)
+kept-refused n buffer = record { same-length = refl; refused-same = λ h. refl; rest-same = λ h. refl }
+
+kept-written : (n : ℕ) (bytes buffer : List ℕ) → length bytes ≡ n → n ≤ length buffer → n < 2 ^ 32
+    → Kept buffer (n, bytes ++ drop n buffer)
+kept-written n bytes buffer e h small = record {
+  same-length = omega (arith, length-append bytes (drop n buffer), length-drop n buffer);
+  refused-same = λ g. absurd (omega arith);
+  rest-same = λ g. drop-at bytes (drop n buffer) n e;
+}
+
+cond-by : {A : Type 0} (P : A → Type 0) (b : Bool) (x y : A) → (b ≡ true → P x) → (b ≡ false → P y) → P (cond b x y)
+cond-by P true x y f g = f refl
+cond-by P false x y f g = g refl
+
+module _ (buffer : List ℕ) where
+  sheet-kept : (l : Level) (k : Program) → Lawful k → Kept buffer (lowerCallBy l (accepted k) buffer)
+  sheet-kept l k w =
+      let bytes : List ℕ = sheetBytes l k in
+      cond-by (λ (r : Lowered × List ℕ). Kept buffer (packedLowering (r .0), r .1)) (ltb (length buffer) (length bytes))
+      (refuses 9 0, buffer) (wrote (length bytes), bytes ++ drop (length bytes) buffer)
+      (λ e. kept-refused (packed 9 0) buffer)
+      (λ e. kept-written (length bytes) bytes buffer refl (ltb-false (length buffer) (length bytes) e)
+      (omega (arith, sheet-small l k w)))
+
+  pub lower-kept : (l : Level) (s : List ℕ) → Kept buffer (lowerCallBy l (verdict s) buffer)
+  lower-kept l s = go (verdict s) refl
+    where
+      go : (v : Verdict) → verdict s ≡ v → Kept buffer (lowerCallBy l v buffer)
+      go (refused n r) e = kept-refused (packed n r) buffer
+      go (accepted k) e = sheet-kept l k (accepted-lawful s k e)
+
+  stored-kept : (a : Answer) → recordSize ≤ length buffer → Kept buffer (stored a buffer)
+  stored-kept a h =
+      cond-by (Kept buffer) (eqb (a .number) 0) (recordSize, stateBytes a ++ drop recordSize buffer)
+      (packed (a .number) (a .blames), buffer)
+      (λ e. kept-written recordSize (stateBytes a) buffer (state-length a) h (omega arith))
+      (λ e. kept-refused (packed (a .number) (a .blames)) buffer)
+
+  pub run-kept : (m : Machine) (v : Verdict) (moves : List ℕ) → Kept buffer (runCallBy m v moves buffer)
+  run-kept m (refused n r) moves = kept-refused (packed n r) buffer
+  run-kept m (accepted k) moves =
+      let answer : Answer = runProgram m k (movesIn moves) in
+      cond-by (Kept buffer) (ltb (length buffer) recordSize) (packed 9 0, buffer)
+      (cond (oddBytes moves) (packed 10 0, buffer) (stored answer buffer))
+      (λ e. kept-refused (packed 9 0) buffer)
+      (λ e. cond-by (Kept buffer) (oddBytes moves) (packed 10 0, buffer) (stored answer buffer)
+      (λ f. kept-refused (packed 10 0) buffer)
+      (λ f. stored-kept answer (ltb-false (length buffer) recordSize e)))

@@ -1,0 +1,81 @@
+-- Every byte of a run's state record is below 256: theorem `state-bytes-small`.
+use Prim.Native.Nat.{ℕ, zero, suc, _/_, _^_, _≤_, _<_}
+use native.Mathlib.Omega.{arith}
+use mathlib.Core.Bool.{Bool, true, false}
+use mathlib.Core.List.{List, [], _∷_}
+use lib.ListN.{length, getD, replicate, List·getD-map}
+use Rattle.kernel.specs.Accepted.{Program}
+use Rattle.kernel.specs.Lawful.{Lawful}
+use Rattle.sheet.specs.Bytes.{quad}
+use Rattle.sheet.proofs.SmallBytes.{Small, none, _▸_, small-append, small-at, zero-small, word-small, quad-small}
+use Rattle.machine.specs.Entries.{Entry, write, release}
+use Rattle.machine.specs.State.{Lane, idle, laneAt}
+use Rattle.machine.specs.Run.{Answer, shown}
+use Rattle.machine.specs.Shape.{EntrySmall, AllSmall, Shaped}
+use Rattle.lanes.specs.Record.{tableFrom, double, entryBytes, entriesBytes, stateLane, flag, stateBytes}
+
+double-small : (n : ℕ) → Small (double n)
+double-small n = small-append (quad-small n) (quad-small (n / 2 ^ 32))
+
+table-small : (f : ℕ → List ℕ) → ((i : ℕ) → Small (f i)) → (i n : ℕ) → Small (tableFrom f i n)
+table-small f h i zero = none
+table-small f h i (suc n) = small-append (h i) (table-small f h (suc i) n)
+
+zeros-small : (n : ℕ) → Small (replicate n 0)
+zeros-small zero = none
+zeros-small (suc n) = zero-small ▸ zeros-small n
+
+flag-small : (b : Bool) → flag b < 256
+flag-small true = omega arith
+flag-small false = omega arith
+
+-- an entry's kind, location or lock, two zero bytes and value
+fields-small : (kind x v : ℕ) → kind < 256 → x < 256 → Small (kind ∷ x ∷ 0 ∷ 0 ∷ quad v)
+fields-small kind x v hk hx = hk ▸ hx ▸ small-append (zeros-small 2) (quad-small v)
+
+module _ (ls ks : ℕ) (wl : ls ≤ 256) (wk : ks ≤ 256) where
+  entry-small : (e : Entry) → EntrySmall ls ks e → Small (entryBytes e)
+  entry-small (write x v) h = fields-small 1 x v (omega arith) (omega (arith, h .0))
+  entry-small (release l) h = fields-small 2 l 0 (omega arith) (omega arith)
+
+  entries-small : (n : ℕ) (es : List Entry) → AllSmall ls ks es → Small (entriesBytes n es)
+  unfolding entriesBytes
+  entries-small zero [] h = none
+  entries-small zero (e ∷ es) h = none
+  entries-small (suc n) [] h = small-append (zeros-small 8) (entries-small n [] tt)
+  entries-small (suc n) (e ∷ es) h = small-append (entry-small e (h .0)) (entries-small n es (h .1))
+
+  lane-small : (l : Lane) → AllSmall ls ks (l .pending) → Small (stateLane l)
+  unfolding stateLane
+  lane-small l h =
+      small-append (word-small (l .control .pos))
+      (small-append (word-small (length (l .pending)))
+      (small-append (table-small (λ i. quad (getD (l .regs) i 0)) (λ i. quad-small (getD (l .regs) i 0)) 0 8)
+      (entries-small 64 (l .pending) h)))
+
+module _ (k : Program) (a : Answer) (w : Lawful k) (shaped : Shaped k (shown a)) where
+  lanes-small : (t : ℕ) → Small (stateLane (laneAt (a .state) t))
+  lanes-small t =
+      let pending = List·getD-map (λ (l : Lane). l .pending) (a .state .lanes) t idle in
+      lane-small (k .locations) (k .locks) (omega (arith, w .few-locations)) (omega (arith, w .few-locks))
+      (laneAt (a .state) t) (rw pending at (shaped .entries t))
+
+  lock-small : (i : ℕ) → Small (getD (a .state .locks) i 0 ∷ [])
+  lock-small i =
+      let h : getD (a .state .locks) i 0 < 256 = omega (arith, shaped .locks-small i, w .few-lanes) in h ▸ none
+
+  all-small : Small (stateBytes a)
+  unfolding stateBytes
+  all-small =
+      small-append (flag-small (a .finished) ▸ zeros-small 3)
+      (small-append (table-small (λ i. getD (a .state .locks) i 0 ∷ []) lock-small 0 4)
+      (small-append (double-small (a .done))
+      (small-append (double-small (a .waited))
+      (small-append (table-small (λ i. quad (getD (a .state .memory) i 0)) memory-small 0 16)
+      (table-small (λ t. stateLane (laneAt (a .state) t)) lanes-small 0 4)))))
+    where
+      memory-small : (i : ℕ) → Small (quad (getD (a .state .memory) i 0))
+      memory-small i = quad-small (getD (a .state .memory) i 0)
+
+  pub state-bytes-small : (i : ℕ) → getD (stateBytes a) i 0 < 256
+  state-bytes-small = small-at all-small

@@ -1,0 +1,58 @@
+-- The four calls from C: what each answers, and the output buffer after it.
+use Prim.Native.Nat.{ℕ, _+_, _*_, _^_}
+use mathlib.Core.Bool.{cond}
+use mathlib.Core.List.{List, _++_}
+use lib.Dec.{eqb, ltb}
+use lib.ListN.{length, drop}
+use Rattle.kernel.specs.Accepted.{Program}
+use Rattle.verdict.specs.Verdict.{Verdict, refused, accepted, verdict}
+use Rattle.sheet.specs.Levels.{Level, level1, level2}
+use Rattle.sheet.specs.Bytes.{Lowered, wrote, refuses, lowerBy}
+use Rattle.machine.specs.Rules.{Machine, source, target, tso}
+use Rattle.machine.specs.Run.{Answer, runProgram}
+use Rattle.lanes.specs.Moves.{oddBytes, movesIn}
+use Rattle.lanes.specs.Record.{stateBytes}
+
+-- a success is the number of bytes written, a refusal number × 2^32 + record
+abbrev pub packed : ℕ → ℕ → ℕ
+packed n r = n * 2 ^ 32 + r
+
+abbrev pub packedLowering : Lowered → ℕ
+packedLowering (wrote n) = n
+packedLowering (refuses n r) = packed n r
+
+abbrev pub lowerCallBy : Level → Verdict → List ℕ → ℕ × List ℕ
+lowerCallBy l v buffer = (packedLowering (lowerBy l v buffer .0), lowerBy l v buffer .1)
+
+abbrev pub recordSize : ℕ
+recordSize = 2280
+
+-- the state record of a run that took place, else the buffer as it was
+abbrev pub stored : Answer → List ℕ → ℕ × List ℕ
+stored a buffer =
+    cond (eqb (a .number) 0) (recordSize, stateBytes a ++ drop recordSize buffer)
+    (packed (a .number) (a .blames), buffer)
+
+-- 9, then 10 for an odd number of bytes, then the run
+abbrev pub runInto : Machine → Program → List ℕ → List ℕ → ℕ × List ℕ
+runInto m k moves buffer =
+    cond (ltb (length buffer) recordSize) (packed 9 0, buffer)
+    (cond (oddBytes moves) (packed 10 0, buffer)
+    (stored (runProgram m k (movesIn moves)) buffer))
+
+abbrev pub runCallBy : Machine → Verdict → List ℕ → List ℕ → ℕ × List ℕ
+runCallBy m (refused n r) moves buffer = (packed n r, buffer)
+runCallBy m (accepted k) moves buffer = runInto m k moves buffer
+
+-- lanes_lower1, lanes_lower2, lanes_run_source and lanes_run_tso
+abbrev pub callLower1 : List ℕ → List ℕ → ℕ × List ℕ
+callLower1 kernel = lowerCallBy level1 (verdict kernel)
+
+abbrev pub callLower2 : List ℕ → List ℕ → ℕ × List ℕ
+callLower2 kernel = lowerCallBy level2 (verdict kernel)
+
+abbrev pub callRunSource : List ℕ → List ℕ → List ℕ → ℕ × List ℕ
+callRunSource kernel = runCallBy source (verdict kernel)
+
+abbrev pub callRunTso : List ℕ → List ℕ → List ℕ → ℕ × List ℕ
+callRunTso kernel = runCallBy (target tso) (verdict kernel)

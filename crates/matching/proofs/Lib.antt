@@ -1,0 +1,36 @@
+-- What is proved of whole kernels and whole runs. Theorem has `claims`, the one theorem; Demand2 and Demand3 put its
+-- parts together. Each other file is named after what it shows.
+
+-- small laws by subject
+pub mod Laws
+-- each tso run has its source run
+pub mod Fenced
+pub mod PlacedFenced
+pub mod Exposed
+pub mod Stands
+pub mod OpAgrees
+pub mod LaneAgrees
+pub mod Matching
+pub mod Legal
+-- no permitted move
+pub mod Stuck
+-- each direct source run has its tso run
+pub mod DirectLane
+pub mod DirectMove
+pub mod DirectPending
+pub mod DirectMatching
+-- number 11 is never met
+pub mod HeldSets
+pub mod LockClaims
+pub mod LockTurns
+pub mod ReleasesHeld
+-- bounds
+pub mod BoundedTurns
+pub mod BoundedRuns
+-- accepted kernels
+pub mod KernelLanes
+pub mod Demand2
+pub mod Demand3
+pub mod Theorem
+-- a computed search over the states of a small kernel, for the examples
+pub mod Explore

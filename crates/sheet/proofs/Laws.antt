@@ -1,0 +1,4 @@
+-- Small laws by subject.
+pub mod Cells
+pub mod Rows
+pub mod Written

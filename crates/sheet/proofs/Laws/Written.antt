@@ -1,0 +1,43 @@
+-- Laws of writing into the output buffer: what is in front, what lies behind, and that its length stays.
+use Prim.Native.Nat.{ℕ, _≤_, _<_}
+use native.Mathlib.Omega.{arith}
+use mathlib.Core.Path.{_≡_, refl}
+use mathlib.Core.Bool.{Bool, true, false}
+use mathlib.Core.List.{List, _++_}
+use lib.Dec.{ltb}
+use lib.ListN.{length, take, drop, length-append, length-drop}
+use lib.Seq.{take-at, drop-at}
+use borrow.Author.Tests.{ltb-false, le-ltb, lt-ltb}
+use Rattle.sheet.specs.Bytes.{wrote, refuses, writeInto}
+
+-- a success writes the bytes at the front and leaves the rest; else the buffer is as it was
+module _ (bytes buffer : List ℕ) where
+  pub written-all : length bytes ≤ length buffer
+      → writeInto bytes buffer ≡ (wrote (length bytes), bytes ++ drop (length bytes) buffer)
+  written-all h = rw (le-ltb (length buffer) (length bytes) h)
+
+  pub written-front : length bytes ≤ length buffer → take (length bytes) (writeInto bytes buffer .1) ≡ bytes
+  written-front h =
+      rw (le-ltb (length buffer) (length bytes) h) (take-at bytes (drop (length bytes) buffer) (length bytes) refl)
+
+  pub written-rest : length bytes ≤ length buffer
+      → drop (length bytes) (writeInto bytes buffer .1) ≡ drop (length bytes) buffer
+  written-rest h =
+      rw (le-ltb (length buffer) (length bytes) h) (drop-at bytes (drop (length bytes) buffer) (length bytes) refl)
+
+  pub short-untouched : length buffer < length bytes → writeInto bytes buffer ≡ (refuses 9 0, buffer)
+  short-untouched h = rw (lt-ltb (length buffer) (length bytes) h)
+
+  pub written-length : length (writeInto bytes buffer .1) ≡ length buffer
+  written-length = go (ltb (length buffer) (length bytes)) refl
+    where
+      go : (b : Bool) → ltb (length buffer) (length bytes) ≡ b → length (writeInto bytes buffer .1) ≡ length buffer
+      go true h = rw h
+      go false h =
+          rw h
+          (omega (
+            arith,
+            ltb-false (length buffer) (length bytes) h,
+            length-append bytes (drop (length bytes) buffer),
+            length-drop (length bytes) buffer,
+          ))

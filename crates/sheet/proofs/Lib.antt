@@ -1,0 +1,8 @@
+-- What is proved of sheets: small laws by subject, then the theorems.
+pub mod Laws
+pub mod Fitting
+pub mod ReadBack
+pub mod Lowered
+pub mod Sizes
+pub mod Relowered
+pub mod SmallBytes

@@ -1,0 +1,10 @@
+-- The sheets. Layout: a lane with its barriers; Levels: which of them a level keeps; Bytes: what is written, and what
+-- lowering answers; Read: the instructions that bytes stand for; Relower: a level made from level 1; Items: a lane as
+-- placement sees it.
+pub mod Layout
+pub mod Levels
+pub mod Bytes
+pub mod Read
+pub mod Relower
+pub mod Items
+pub mod Examples
