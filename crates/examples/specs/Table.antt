@@ -7,7 +7,9 @@ use lib.Dec.{eqb}
 use lib.ListN.{length, getD, take, drop, replicate}
 use Rattle.verdict.specs.Verdict.{verdict}
 use Rattle.sheet.specs.Levels.{Level, level1, level2}
-use Rattle.sheet.specs.Bytes.{Lowered, wrote, refuses, lowerBy}
+use Rattle.sheet.specs.declared.Lowered.{Lowered}
+use Rattle.sheet.specs.declared.Lowered.the-variants.{Wrote, Refuses}
+use Rattle.sheet.specs.Bytes.{lowerBy}
 use Rattle.machine.specs.Rules.{Machine, source, target, tso}
 use Rattle.machine.specs.Schedule.{Move, move}
 use Rattle.machine.specs.Run.{Answer, runBy}
@@ -38,8 +40,8 @@ rows zero b = []
 rows (suc n) b = (getD b 0 0, getD b 4 0) ∷ rows n (drop 8 b)
 
 abbrev instructionsIn : Lowered → List ℕ → List (ℕ × ℕ)
-instructionsIn (wrote n) b = rows ((n - 16) / 8) (drop 16 b)
-instructionsIn (refuses n r) b = []
+instructionsIn (Wrote n) b = rows ((n - 16) / 8) (drop 16 b)
+instructionsIn (Refuses n r) b = []
 
 abbrev instructions : Lowered × List ℕ → List (ℕ × ℕ)
 instructions r = instructionsIn (r .0) (r .1)
@@ -65,10 +67,10 @@ endOf a = record { number = a .number; finished = a .finished; values = register
 
 -- what an example says
 abbrev pub Holds : Example → Type 0
-Holds (refused-by l s n x r) = lowerBy l (verdict s) (lend n) ≡ (refuses x r, lend n)
-Holds (writes l s b) = lowerBy l (verdict s) (lend (length b + 1)) ≡ (wrote (length b), b ++ 255 ∷ [])
+Holds (refused-by l s n x r) = lowerBy l (verdict s) (lend n) ≡ (Refuses x r, lend n)
+Holds (writes l s b) = lowerBy l (verdict s) (lend (length b + 1)) ≡ (Wrote (length b), b ++ 255 ∷ [])
 Holds (shows l s is) = instructions (lowerBy l (verdict s) (lend 100)) ≡ is
-Holds (fills l s n) = lowerBy l (verdict s) (lend n) .0 ≡ wrote n
+Holds (fills l s n) = lowerBy l (verdict s) (lend n) .0 ≡ Wrote n
 Holds (ends m s mvs rs) =
     endOf (runBy m s (verdict s) mvs) ≡ record { number = 0; finished = true; values = rs }
 Holds (never m s) = (mvs : List Move) → endsAllZero (runBy m s (verdict s) mvs) ≡ false

@@ -14,7 +14,9 @@ use Rattle.kernel.specs.Lawful.{Lawful}
 use Rattle.verdict.specs.Verdict.{Verdict, refused, accepted, verdict}
 use Rattle.verdict.proofs.Lawful.{accepted-lawful}
 use Rattle.sheet.specs.Levels.{Level}
-use Rattle.sheet.specs.Bytes.{sheetBytes, Lowered, wrote, refuses}
+use Rattle.sheet.specs.declared.Lowered.{Lowered}
+use Rattle.sheet.specs.declared.Lowered.the-variants.{Wrote, Refuses}
+use Rattle.sheet.specs.Bytes.{sheetBytes}
 use Rattle.sheet.proofs.Sizes.{sheet-small}
 use Rattle.machine.specs.Rules.{Machine}
 use Rattle.machine.specs.Run.{Answer, runProgram}
@@ -49,7 +51,7 @@ module _ (buffer : List ℕ) where
   sheet-kept l k w =
       let bytes : List ℕ = sheetBytes l k in
       cond-by (λ (r : Lowered × List ℕ). Kept buffer (packedLowering (r .0), r .1)) (ltb (length buffer) (length bytes))
-      (refuses 9 0, buffer) (wrote (length bytes), bytes ++ drop (length bytes) buffer)
+      (Refuses 9 0, buffer) (Wrote (length bytes), bytes ++ drop (length bytes) buffer)
       (λ e. kept-refused (packed 9 0) buffer)
       (λ e. kept-written (length bytes) bytes buffer refl (ltb-false (length buffer) (length bytes) e)
       (omega (arith, sheet-small l k w)))

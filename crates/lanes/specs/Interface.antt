@@ -7,7 +7,9 @@ use lib.ListN.{length, drop}
 use Rattle.kernel.specs.Accepted.{Program}
 use Rattle.verdict.specs.Verdict.{Verdict, refused, accepted, verdict}
 use Rattle.sheet.specs.Levels.{Level, level1, level2}
-use Rattle.sheet.specs.Bytes.{Lowered, wrote, refuses, lowerBy}
+use Rattle.sheet.specs.declared.Lowered.{Lowered}
+use Rattle.sheet.specs.declared.Lowered.the-variants.{Wrote, Refuses}
+use Rattle.sheet.specs.Bytes.{lowerBy}
 use Rattle.machine.specs.Rules.{Machine, source, target, tso}
 use Rattle.machine.specs.Run.{Answer, runProgram}
 use Rattle.lanes.specs.Moves.{oddBytes, movesIn}
@@ -18,8 +20,8 @@ abbrev pub packed : ℕ → ℕ → ℕ
 packed n r = n * 2 ^ 32 + r
 
 abbrev pub packedLowering : Lowered → ℕ
-packedLowering (wrote n) = n
-packedLowering (refuses n r) = packed n r
+packedLowering (Wrote n) = n
+packedLowering (Refuses n r) = packed n r
 
 abbrev pub lowerCallBy : Level → Verdict → List ℕ → ℕ × List ℕ
 lowerCallBy l v buffer = (packedLowering (lowerBy l v buffer .0), lowerBy l v buffer .1)

@@ -27,7 +27,7 @@ use Rattle.sheet.specs.Levels.{Level, keeps, placed, placedLanes, sheetLanes, v
 use Rattle.sheet.specs.Bytes.{sheetBytes, lowerBy}
 use Rattle.sheet.specs.Read.{readSheet}
 use Rattle.sheet.specs.Items.{items, operationAt, keepsAt, keptBefore}
-use Rattle.sheet.proofs.Lowered.{placed-operations, items-lowered}
+use Rattle.sheet.proofs.LoweredLanes.{placed-operations, items-lowered}
 use Rattle.sheet.proofs.ReadBack.{lawful-back}
 use Rattle.sheet.proofs.SmallBytes.{sheet-bytes-small}
 use Rattle.sheet.proofs.Laws.Written.{written-all}

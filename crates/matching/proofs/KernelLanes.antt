@@ -21,7 +21,7 @@ use Rattle.sheet.specs.Items.{TargetsWithin}
 use Rattle.machine.specs.Rules.{Target, source}
 use Rattle.matching.proofs.Fenced.{AllFenced, levelOf, kernelProgram}
 use Rattle.machine.specs.Run.{programFor}
-use Rattle.sheet.proofs.Lowered.{placed-operations}
+use Rattle.sheet.proofs.LoweredLanes.{placed-operations}
 use Rattle.matching.proofs.PlacedFenced.{placed-fenced}
 use Rattle.matching.proofs.HeldSets.{Disciplined, heldAt, lane-disciplined}
 

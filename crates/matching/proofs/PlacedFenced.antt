@@ -25,7 +25,7 @@ use Rattle.placement.specs.Sentence.{Sentence}
 use Rattle.placement.proofs.Correct.{correct}
 use Rattle.sheet.specs.Layout.{Placed, operations, has}
 use Rattle.sheet.specs.Levels.{Level, keeps, placeFrom, placed}
-use Rattle.sheet.proofs.Lowered.{placed-operations}
+use Rattle.sheet.proofs.LoweredLanes.{placed-operations}
 use Rattle.machine.specs.Rules.{Target}
 use Rattle.matching.proofs.Fenced.{publishes, acquires, drains, opens, needs, levelOf, Edge, falls, jumps}
 use Rattle.matching.proofs.Fenced.{Open, starts, goes-on, Fenced, AllFenced}

@@ -2,7 +2,7 @@
 pub mod Laws
 pub mod Fitting
 pub mod ReadBack
-pub mod Lowered
+pub mod LoweredLanes
 pub mod Sizes
 pub mod Relowered
 pub mod SmallBytes

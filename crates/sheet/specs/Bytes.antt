@@ -11,6 +11,8 @@ use Rattle.verdict.specs.Verdict.{Verdict, refused, accepted, verdict}
 use Rattle.placement.specs.declared.cookbook.Barrier.{Barrier}
 use Rattle.placement.specs.declared.cookbook.Barrier.the-variants.{LL, LS, SS, SL}
 use Rattle.placement.specs.Cookbook.{codeOf}
+use Rattle.sheet.specs.declared.Lowered.{Lowered}
+use Rattle.sheet.specs.declared.Lowered.the-variants.{Wrote, Refuses}
 use Rattle.sheet.specs.Layout.{Instr, op, barrier}
 use Rattle.sheet.specs.Levels.{Level, level1, level2, sheetLanes}
 
@@ -76,19 +78,14 @@ header l k lanes =
 unfoldable pub sheetBytes : Level → Program → List ℕ
 sheetBytes l k = header l k (sheetLanes l k) ++ joined (map (laneBytes l) (sheetLanes l k))
 
--- the answer of a lowering: the bytes written, or the paper's number and the record that it names
-pub data Lowered : Type 0 where
-  wrote : ℕ → Lowered
-  refuses : ℕ → ℕ → Lowered
-
 -- the answer, and the output buffer after; 9 where it is shorter than the sheet
 abbrev pub writeInto : List ℕ → List ℕ → Lowered × List ℕ
 writeInto bytes buffer =
-    cond (ltb (length buffer) (length bytes)) (refuses 9 0, buffer)
-    (wrote (length bytes), bytes ++ drop (length bytes) buffer)
+    cond (ltb (length buffer) (length bytes)) (Refuses 9 0, buffer)
+    (Wrote (length bytes), bytes ++ drop (length bytes) buffer)
 
 abbrev pub lowerBy : Level → Verdict → List ℕ → Lowered × List ℕ
-lowerBy l (refused n r) buffer = (refuses n r, buffer)
+lowerBy l (refused n r) buffer = (Refuses n r, buffer)
 lowerBy l (accepted k) buffer = writeInto (sheetBytes l k) buffer
 
 abbrev pub lower1 : List ℕ → List ℕ → Lowered × List ℕ

@@ -11,7 +11,8 @@ use Rattle.placement.specs.declared.cookbook.Barrier.the-variants.{LL, LS, SS, 
 use Rattle.placement.specs.Place.{stands, due, rowsTo}
 use Rattle.sheet.specs.Layout.{Instr, op, barrier, sheet}
 use Rattle.sheet.specs.Levels.{level1, level2, placed, sheetLanes}
-use Rattle.sheet.specs.Bytes.{sheetBytes, wrote, refuses, writeInto}
+use Rattle.sheet.specs.declared.Lowered.the-variants.{Wrote, Refuses}
+use Rattle.sheet.specs.Bytes.{sheetBytes, writeInto}
 use Rattle.sheet.specs.Read.{readSheet}
 
 -- location 1 is volatile
@@ -111,8 +112,8 @@ unfolding readSheet stands due rowsTo
 read-holds = refl
 
 -- a buffer that is longer keeps what lies behind the sheet; one that is shorter is as it was
-fits-hold : writeInto (1 ∷ 2 ∷ []) (7 ∷ 8 ∷ 9 ∷ []) ≡ (wrote 2, 1 ∷ 2 ∷ 9 ∷ [])
+fits-hold : writeInto (1 ∷ 2 ∷ []) (7 ∷ 8 ∷ 9 ∷ []) ≡ (Wrote 2, 1 ∷ 2 ∷ 9 ∷ [])
 fits-hold = refl
 
-short-hold : writeInto (1 ∷ 2 ∷ []) (7 ∷ []) ≡ (refuses 9 0, 7 ∷ [])
+short-hold : writeInto (1 ∷ 2 ∷ []) (7 ∷ []) ≡ (Refuses 9 0, 7 ∷ [])
 short-hold = refl

@@ -1,7 +1,7 @@
 // The verdict on a kernel file of whatever bytes.
 ghost use mathlib.Core.Path.{_≡_};
 ghost use Rattle.verdict.specs.declared.Refusal.the-variants.{Accepted as accepting};
-ghost use Rattle.verdict.specs.Verdict.{structureThen, refusalOf};
+ghost use Rattle.verdict.specs.Verdict.{structureThen, refusalOf, numberOf, recordOf};
 ghost use Rattle.verdict.specs.Loaded.{loadedOf};
 use kernel::accepted::Kernel;
 use kernel::accepted::kernel_of;
@@ -95,4 +95,38 @@ pub fn check(file: &[u8]) -> Refusal
 {
     let loaded = load(file);
     loaded.refusal
+}
+
+// The paper's number of a refusal; 0 for an accepted file.
+pub fn number_of(refusal: Refusal) -> usize
+    ensures { λ r. ⌜ r ≡ numberOf refusal ⌝ }
+{
+    match refusal {
+        Refusal::Accepted => 0,
+        Refusal::TruncatedHeader => 1,
+        Refusal::BadHeader => 2,
+        Refusal::BadLength => 3,
+        Refusal::BadRecord(_) => 4,
+        Refusal::BadLinkage(_) => 5,
+        Refusal::ChainTooLong(_) => 6,
+        Refusal::BadTarget(_) => 7,
+        Refusal::LockFault(_) => 8,
+    }
+}
+
+// The record that a refusal names, or 0.
+pub fn record_of(refusal: Refusal) -> usize
+    ensures { λ r. ⌜ r ≡ recordOf refusal ⌝ }
+{
+    match refusal {
+        Refusal::Accepted => 0,
+        Refusal::TruncatedHeader => 0,
+        Refusal::BadHeader => 0,
+        Refusal::BadLength => 0,
+        Refusal::BadRecord(r) => r,
+        Refusal::BadLinkage(r) => r,
+        Refusal::ChainTooLong(r) => r,
+        Refusal::BadTarget(r) => r,
+        Refusal::LockFault(r) => r,
+    }
 }

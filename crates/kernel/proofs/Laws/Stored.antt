@@ -127,7 +127,7 @@ stored-by s ok k lanes-are count-is locations-is locks-is mask-is =
     }
 
 -- each lane that the code holds is the kernel's; past the kernel's lanes it is empty
-lanes-at : (os : List (List Op)) (rs : List (List ℕ)) (n t : ℕ) → length os ≡ length rs → t < n
+pub lanes-at : (os : List (List Op)) (rs : List (List ℕ)) (n t : ℕ) → length os ≡ length rs → t < n
     → getD (filled n noLane (storedLanes os rs)) t pastLanes ≡ storedLane (getD os t []) (getD rs t [])
 unfolding storedLanes slotsOf
 lanes-at [] [] n t e h =

@@ -8,12 +8,13 @@ use lib.Dec.{ltb}
 use lib.ListN.{length, take, drop, length-append, length-drop}
 use lib.Seq.{take-at, drop-at}
 use borrow.Author.Tests.{ltb-false, le-ltb, lt-ltb}
-use Rattle.sheet.specs.Bytes.{wrote, refuses, writeInto}
+use Rattle.sheet.specs.declared.Lowered.the-variants.{Wrote, Refuses}
+use Rattle.sheet.specs.Bytes.{writeInto}
 
 -- a success writes the bytes at the front and leaves the rest; else the buffer is as it was
 module _ (bytes buffer : List ℕ) where
   pub written-all : length bytes ≤ length buffer
-      → writeInto bytes buffer ≡ (wrote (length bytes), bytes ++ drop (length bytes) buffer)
+      → writeInto bytes buffer ≡ (Wrote (length bytes), bytes ++ drop (length bytes) buffer)
   written-all h = rw (le-ltb (length buffer) (length bytes) h)
 
   pub written-front : length bytes ≤ length buffer → take (length bytes) (writeInto bytes buffer .1) ≡ bytes
@@ -25,7 +26,7 @@ module _ (bytes buffer : List ℕ) where
   written-rest h =
       rw (le-ltb (length buffer) (length bytes) h) (drop-at bytes (drop (length bytes) buffer) (length bytes) refl)
 
-  pub short-untouched : length buffer < length bytes → writeInto bytes buffer ≡ (refuses 9 0, buffer)
+  pub short-untouched : length buffer < length bytes → writeInto bytes buffer ≡ (Refuses 9 0, buffer)
   short-untouched h = rw (lt-ltb (length buffer) (length bytes) h)
 
   pub written-length : length (writeInto bytes buffer .1) ≡ length buffer

@@ -38,7 +38,7 @@ regroup : (a b : List Item) (x : Item) (c : List Item) → a ++ (b ++ x ∷ c) �
 regroup a b x c = simp append-assoc
 
 module _ (pre : ℕ → List Barrier) where
-  start-by : (p i : ℕ) (ps : List Placed) → Stand pre p ps → i ≤ length ps
+  pub start-by : (p i : ℕ) (ps : List Placed) → Stand pre p ps → i ≤ length ps
       → startBy pre p + start ps i ≡ startBy pre (p + i)
   start-by p zero [] w h = simp add-zero
   start-by p (suc i) [] w h = absurd (omega arith)

@@ -1,0 +1,101 @@
+-- Laws of lines: the text of an instruction by its code, and how long it is at most.
+use Prim.Native.Nat.{ℕ, suc, _+_, _^_, _≤_, _<_}
+use mathlib.Core.Path.{_≡_, refl, sym, ap, _∙_}
+use mathlib.Core.Bool.{Bool, true, false, cond}
+use mathlib.Core.List.{List, [], _∷_, _++_}
+use native.Mathlib.Omega.{arith}
+use lib.Dec.{eqb}
+use lib.ListN.{length, getD, drop, length-append}
+use lib.Seq.{getD-drop}
+use borrow.Author.Tests.{ne-eqb}
+use Rattle.kernel.specs.Fields.{byte, quad}
+use Rattle.placement.specs.declared.cookbook.Barrier.the-variants.{SL}
+use Rattle.sheet.specs.Layout.{Instr, barrier}
+use Rattle.sheet.specs.Read.{instrBy, readInstr}
+use Rattle.listing.specs.Decimal.{decimal}
+use Rattle.listing.specs.Line.{pair, instrText, lineOf, firstLine}
+use Rattle.listing.proofs.Laws.Decimal.{decimal-few}
+
+-- the text by a code that is known
+pub code-text : (k : ℕ) {o : ℕ} (a b c : ℕ) → o ≡ k → instrText (instrBy k a b c) ≡ instrText (instrBy o a b c)
+code-text k a b c e = ap (λ x. instrText (instrBy x a b c)) (sym e)
+
+-- every other code
+pub other-text : (o a b c : ℕ) → (o ≡ 1 → ⊥) → (o ≡ 2 → ⊥) → (o ≡ 3 → ⊥) → (o ≡ 4 → ⊥) → (o ≡ 5 → ⊥) → (o ≡ 6 → ⊥)
+    → (o ≡ 7 → ⊥) → (o ≡ 11 → ⊥) → (o ≡ 12 → ⊥) → (o ≡ 13 → ⊥) → instrText (barrier SL) ≡ instrText (instrBy o a b c)
+other-text o a b c n1 n2 n3 n4 n5 n6 n7 n11 n12 n13 =
+    rw (
+      ne-eqb o 1 n1,
+      ne-eqb o 2 n2,
+      ne-eqb o 3 n3,
+      ne-eqb o 4 n4,
+      ne-eqb o 5 n5,
+      ne-eqb o 6 n6,
+      ne-eqb o 7 n7,
+      ne-eqb o 11 n11,
+      ne-eqb o 12 n12,
+      ne-eqb o 13 n13,
+    )
+
+pub pair-few : (a b : ℕ) → a < 2 ^ 32 → b < 2 ^ 32 → length (pair a b) ≤ 21
+pair-few a b ha hb =
+    omega (arith, length-append (decimal a) (32 ∷ decimal b), decimal-few a ha, decimal-few b hb)
+
+abbrev Few : Instr → Type 0
+Few i = length (instrText i) ≤ 28
+
+either : (t : Bool) (x y : Instr) → Few x → Few y → Few (cond t x y)
+either true x y p q = p
+either false x y p q = q
+
+pub instr-few : (o a b c : ℕ) → a < 2 ^ 32 → b < 2 ^ 32 → c < 2 ^ 32 → length (instrText (instrBy o a b c)) ≤ 28
+unfolding instrText
+instr-few o a b c ha hb hc =
+    let ab = pair-few a b ha hb in
+    let ac = pair-few a c ha hc in
+    let alone = decimal-few b hb in
+    either (eqb o 1) _ _ (omega arith)
+    (either (eqb o 2) _ _ (omega arith)
+    (either (eqb o 3) _ _ (omega arith)
+    (either (eqb o 4) _ _ (omega arith)
+    (either (eqb o 5) _ _ (omega arith)
+    (either (eqb o 6) _ _ (omega arith)
+    (either (eqb o 7) _ _ (omega arith)
+    (either (eqb o 11) _ _ (omega arith)
+    (either (eqb o 12) _ _ (omega arith)
+    (either (eqb o 13) _ _ (omega arith) (omega arith))))))))))
+
+same-four : (f : ℕ → ℕ → ℕ → ℕ → Instr) {o p a x b y c z : ℕ} → o ≡ p → a ≡ x → b ≡ y → c ≡ z → f o a b c ≡ f p x y z
+same-four f e1 e2 e3 e4 = cc
+
+shifted : (s : List ℕ) (k i j : ℕ) → j ≡ k + i → getD s j 0 ≡ getD (drop k s) i 0
+shifted s k i j e = ap (λ n. getD s n 0) e ∙ sym (getD-drop k s i 0)
+
+quad-at : (s : List ℕ) (k : ℕ) → quad s (k + 4) ≡ quad (drop k s) 4
+quad-at s k =
+    let e4 = shifted s k 4 (k + 4) refl in
+    let e5 = shifted s k 5 (k + 4 + 1) (omega arith) in
+    let e6 = shifted s k 6 (k + 4 + 2) (omega arith) in
+    let e7 = shifted s k 7 (k + 4 + 2 + 1) (omega arith) in
+    omega (arith, e4, e5, e6, e7)
+
+-- the instruction whose bytes begin at k
+pub row-at : (s : List ℕ) (k : ℕ) {o a b c : ℕ} → o ≡ byte s k → a ≡ byte s (k + 1) → b ≡ byte s (k + 2)
+    → c ≡ quad s (k + 4) → instrBy o a b c ≡ readInstr (drop k s)
+row-at s k eo ea eb ec =
+    same-four instrBy (eo ∙ shifted s k 0 k (omega arith)) (ea ∙ shifted s k 1 (k + 1) refl)
+    (eb ∙ shifted s k 2 (k + 2) refl) (ec ∙ quad-at s k)
+
+-- a line of operands of 32 bits
+pub line-few : (lane p o a b c : ℕ) → lane < 2 ^ 32 → p < 2 ^ 32 → a < 2 ^ 32 → b < 2 ^ 32 → c < 2 ^ 32
+    → length (lineOf lane p (instrBy o a b c)) ≤ 51
+unfolding lineOf
+line-few lane p o a b c hl hp ha hb hc =
+    let t : List ℕ = instrText (instrBy o a b c) in
+    let whole : length (lineOf lane p (instrBy o a b c)) ≡ length (pair lane p) + suc (length t) + 1 =
+    length-append (pair lane p ++ 32 ∷ t) (10 ∷ [])
+    ∙ ap (λ n. n + 1) (length-append (pair lane p) (32 ∷ t)) in
+    omega (arith, pair-few lane p hl hp, instr-few o a b c ha hb hc)
+
+pub first-same : {t u l m v w k j : ℕ} → t ≡ u → l ≡ m → v ≡ w → k ≡ j → firstLine t l v k ≡ firstLine u m w j
+first-same e1 e2 e3 e4 = cc

@@ -1,0 +1,49 @@
+-- Laws of bytes laid into a buffer one after the other.
+use Prim.Native.Nat.{ℕ, suc, _+_, _≤_, _<_}
+use mathlib.Core.Path.{_≡_, refl, sym, ap, ap₂, _∙_}
+use mathlib.Core.List.{List, [], _∷_, _++_}
+use native.Mathlib.Omega.{arith}
+use lib.ListN.{length, getD, take, drop, set, length-append}
+use lib.Seq.{sets, sets-eq, length-sets, take-suc}
+use Rattle.listing.specs.Put.{Puts}
+
+pub sets-on : (l : List ℕ) (i : ℕ) (x y : List ℕ) → sets (sets l i x) (i + length x) y ≡ sets l i (x ++ y)
+sets-on l i [] y = let e : i + 0 ≡ i = omega arith in ap (λ n. sets l n y) e
+sets-on l i (a ∷ x) y =
+    let e : i + suc (length x) ≡ suc i + length x = omega arith in
+    ap (λ n. sets (sets (set l i a) (suc i) x) n y) e ∙ sets-on (set l i a) (suc i) x y
+
+-- first x, and behind it y
+pub puts-on : {l m n x y : List ℕ} {i j k : ℕ} → Puts l i x m j → Puts m j y n k → Puts l i (x ++ y) n k
+puts-on {l} {m} {n} {x} {y} {i} {j} {k} p q = record {
+  bytes = q .bytes ∙ ap₂ (λ a b. sets a b y) (p .bytes) (p .behind) ∙ sets-on l i x y;
+  behind = omega (arith, p .behind, q .behind, length-append x y);
+}
+
+pub puts-none : {l : List ℕ} {i : ℕ} → Puts l i [] l i
+puts-none {l} {i} = record { bytes = refl; behind = omega arith }
+
+-- a text by another name
+pub puts-as : {l m x y : List ℕ} {i j : ℕ} → x ≡ y → Puts l i x m j → Puts l i y m j
+puts-as {l} {m} {x} {y} {i} {j} e p =
+    record { bytes = p .bytes ∙ ap (sets l i) e; behind = p .behind ∙ ap (λ z. i + length z) e }
+
+pub puts-end : {l m x : List ℕ} {i j k : ℕ} → Puts l i x m j → j ≡ k → Puts l i x m k
+puts-end p e = record { bytes = p .bytes; behind = sym e ∙ p .behind }
+
+pub puts-length : {l m x : List ℕ} {i j : ℕ} → Puts l i x m j → length m ≡ length l
+puts-length {l} {m} {x} {i} {j} p = ap length (p .bytes) ∙ length-sets l i x
+
+-- a text that fits, laid from the front on
+pub puts-front : {l m x : List ℕ} {j : ℕ} → length x ≤ length l → Puts l 0 x m j → m ≡ x ++ drop (length x) l
+puts-front {l} {m} {x} {j} h p =
+    let e : 0 + length x ≡ length x = omega arith in
+    p .bytes ∙ sets-eq x l 0 (omega arith) ∙ ap (λ n. x ++ drop n l) e
+
+-- one byte more of a text
+pub puts-next : (t : List ℕ) (i j : ℕ) {l m n : List ℕ} {k b : ℕ} → Puts l i (take j t) m (i + j) → j < length t
+    → b ≡ getD t j 0 → Puts m (i + j) (b ∷ []) n k → Puts l i (take (j + 1) t) n (i + (j + 1))
+puts-next t i j {l} {m} {n} {k} {b} p h e q =
+    let one : j + 1 ≡ suc j = omega arith in
+    let next : take j t ++ b ∷ [] ≡ take (j + 1) t = rw (one, take-suc t j 0 h, e) in
+    puts-end (puts-as next (puts-on p q)) (omega (arith, q .behind))

@@ -1,0 +1,25 @@
+-- The text of the bytes of a lawful kernel's level 2 sheet, with the kernel's mask, is the kernel's listing: theorem
+-- `lawful-text`. So it is of every accepted kernel file: `accepted-text`.
+use Prim.Native.Nat.{ℕ}
+use mathlib.Core.Path.{_≡_, ap}
+use mathlib.Core.List.{List, _++_}
+use lib.ListN.{length}
+use Rattle.kernel.specs.Accepted.{Program}
+use Rattle.kernel.specs.Lawful.{Lawful}
+use Rattle.verdict.specs.Verdict.{accepted, verdict}
+use Rattle.verdict.proofs.Lawful.{accepted-lawful}
+use Rattle.sheet.specs.Levels.{level2}
+use Rattle.sheet.specs.Bytes.{sheetBytes}
+use Rattle.sheet.proofs.ReadBack.{bytes-back}
+use Rattle.listing.specs.Line.{firstLine}
+use Rattle.listing.specs.Listing.{ones, sheetLines, listing, sheetText}
+
+pub lawful-text : (k : Program) → Lawful k → sheetText (sheetBytes level2 k) (k .mask) ≡ listing k
+unfolding sheetText sheetBytes listing
+lawful-text k w =
+    ap (λ lanes. firstLine (length (k .lanes)) (k .locations) (ones (k .mask)) (k .locks) ++ sheetLines 0 lanes)
+    (bytes-back level2 k w)
+
+pub accepted-text : (s : List ℕ) (k : Program) → verdict s ≡ accepted k
+    → sheetText (sheetBytes level2 k) (k .mask) ≡ listing k
+accepted-text s k e = lawful-text k (accepted-lawful s k e)

@@ -1,0 +1,11 @@
+-- Bytes laid into a buffer from a position on. What does not fit is dropped, and the position counts on all the same.
+use Prim.Native.Nat.{ℕ, _+_}
+use mathlib.Core.Path.{_≡_}
+use mathlib.Core.List.{List}
+use lib.ListN.{length}
+use lib.Seq.{sets}
+
+-- `after` is `before` with x from `at` on, and `end` is the position behind x
+pub record Puts (before : List ℕ) (at : ℕ) (x : List ℕ) (after : List ℕ) (end : ℕ) : Type 0 where
+  pub bytes : after ≡ sets before at x
+  pub behind : end ≡ at + length x

@@ -1,0 +1,9 @@
+// The text of a level 2 sheet, as bytes.
+mod line;
+mod put;
+mod read;
+mod whole;
+
+pub use whole::Listed;
+pub use whole::list_refusal;
+pub use whole::list_sheet;

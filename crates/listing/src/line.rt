@@ -1,0 +1,85 @@
+// One line of a listing, laid into a buffer.
+use super::put::put;
+use super::put::put_decimal;
+use super::put::put_text;
+use super::read::byte_at;
+use super::read::quad_at;
+ghost use Prim.Native.Nat.{_+_, _≤_, _^_};
+ghost use mathlib.Core.List.{_++_};
+ghost use lib.ListN.{length, drop};
+ghost use Rattle.sheet.specs.Read.{instrBy, readInstr};
+ghost use Rattle.listing.specs.Decimal.{decimal};
+ghost use Rattle.listing.specs.Put.{Puts};
+ghost use Rattle.listing.specs.Line.{pair, instrText, lineOf};
+
+pub(crate) fn put_pair(out: &mut [u8], at: usize, a: u32, b: u32) -> usize
+    requires { ⌜ at + 21 ≤ 2 ^ 62 ⌝ }
+    ensures { λ r. ⌜ Puts (now (out .entry)) at (pair a b) (now (out .exit)) r ⌝ }
+{
+    let i = put_decimal(out, at, a);
+    let j = put(out, i, b' ');
+    put_decimal(out, j, b)
+}
+
+// A name and two operands.
+fn put_two(out: &mut [u8], at: usize, name: &[u8], a: u32, b: u32) -> usize
+    requires { ⌜ at + length (now name) + 21 ≤ 2 ^ 62 ⌝ }
+    ensures { λ r. ⌜ Puts (now (out .entry)) at (now (name .entry) ++ pair a b) (now (out .exit)) r ⌝ }
+{
+    let i = put_text(out, at, name);
+    put_pair(out, i, a, b)
+}
+
+// A name and one number.
+pub(crate) fn put_one(out: &mut [u8], at: usize, name: &[u8], b: u32) -> usize
+    requires { ⌜ at + length (now name) + 10 ≤ 2 ^ 62 ⌝ }
+    ensures { λ r. ⌜ (r ≤ at + length (now (name .entry)) + 10)
+        × Puts (now (out .entry)) at (now (name .entry) ++ decimal b) (now (out .exit)) r ⌝ }
+{
+    let i = put_text(out, at, name);
+    put_decimal(out, i, b)
+}
+
+// The instruction of a code, with its fields.
+pub(crate) fn put_instr(out: &mut [u8], at: usize, o: u32, a: u32, b: u32, c: u32) -> usize
+    requires { ⌜ at + 28 ≤ 2 ^ 62 ⌝ }
+    ensures { λ r. ⌜ Puts (now (out .entry)) at (instrText (instrBy o a b c)) (now (out .exit)) r ⌝ }
+{
+    match o {
+        1 => return put_two(out, at, b"SET ", a, c),
+        2 => return put_two(out, at, b"ADD ", a, b),
+        3 => return put_two(out, at, b"LOAD ", a, b),
+        4 => return put_two(out, at, b"STORE ", a, b),
+        5 => return put_one(out, at, b"LOCK ", b),
+        6 => return put_one(out, at, b"UNLOCK ", b),
+        7 => return put_two(out, at, b"SKIP ", a, c),
+        11 => return put_text(out, at, b"LL"),
+        12 => return put_text(out, at, b"LS"),
+        13 => return put_text(out, at, b"SS"),
+        _ => return put_text(out, at, b"MFENCE"),
+    }
+}
+
+// The line of the instruction whose bytes begin at `from`: at most 51 bytes.
+pub(crate) fn put_line(
+    out: &mut [u8],
+    at: usize,
+    lane: u32,
+    position: u32,
+    sheet: &[u8],
+    from: usize,
+) -> usize
+    requires { ⌜ (at + 51 ≤ 2 ^ 62) × (from + 8 ≤ 2 ^ 62) ⌝ }
+    ensures { λ r. ⌜ (r ≤ at + 51)
+        × Puts (now (out .entry)) at (lineOf lane position (readInstr (drop from (now (sheet .entry)))))
+        (now (out .exit)) r ⌝ }
+{
+    let o = byte_at(sheet, from);
+    let a = byte_at(sheet, from + 1);
+    let b = byte_at(sheet, from + 2);
+    let c = quad_at(sheet, from + 4);
+    let i = put_pair(out, at, lane, position);
+    let j = put(out, i, b' ');
+    let k = put_instr(out, j, o, a, b, c);
+    put(out, k, b'\n')
+}

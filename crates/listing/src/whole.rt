@@ -1,0 +1,125 @@
+// The whole listing of a level 2 sheet, from the sheet's bytes and the kernel's mask.
+use super::line::put_line;
+use super::line::put_one;
+use super::put::put;
+use super::read::byte_at;
+use super::read::word_at;
+ghost use mathlib.Core.Path.{_≡_};
+ghost use Prim.Native.Nat.{_+_, _*_, _≤_, _<_, _^_};
+ghost use lib.ListN.{length, drop};
+ghost use Rattle.kernel.specs.Fields.{byte};
+ghost use Rattle.sheet.specs.Read.{readRows, readSheet, counts};
+ghost use Rattle.listing.specs.Put.{Puts};
+ghost use Rattle.listing.specs.Listing.{ones, laneLines, sheetLines, sheetText, listInto};
+ghost use Rattle.listing.specs.Line.{firstLine, refusalLine};
+
+// The lines of a lane of `count` instructions, whose bytes begin at `from`.
+fn put_lane(out: &mut [u8], start: usize, lane: u32, count: u32, sheet: &[u8], from: usize) -> usize
+    requires { ⌜ (start + 51 * count ≤ 2 ^ 62) × (from + 8 * count ≤ 2 ^ 62) ⌝ }
+    ensures { λ r. ⌜ (r ≤ start + 51 * count)
+        × Puts (now (out .entry)) start (laneLines lane 0 (readRows count (drop from (now (sheet .entry)))))
+        (now (out .exit)) r ⌝ }
+{
+    let mut at = start;
+    let mut row = from;
+    let mut p: u32 = 0;
+    while p < count {
+        at = put_line(out, at, lane, p, sheet, row);
+        row += 8;
+        p += 1;
+    }
+    at
+}
+
+// How many lanes the header counts: at most four.
+fn lanes_of(sheet: &[u8]) -> u32
+    ensures { λ r. ⌜ (r ≡ length (counts (now (sheet .entry)))) × (r ≤ 4) ⌝ }
+{
+    let t = byte_at(sheet, 0);
+    if t < 4 { t } else { 4 }
+}
+
+// The lines of every lane.
+fn put_lanes(out: &mut [u8], start: usize, sheet: &[u8]) -> usize
+    requires { ⌜ start ≤ 2 ^ 32 ⌝ }
+    ensures { λ r.
+        ⌜ Puts (now (out .entry)) start (sheetLines 0 (readSheet (now (sheet .entry)))) (now (out .exit)) r ⌝ }
+    ensures { λ r. ⌜ r ≤ start + 2 ^ 24 ⌝ }
+{
+    let lanes = lanes_of(sheet);
+    let mut at = start;
+    let mut from: usize = 16;
+    let mut t: u32 = 0;
+    while t < lanes {
+        let count = word_at(sheet, 8 + 2 * (t as usize));
+        at = put_lane(out, at, t, count, sheet, from);
+        from += 8 * (count as usize);
+        t += 1;
+    }
+    at
+}
+
+// The first line. The volatile locations are the ones of the kernel's mask.
+fn put_first(out: &mut [u8], sheet: &[u8], mask: u16) -> usize
+    ensures { λ r. ⌜ (r ≤ 75)
+        × Puts (now (out .entry)) 0
+        (firstLine (byte (now (sheet .entry)) 0) (byte (now (sheet .entry)) 1) (ones mask)
+        (byte (now (sheet .entry)) 2))
+        (now (out .exit)) r ⌝ }
+{
+    let i = put_one(out, 0, b"lanes ", byte_at(sheet, 0));
+    let j = put_one(out, i, b" locations ", byte_at(sheet, 1));
+    let k = put_one(out, j, b" volatile ", u16::count_ones(mask));
+    let m = put_one(out, k, b" locks ", byte_at(sheet, 2));
+    put(out, m, b'\n')
+}
+
+// The whole text, as far as the buffer reaches.
+fn put_sheet(out: &mut [u8], sheet: &[u8], mask: u16) -> usize
+    ensures { λ r. ⌜ Puts (now (out .entry)) 0 (sheetText (now (sheet .entry)) mask) (now (out .exit)) r ⌝ }
+{
+    let i = put_first(out, sheet, mask);
+    put_lanes(out, i, sheet)
+}
+
+// How a listing went: the bytes written, or the buffer is too short and as it was.
+pub enum Listed {
+    Wrote(usize),
+    Short,
+}
+
+// The listing of a level 2 sheet into a lent buffer. It is measured first, by laying it into a buffer that it does not
+// fit.
+pub fn list_sheet(sheet: &[u8], mask: u16, out: &mut [u8]) -> Listed
+    ensures { λ r. ⌜ (r, now (out .exit)) ≡ listInto (sheetText (now (sheet .entry)) mask) (now (out .entry)) ⌝ }
+{
+    let mut none = [0u8; 1];
+    let size = put_sheet(&mut none, sheet, mask);
+    if out.len() < size {
+        return Listed::Short;
+    }
+    let end = put_sheet(out, sheet, mask);
+    Listed::Wrote(end)
+}
+
+// The line of a refusal, as far as the buffer reaches.
+fn put_refusal(out: &mut [u8], number: u32, rec: u32) -> usize
+    ensures { λ r. ⌜ Puts (now (out .entry)) 0 (refusalLine number rec) (now (out .exit)) r ⌝ }
+{
+    let i = put_one(out, 0, b"refused ", number);
+    let j = put_one(out, i, b" record ", rec);
+    put(out, j, b'\n')
+}
+
+// The line of a refusal into a lent buffer.
+pub fn list_refusal(number: u32, rec: u32, out: &mut [u8]) -> Listed
+    ensures { λ r. ⌜ (r, now (out .exit)) ≡ listInto (refusalLine number rec) (now (out .entry)) ⌝ }
+{
+    let mut none = [0u8; 1];
+    let size = put_refusal(&mut none, number, rec);
+    if out.len() < size {
+        return Listed::Short;
+    }
+    let end = put_refusal(out, number, rec);
+    Listed::Wrote(end)
+}

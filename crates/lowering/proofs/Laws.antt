@@ -1,0 +1,9 @@
+-- Laws by subject.
+pub mod Put
+pub mod Starts
+pub mod Lane
+pub mod Plan
+pub mod Lanes
+pub mod Whole
+pub mod Level1
+pub mod Lower

@@ -1,0 +1,200 @@
+-- Laws of writing a lane's operations one after the other.
+use Prim.Native.Nat.{ℕ, zero, suc, _+_, _*_, _≤_, _<_}
+use mathlib.Core.Path.{_≡_, refl, sym, ap, _∙_}
+use mathlib.Core.List.{List, [], _∷_, _++_, map, append-assoc, append-nil}
+use mathlib.Core.Option.{some}
+use native.Mathlib.Omega.{arith}
+use native.Mathlib.Decide.{decLe}
+use lib.ListN.{length, getD, getElem?, take, drop, length-append, length-map}
+use lib.Seq.{take-suc, take-all}
+use Rattle.kernel.specs.declared.accepted.Op.{Op}
+use Rattle.kernel.specs.declared.accepted.Op.the-variants.{Set, Add, Load, Store, Lock, Unlock, Skip}
+use Rattle.kernel.specs.Stored.{noOp}
+use Rattle.kernel.proofs.accepted.Op as T
+use types.Run.{OneOf, miss}
+use denote.Enum.Declared.{tagOf}
+use Rattle.kernel.proofs.Laws.Lists.{at-some}
+use Rattle.placement.specs.declared.cookbook.Barrier.{Barrier}
+use Rattle.kernel.specs.Accepted.{jump}
+use Rattle.placement.specs.Sheet.{start as startBy}
+use Rattle.sheet.specs.Layout.{Instr, op, barrier, Placed, start, aim, cells, sheet}
+use Rattle.sheet.specs.Levels.{Level, level1}
+use Rattle.sheet.specs.Bytes.{instrBytes, laneBytes}
+use Rattle.sheet.specs.Items.{TargetsWithin}
+use Rattle.lowering.specs.Put.{placedBy, StartsTo, stepBytes, over, putAt}
+use Rattle.sheet.proofs.Laws.Rows.{lane-bytes}
+use Rattle.lowering.proofs.Laws.Put.{put-on}
+use Rattle.sheet.proofs.LoweredLanes.{Stand, start-by}
+
+pub bytes-append : (l : Level) (xs ys : List Instr) → laneBytes l (xs ++ ys) ≡ laneBytes l xs ++ laneBytes l ys
+bytes-append l [] ys = refl
+bytes-append l (x ∷ xs) ys =
+    ap (λ z. instrBytes l x ++ z) (bytes-append l xs ys)
+    ∙ sym (append-assoc (instrBytes l x) (laneBytes l xs) (laneBytes l ys))
+
+cells-append : (r : ℕ → ℕ) (xs ys : List Placed) → cells r (xs ++ ys) ≡ cells r xs ++ cells r ys
+cells-append r [] ys = refl
+cells-append r (x ∷ xs) ys =
+    ap (λ z. map barrier (x .before) ++ op (aim r (x .oper)) ∷ z) (cells-append r xs ys)
+    ∙ sym (append-assoc (map barrier (x .before)) (op (aim r (x .oper)) ∷ cells r xs) (cells r ys))
+
+-- an operation is aimed alike by two functions that agree at its target
+pub aim-agrees : (f g : ℕ → ℕ) (o : Op) → ((t : ℕ) → jump o ≡ some t → f t ≡ g t) → aim f o ≡ aim g o
+aim-agrees f g (Set a c) h = refl
+aim-agrees f g (Add a b) h = refl
+aim-agrees f g (Load a x) h = refl
+aim-agrees f g (Store a x) h = refl
+aim-agrees f g (Lock l) h = refl
+aim-agrees f g (Unlock l) h = refl
+aim-agrees f g (Skip a t) h = ap (Skip a) (h t refl)
+
+-- what a `match` tells its last arm: the operation is no SKIP
+pub aim-other : (f g : ℕ → ℕ) (o : Op) → OneOf (0 ∷ 1 ∷ 2 ∷ 3 ∷ 4 ∷ 5 ∷ []) (tagOf T.the-type o) → aim f o ≡ aim g o
+aim-other f g (Set a c) k = refl
+aim-other f g (Add a b) k = refl
+aim-other f g (Load a x) k = refl
+aim-other f g (Store a x) k = refl
+aim-other f g (Lock l) k = refl
+aim-other f g (Unlock l) k = refl
+aim-other f g (Skip a t) k = absurd (miss (0 ∷ 1 ∷ 2 ∷ 3 ∷ 4 ∷ 5 ∷ []) 6 tt k)
+
+module _ (pre : ℕ → List Barrier) where
+  pub placed-length : (p : ℕ) (ops : List Op) → length (placedBy pre p ops) ≡ length ops
+  placed-length p [] = refl
+  placed-length p (o ∷ ops) = ap suc (placed-length (suc p) ops)
+
+  stands-so : (p : ℕ) (ops : List Op) → Stand pre p (placedBy pre p ops)
+  stands-so p [] = tt
+  stands-so p (o ∷ ops) = (refl, stands-so (suc p) ops)
+
+  abbrev nothing : Placed
+  nothing = record { before = []; oper = noOp }
+
+  abbrev placedOp : ℕ → Op → Placed
+  placedOp p o = record { before = pre p; oper = o }
+
+  placed-at : (p : ℕ) (ops : List Op) (i : ℕ) → i < length ops
+      → getD (placedBy pre p ops) i nothing ≡ placedOp (p + i) (getD ops i noOp)
+  placed-at p [] i h = absurd (omega arith)
+  placed-at p (o ∷ ops) zero h =
+      let here : p + 0 ≡ p = omega arith in
+      rw here refl
+  placed-at p (o ∷ ops) (suc i) h =
+      let there : p + suc i ≡ suc p + i = omega arith in
+      rw there (placed-at (suc p) ops i (omega arith))
+
+  -- where each operation begins
+  pub starts-are : (ops : List Op) (i : ℕ) → i ≤ length ops → start (placedBy pre 0 ops) i ≡ startBy pre i
+  starts-are ops i h =
+      let from : startBy pre 0 + start (placedBy pre 0 ops) i ≡ startBy pre (0 + i) =
+      start-by pre 0 i (placedBy pre 0 ops) (stands-so 0 ops) (omega (arith, placed-length 0 ops)) in
+      let same : 0 + i ≡ i = omega arith in
+      omega (arith, rw same at from)
+
+  pub starts-grow : (p n : ℕ) → p ≤ n → startBy pre p ≤ startBy pre n
+  starts-grow p zero h =
+      let z : p ≡ 0 = omega arith in
+      rw z (omega arith)
+  starts-grow p (suc n) h = go (decLe p n) (starts-grow p n)
+    where
+      go : Dec (p ≤ n) → (p ≤ n → startBy pre p ≤ startBy pre n) → startBy pre p ≤ startBy pre n + suc (length (pre n))
+      go (yes l) ih = omega (arith, ih l)
+      go (no l) ih =
+          let e : p ≡ suc n = omega arith in
+          rw e (omega arith)
+
+  module _ (ops : List Op) where
+    abbrev aims : ℕ → ℕ
+    aims = start (placedBy pre 0 ops)
+
+    -- the instructions of the first p operations, and their bytes
+    abbrev pub firstCells : ℕ → List Instr
+    firstCells p = cells aims (take p (placedBy pre 0 ops))
+
+    abbrev pub firstBytes : ℕ → List ℕ
+    firstBytes p = laneBytes level1 (firstCells p)
+
+    cells-suc : (p : ℕ) → p < length ops
+        → firstCells (suc p) ≡ firstCells p ++ (map barrier (pre p) ++ (op (aim aims (getD ops p noOp)) ∷ []))
+    cells-suc p h =
+        ap (cells aims) (take-suc (placedBy pre 0 ops) p nothing (omega (arith, placed-length 0 ops)))
+        ∙ cells-append aims (take p (placedBy pre 0 ops)) (getD (placedBy pre 0 ops) p nothing ∷ [])
+        ∙ ap (λ x. firstCells p ++ (map barrier (x .before) ++ (op (aim aims (x .oper)) ∷ [])))
+        (placed-at 0 ops p h ∙ shifted)
+      where
+        shifted : placedOp (0 + p) (getD ops p noOp) ≡ placedOp p (getD ops p noOp)
+        shifted =
+            let z : 0 + p ≡ p = omega arith in
+            ap (λ n. placedOp n (getD ops p noOp)) z
+
+    pub first-count : (p : ℕ) → p ≤ length ops → length (firstCells p) ≡ startBy pre p
+    first-count zero h = refl
+    first-count (suc p) h =
+        omega (
+          arith,
+          ap length (cells-suc p (omega arith)),
+          first-count p (omega arith),
+          length-append (firstCells p) (map barrier (pre p) ++ (op (aim aims (getD ops p noOp)) ∷ [])),
+          length-append (map barrier (pre p)) (op (aim aims (getD ops p noOp)) ∷ []),
+          length-map (pre p) barrier,
+        )
+
+    pub first-length : (p : ℕ) → p ≤ length ops → length (firstBytes p) ≡ 8 * startBy pre p
+    first-length p h = lane-bytes level1 (firstCells p) ∙ ap (λ n. 8 * n) (first-count p h)
+
+    -- one operation more, whose target is v where it is a SKIP
+    pub first-suc : (p v : ℕ) → p < length ops → aim (λ t. v) (getD ops p noOp) ≡ aim aims (getD ops p noOp)
+        → firstBytes (suc p) ≡ firstBytes p ++ stepBytes (pre p) (getD ops p noOp) v
+    first-suc p v h e =
+        ap (laneBytes level1) (cells-suc p h)
+        ∙ bytes-append level1 (firstCells p) (map barrier (pre p) ++ (op (aim aims (getD ops p noOp)) ∷ []))
+        ∙ ap (λ o. firstBytes p ++ laneBytes level1 (map barrier (pre p) ++ (op o ∷ []))) (sym e)
+
+    -- the target that the code reads from its array of positions
+    pub target-aims : (n : ℕ) (positions : List ℕ) (p v : ℕ) → n ≡ length ops → StartsTo pre n positions
+        → TargetsWithin n ops → p < length ops
+        → aim (λ t. v) (getD ops p noOp) ≡ aim (λ t. getD positions t 0) (getD ops p noOp)
+        → aim (λ t. v) (getD ops p noOp) ≡ aim aims (getD ops p noOp)
+    target-aims n positions p v e s within h same =
+        same
+        ∙ aim-agrees (λ t. getD positions t 0) aims (getD ops p noOp)
+        (λ t j. let l = within p (getD ops p noOp) t (at-some ops p noOp h) j in
+        s .each t l ∙ sym (starts-are ops t (omega arith)))
+
+    module _ (p v : ℕ) (h : p < length ops) (e : aim (λ t. v) (getD ops p noOp) ≡ aim aims (getD ops p noOp)) where
+      -- there is room for it, and what is written then
+      pub lane-room : length (firstBytes p) + length (stepBytes (pre p) (getD ops p noOp) v) ≤ 8 * startBy pre
+          (length ops)
+      lane-room =
+          omega (
+            arith,
+            ap length (first-suc p v h e),
+            length-append (firstBytes p) (stepBytes (pre p) (getD ops p noOp) v),
+            first-length (suc p) (omega arith),
+            starts-grow (suc p) (length ops) (omega arith),
+          )
+
+      pub lane-put : (buffer out : List ℕ) (i : ℕ) {out′ : List ℕ} → out ≡ over (firstBytes p) buffer
+          → i ≡ length (firstBytes p)
+          → out′ ≡ putAt out i (stepBytes (pre p) (getD ops p noOp) v) → out′ ≡ over (firstBytes (p + 1)) buffer
+      lane-put buffer out i are at-is put =
+          let one : suc p ≡ p + 1 = omega arith in
+          put ∙ ap (λ l. putAt l i (stepBytes (pre p) (getD ops p noOp) v)) are
+          ∙ put-on (firstBytes p) (stepBytes (pre p) (getD ops p noOp) v) buffer i (sym at-is)
+          ∙ ap (λ z. over z buffer) (sym (first-suc p v h e)) ∙ ap (λ n. over (firstBytes n) buffer) one
+
+      pub lane-behind : (i : ℕ) {i′ : ℕ} → i ≡ length (firstBytes p)
+          → i′ ≡ i + length (stepBytes (pre p) (getD ops p noOp) v) → i′ ≡ length (firstBytes (p + 1))
+      lane-behind i at-is behind =
+          let one : suc p ≡ p + 1 = omega arith in
+          omega (
+            arith,
+            ap length (first-suc p v h e),
+            ap (λ n. length (firstBytes n)) one,
+            length-append (firstBytes p) (stepBytes (pre p) (getD ops p noOp) v),
+          )
+
+    -- all of them
+    pub first-all : (p : ℕ) → length ops ≤ p → firstBytes p ≡ laneBytes level1 (sheet (placedBy pre 0 ops))
+    first-all p h =
+        ap (λ l. laneBytes level1 (cells aims l)) (take-all p (placedBy pre 0 ops) (omega (arith, placed-length 0 ops)))

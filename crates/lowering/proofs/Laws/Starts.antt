@@ -1,0 +1,79 @@
+-- Laws of the positions at which the operations of a lane begin, as the code computes them.
+use Prim.Native.Nat.{ℕ, zero, suc, _+_, _*_, _≤_, _<_}
+use mathlib.Core.Path.{_≡_, refl, sym, ap, _∙_}
+use mathlib.Core.Bool.{Bool, true, false, cond}
+use mathlib.Core.List.{List, []}
+use native.Mathlib.Omega.{arith}
+use native.Mathlib.Decide.{decLe}
+use lib.ListN.{length, getD, set, length-set, length-map, replicate, List·getD-eq-default}
+use lib.Seq.{getD-set-same, getD-set-other}
+use mir.Val.{Val}
+use denote.Laws.{Is}
+use Rattle.placement.specs.declared.cookbook.Barrier.{Barrier}
+use Rattle.placement.specs.declared.cookbook.Barrier.the-variants.{LL, LS, SS, SL}
+use Rattle.placement.specs.declared.place.Placement.{Placement}
+use Rattle.placement.specs.Place.{keep, chosen}
+use Rattle.placement.specs.Sheet.{start as startBy}
+use Rattle.placement.proofs.place.Placement as T
+use Rattle.lowering.specs.declared.rows.Marks.{Marks}
+use Rattle.lowering.specs.Put.{marked, standingMarks, standing, StartsTo}
+use Rattle.sheet.proofs.Laws.Cells.{chosen-length}
+
+-- behind the arrays of a placement nothing stands
+pub nothing-behind : (r : Placement) (vs : List Val) → Is T.the-row r vs → (p : ℕ) → 64 ≤ p
+    → record { ll = false; ls = false; ss = false; sl = false } ≡ standingMarks r p
+nothing-behind r vs is p h =
+    let ll-room = sym (length-map (r .ll) _) ∙ is .1 .1 .0 .1 .0 .1 in
+    let ls-room = sym (length-map (r .ls) _) ∙ is .1 .1 .1 .0 .1 .0 .1 in
+    let ss-room = sym (length-map (r .ss) _) ∙ is .1 .1 .1 .1 .0 .1 .0 .1 in
+    let sl-room = sym (length-map (r .sl) _) ∙ is .1 .1 .1 .1 .1 .0 .1 .0 .1 in
+    λ i. record {
+      ll = sym (List·getD-eq-default (r .ll) false {n = p} (omega (arith, ll-room))) i;
+      ls = sym (List·getD-eq-default (r .ls) false {n = p} (omega (arith, ls-room))) i;
+      ss = sym (List·getD-eq-default (r .ss) false {n = p} (omega (arith, ss-room))) i;
+      sl = sym (List·getD-eq-default (r .sl) false {n = p} (omega (arith, sl-room))) i;
+    }
+
+keep-count : (t : Bool) (b : Barrier) (bs : List Barrier) → length (keep t b bs) ≡ cond t 1 0 + length bs
+keep-count true b bs = omega arith
+keep-count false b bs = omega arith
+
+pub marks-count : (m : Marks)
+    → length (chosen (marked m)) ≡ cond (m .ll) 1 0 + (cond (m .ls) 1 0 + (cond (m .ss) 1 0 + cond (m .sl) 1 0))
+marks-count m =
+    omega (
+      arith,
+      keep-count (m .ll) LL (keep (m .ls) LS (keep (m .ss) SS (keep (m .sl) SL []))),
+      keep-count (m .ls) LS (keep (m .ss) SS (keep (m .sl) SL [])),
+      keep-count (m .ss) SS (keep (m .sl) SL []),
+      keep-count (m .sl) SL [],
+    )
+
+-- each operation makes at most five instructions
+pub start-small : (r : Placement) (p : ℕ) → startBy (standing r) p ≤ 5 * p
+start-small r zero = omega arith
+start-small r (suc p) = omega (arith, start-small r p, chosen-length (marked (standingMarks r p)))
+
+pub starts-start : (pre : ℕ → List Barrier) → StartsTo pre 0 (replicate 65 0)
+starts-start pre = record { room = refl; each = first }
+  where
+    first : (p : ℕ) → p ≤ 0 → getD (replicate 65 0) p 0 ≡ startBy pre p
+    first zero h = refl
+    first (suc p) h = absurd (omega arith)
+
+-- the position of the next operation goes into place
+pub starts-on : (pre : ℕ → List Barrier) (p : ℕ) (at : List ℕ) {v : ℕ} → StartsTo pre p at → p < 64
+    → v ≡ getD at p 0 + suc (length (pre p)) → StartsTo pre (p + 1) (set at (p + 1) v)
+starts-on pre p at {v} s small e =
+    record { room = length-set at (p + 1) v ∙ s .room; each = λ x h. go x h (decLe x p) }
+  where
+    one : suc p ≡ p + 1
+    one = omega arith
+
+    go : (x : ℕ) → x ≤ p + 1 → Dec (x ≤ p) → getD (set at (p + 1) v) x 0 ≡ startBy pre x
+    go x h (yes l) = getD-set-other at (p + 1) x v 0 (λ q. omega arith) ∙ s .each x l
+    go x h (no l) =
+        let here : x ≡ p + 1 = omega arith in
+        rw here
+        (getD-set-same at (p + 1) v 0 (omega (arith, s .room)) ∙ e
+        ∙ ap (λ n. n + suc (length (pre p))) (s .each p (omega arith)) ∙ ap (startBy pre) one)

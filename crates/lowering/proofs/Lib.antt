@@ -1,0 +1,2 @@
+-- Laws of the code of lowering.
+pub mod Laws

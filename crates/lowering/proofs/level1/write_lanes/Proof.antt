@@ -1,0 +1,152 @@
+-- `lowering::level1::write_lanes` meets its contract. What is written is the bytes of the lanes passed.
+use Prim.Native.Nat.{_≤_, _<_, _-_, _+_, _*_}
+use lib.ListN.{length, getD, length-append}
+use mathlib.Core.List.{_++_}
+use mathlib.Core.Path.{_≡_, refl, sym, ap, _∙_}
+use native.Mathlib.Omega.{arith}
+use Rattle.kernel.specs.Stored.{pastLanes}
+use Rattle.lowering.specs.Put.{putAt}
+use Rattle.lowering.specs.Plan.{noPlan, plannedBytes, writtenLanes}
+use Rattle.lowering.proofs.Laws.Put.{put-none, put-put}
+use Rattle.lowering.proofs.Laws.Lanes.{part-back, part-length, written-suc}
+use Rattle.lowering.proofs.Laws.Lanes.{all-written, written-length, now-fits}
+use borrow.Author.Needs.{needs}
+use Rattle.lowering.proofs.level1.write_lanes.Statement.{statement}
+use Rattle.lowering.proofs.level1.write_lanes.Tie as tie
+
+abbrev Inv-loop : tie.InvT-loop
+Inv-loop out₀ lanes all at₀ t₀ out at t =
+    (t ≤ 4) × (at ≡ 16 + length (writtenLanes lanes all t)) × (out ≡ putAt out₀ 16 (writtenLanes lanes all t))
+
+abbrev μ-loop : tie.MeasureT-loop
+μ-loop out₀ lanes all at₀ t₀ out at t = 4 - t
+
+loop-holds : tie.Need-loop-holds Inv-loop μ-loop
+unfolding writtenLanes
+loop-holds c = (omega arith, refl, sym (put-none _ 16))
+
+mul-lane : tie.Need-mul-lane Inv-loop μ-loop
+mul-lane c = omega arith
+
+array-copy-out-lane : tie.Need-array-copy-out-lane Inv-loop μ-loop
+array-copy-out-lane c = omega arith
+
+mul-plan : tie.Need-mul-plan Inv-loop μ-loop
+mul-plan c = omega arith
+
+array-copy-out-plan : tie.Need-array-copy-out-plan Inv-loop μ-loop
+array-copy-out-plan c = omega arith
+
+sub-write-lane : tie.Need-sub-write-lane Inv-loop μ-loop
+sub-write-lane c =
+    let here = c .before .before .before .before .before in
+    let a = here .before .before .before .before in
+    let l = here .loop in
+    let fits =
+    now-fits (a .args .kernel) (a .args .plans) _ (a .good .1 .0) (a .pre .0) (a .args .out .now) (a .pre .1 .1) (l .t)
+    (l .at) (l .out) (omega arith) (l .inv .1) (l .inv .2) in
+    omega (arith, fits .1)
+
+part-write-lane-start : tie.Need-part-write-lane-start Inv-loop μ-loop
+part-write-lane-start c =
+    let here = c .before .before .before .before .before in
+    let a = here .before .before .before .before in
+    let l = here .loop in
+    let fits =
+    now-fits (a .args .kernel) (a .args .plans) _ (a .good .1 .0) (a .pre .0) (a .args .out .now) (a .pre .1 .1) (l .t)
+    (l .at) (l .out) (omega arith) (l .inv .1) (l .inv .2) in
+    omega (arith, fits .1)
+
+part-write-lane-end : tie.Need-part-write-lane-end Inv-loop μ-loop
+part-write-lane-end c = omega arith
+
+write-lane-requires : tie.Need-write-lane-requires Inv-loop μ-loop
+write-lane-requires c κs =
+    let here = c .before .before .before .before .before .before in
+    let a = here .before .before .before .before in
+    let l = here .loop in
+    let fits =
+    now-fits (a .args .kernel) (a .args .plans) _ (a .good .1 .0) (a .pre .0) (a .args .out .now) (a .pre .1 .1) (l .t)
+    (l .at) (l .out) (omega arith) (l .inv .1) (l .inv .2) in
+    let inside : l .at ≤ length (l .out) = omega (arith, fits .1) in (
+      a .pre .0 (l .t) (omega arith) .starts,
+      (a .pre .1 .0 (l .t) (omega arith), omega (arith, part-length (l .out) (l .at) inside, fits .1)),
+    )
+
+add-at : tie.Need-add-at Inv-loop μ-loop
+add-at c =
+    let here = c .before .before .before .before .before .before .before .before .before in
+    let a = here .before .before .before .before in
+    let l = here .loop in
+    let fits =
+    now-fits (a .args .kernel) (a .args .plans) _ (a .good .1 .0) (a .pre .0) (a .args .out .now) (a .pre .1 .1) (l .t)
+    (l .at) (l .out) (omega arith) (l .inv .1) (l .inv .2) in
+    omega (arith, c .before .before .write-lane .ensures .1, fits .0, fits .1, a .good)
+
+add-t : tie.Need-add-t Inv-loop μ-loop
+add-t c = omega arith
+
+loop-less : tie.Need-loop-less Inv-loop μ-loop
+loop-less c = omega arith
+
+loop-again : tie.Need-loop-again Inv-loop μ-loop
+loop-again c =
+    let here = c .before .before .before .before .before .before .before .before .before in
+    let a = here .before .before .before .before in
+    let l = here .loop in
+    let fits =
+    now-fits (a .args .kernel) (a .args .plans) _ (a .good .1 .0) (a .pre .0) (a .args .out .now) (a .pre .1 .1) (l .t)
+    (l .at) (l .out) (omega arith) (l .inv .1) (l .inv .2) in
+    let lanes = a .args .kernel .lanes in
+    let plans = a .args .plans .lanes in
+    let lane = plannedBytes (getD lanes (l .t) pastLanes) (getD plans (l .t) noPlan) in
+    let inside : l .at ≤ length (l .out) = omega (arith, fits .1) in
+    let w = c .before .before .write-lane .ensures in
+    let longer = ap length (written-suc lanes plans (l .t)) ∙ length-append (writtenLanes lanes plans (l .t)) lane in (
+      omega arith,
+      omega (arith, w .1, longer, l .inv .1),
+      part-back (l .out) lane _ (l .at) inside (w .0)
+          ∙ (λ j. putAt (l .inv .2 j) (l .inv .1 j) lane)
+          ∙ put-put (a .args .out .now) (writtenLanes lanes plans (l .t)) lane 16 (omega (arith, a .pre .1 .1))
+          ∙ ap (putAt (a .args .out .now) 16) (sym (written-suc lanes plans (l .t))),
+    )
+
+same-length : tie.Need-same-length Inv-loop μ-loop
+same-length c =
+    let a = c .before .before .before .before .before in
+    let l = c .before .loop in
+    ap length (l .inv .2)
+    ∙ written-length (a .args .kernel) (a .args .plans) _ (a .good .1 .0) (a .pre .0) (a .args .out .now) (a .pre .1 .1)
+    (l .t) (l .inv .0)
+
+returns : tie.Need-returns Inv-loop μ-loop
+returns c =
+    let a = c .before .before .before .before .before in
+    let l = c .before .loop in
+    let last : l .t ≡ 4 = omega arith in
+    l .inv .2
+    ∙ ap (λ n. putAt (a .args .out .now) 16 (writtenLanes (a .args .kernel .lanes) (a .args .plans .lanes) n)) last
+    ∙ ap (putAt (a .args .out .now) 16)
+    (all-written (a .args .kernel) (a .args .plans) _ (a .good .1 .0) (a .pre .0) (a .args .out .now) (a .pre .1 .1))
+
+pub write-lanes-spec : {M : Type 1} → statement M
+write-lanes-spec =
+    tie.close
+    (tie.spec
+    Inv-loop
+    μ-loop
+    loop-holds
+    mul-lane
+    array-copy-out-lane
+    mul-plan
+    array-copy-out-plan
+    sub-write-lane
+    part-write-lane-start
+    part-write-lane-end
+    write-lane-requires
+    add-at
+    add-t
+    loop-less
+    loop-again
+    same-length
+    returns)

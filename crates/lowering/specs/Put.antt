@@ -1,0 +1,68 @@
+-- Writing bytes into a buffer, and a lane's operations one after the other, as the code does it.
+use Prim.Native.Nat.{ℕ, suc, _+_, _≤_}
+use mathlib.Core.Path.{_≡_}
+use mathlib.Core.Bool.{Bool, false, cond}
+use mathlib.Core.List.{List, [], _∷_, _++_, map}
+use lib.ListN.{length, take, drop, getD}
+use Rattle.kernel.specs.declared.accepted.Op.{Op}
+use Rattle.kernel.specs.declared.accepted.Lane.{Lane}
+use Rattle.kernel.specs.Stored.{opsIn}
+use Rattle.placement.specs.declared.cookbook.Barrier.{Barrier}
+use Rattle.placement.specs.declared.cookbook.Barrier.the-variants.{LL, LS, SS, SL}
+use Rattle.placement.specs.declared.place.Placement.{Placement}
+use Rattle.placement.specs.Place.{chosen}
+use Rattle.placement.specs.Sheet.{start as startBy}
+use Rattle.lowering.specs.declared.rows.Marks.{Marks}
+use Rattle.sheet.specs.Layout.{Placed, op, barrier, aim, sheet}
+use Rattle.sheet.specs.Levels.{level1}
+use Rattle.sheet.specs.Bytes.{row, laneBytes}
+
+-- the buffer with these bytes from position i on
+abbrev pub putAt : List ℕ → ℕ → List ℕ → List ℕ
+putAt l i bytes = take i l ++ bytes ++ drop (i + length bytes) l
+
+-- what is written from the front, and behind it what was there
+abbrev pub over : List ℕ → List ℕ → List ℕ
+over bytes buffer = bytes ++ drop (length bytes) buffer
+
+-- the row of a barrier's code where the barrier stands
+abbrev pub rowIf : Bool → ℕ → List ℕ
+rowIf b code = cond b (row code 0 0 0) []
+
+-- which barriers stand before an operation
+abbrev pub marked : Marks → Barrier → Bool
+marked m LL = m .ll
+marked m LS = m .ls
+marked m SS = m .ss
+marked m SL = m .sl
+
+-- what a placement says of position p, and the barriers that stand there
+abbrev pub standingMarks : Placement → ℕ → Marks
+standingMarks r p =
+    record {
+      ll = getD (r .ll) p false;
+      ls = getD (r .ls) p false;
+      ss = getD (r .ss) p false;
+      sl = getD (r .sl) p false;
+    }
+
+abbrev pub standing : Placement → ℕ → List Barrier
+standing r p = chosen (marked (standingMarks r p))
+
+-- the array of the positions at which the operations up to the n-th begin
+pub record StartsTo (pre : ℕ → List Barrier) (n : ℕ) (at : List ℕ) : Type 0 where
+  pub room : length at ≡ 65
+  pub each : (p : ℕ) → p ≤ n → getD at p 0 ≡ startBy pre p
+
+-- the operations of a chain, the first of which stands at position p, with the barriers that pre puts before each
+abbrev pub placedBy : (ℕ → List Barrier) → ℕ → List Op → List Placed
+placedBy pre p [] = []
+placedBy pre p (o ∷ os) = record { before = pre p; oper = o } ∷ placedBy pre (suc p) os
+
+-- the bytes of an operation at level 1, with these barriers before it, and a SKIP aimed at t
+abbrev pub stepBytes : List Barrier → Op → ℕ → List ℕ
+stepBytes bs o t = laneBytes level1 (map barrier bs ++ (op (aim (λ x. t) o) ∷ []))
+
+-- the bytes of a lane at level 1, with its barriers where the placement says
+abbrev pub laneWith : Placement → Lane → List ℕ
+laneWith r lane = laneBytes level1 (sheet (placedBy (standing r) 0 (opsIn lane)))

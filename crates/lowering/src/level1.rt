@@ -1,0 +1,108 @@
+// A level 1 sheet from an accepted kernel.
+ghost use mathlib.Core.Path.{_≡_};
+ghost use Prim.Native.Nat.{ℕ, _+_, _<_, _≤_};
+ghost use lib.ListN.{length, getD};
+ghost use Rattle.kernel.specs.Accepted.{isVolatile};
+ghost use Rattle.kernel.specs.Stored.{pastLanes};
+ghost use Rattle.sheet.specs.Bytes.{word, writeInto};
+ghost use mathlib.Core.List.{[], _∷_, _++_};
+ghost use Rattle.lowering.specs.Put.{putAt};
+ghost use Rattle.lowering.specs.Plan.{AllPlanned, Aimed, lanesBytes};
+ghost use Rattle.lowering.specs.Whole.{Whole, sizeIn, sheet1};
+use crate::lane::write_lane;
+use crate::plan::Plans;
+use crate::plan::plans_of;
+use crate::plan::size_of;
+use kernel::accepted::Kernel;
+
+// The first half of the header: T, L, K, level, mask, two zero bytes.
+pub(crate) fn put_first(out: &mut [u8], t: u8, ls: u8, ks: u8, level: u8, mask: u16)
+    requires { ⌜ 8 ≤ length (now out) ⌝ }
+    ensures { λ r. ⌜ now (out .exit) ≡ putAt (now (out .entry)) 0 (t ∷ ls ∷ ks ∷ level ∷ word mask ++ 0 ∷ 0 ∷ []) ⌝ }
+{
+    out[0] = t;
+    out[1] = ls;
+    out[2] = ks;
+    out[3] = level;
+    out[4] = (mask % 256) as u8;
+    out[5] = (mask / 256 % 256) as u8;
+    out[6] = 0;
+    out[7] = 0;
+}
+
+// The second half: four instruction counts.
+pub(crate) fn put_counts(out: &mut [u8], a: usize, b: usize, c: usize, d: usize)
+    requires { ⌜ 16 ≤ length (now out) ⌝ }
+    ensures { λ r. ⌜ now (out .exit) ≡ putAt (now (out .entry)) 8 (word a ++ (word b ++ (word c ++ (word d ++ [])))) ⌝ }
+{
+    out[8] = (a % 256) as u8;
+    out[9] = (a / 256 % 256) as u8;
+    out[10] = (b % 256) as u8;
+    out[11] = (b / 256 % 256) as u8;
+    out[12] = (c % 256) as u8;
+    out[13] = (c / 256 % 256) as u8;
+    out[14] = (d % 256) as u8;
+    out[15] = (d / 256 % 256) as u8;
+}
+
+// Writes the four lanes behind the header.
+pub(crate) fn write_lanes(out: &mut [u8], kernel: Kernel, plans: Plans)
+    requires planned { ⌜ AllPlanned kernel plans ⌝ }
+    requires targets { ⌜ ((t : ℕ) → t < 4 → Aimed (getD (kernel .lanes) t pastLanes)) ⌝ }
+    requires room { ⌜ 16 + length (lanesBytes (isVolatile (kernel .mask)) (kernel .lanes)) ≤ length (now out) ⌝ }
+    ensures { λ r. ⌜
+        now (out .exit) ≡ putAt (now (out .entry)) 16 (lanesBytes (isVolatile (kernel .mask)) (kernel .lanes))
+        ⌝ }
+{
+    let lanes = kernel.lanes;
+    let all = plans.lanes;
+    let mut at = 16;
+    let mut t = 0;
+    while t < 4 {
+        let lane = lanes[t];
+        let plan = all[t];
+        let placement = plan.placement;
+        let starts = plan.starts;
+        at += write_lane(&mut out[at..], lane, placement, starts);
+        t += 1;
+    }
+}
+
+// How many instructions lane t makes.
+fn size_at(kernel: Kernel, plans: Plans, t: usize) -> usize
+    requires { ⌜ t < 4 ⌝ }
+    ensures { λ r. ⌜ r ≡ sizeIn kernel plans t ⌝ }
+{
+    let lanes = kernel.lanes;
+    let all = plans.lanes;
+    let lane = lanes[t];
+    size_of(lane.len, all[t])
+}
+
+// Writes the level 1 sheet of an accepted kernel if it fits, else nothing; the bytes that it takes.
+pub(crate) fn write_level1(out: &mut [u8], kernel: Kernel) -> usize
+    requires { ⌜ Whole kernel ⌝ }
+    ensures size { λ r. ⌜ r ≡ length (sheet1 kernel) ⌝ }
+    ensures wrote { λ r. ⌜ now (out .exit) ≡ writeInto (sheet1 kernel) (now (out .entry)) .1 ⌝ }
+{
+    let plans = plans_of(kernel);
+    let a = size_at(kernel, plans, 0);
+    let b = size_at(kernel, plans, 1);
+    let c = size_at(kernel, plans, 2);
+    let d = size_at(kernel, plans, 3);
+    let total = 16 + 8 * (a + (b + (c + d)));
+    if out.len() < total {
+        return total;
+    }
+    put_first(
+        out,
+        kernel.count as u8,
+        kernel.locations as u8,
+        kernel.locks as u8,
+        1,
+        kernel.mask,
+    );
+    put_counts(out, a, b, c, d);
+    write_lanes(out, kernel, plans);
+    total
+}

@@ -1,0 +1,7 @@
+// Lowering a kernel file into the output buffer.
+pub(crate) mod lane;
+pub(crate) mod level1;
+pub mod lower;
+pub(crate) mod plan;
+pub(crate) mod rows;
+pub(crate) mod starts;
