@@ -10,7 +10,7 @@ use Rattle.kernel.specs.Search.{lowest, firstOf}
 use Rattle.kernel.specs.Rules.{headerRule, headRule, badRecord, recordRule}
 use Rattle.kernel.specs.Rules.{limitA, limitB, limitConstant, limitTarget}
 use Rattle.kernel.specs.Linkage.{chain, walkOf, badLinkage, linkageFrom, chainTooLong}
-use Rattle.kernel.specs.Targets.{member, badTarget, strayTarget, position}
+use Rattle.kernel.specs.Targets.{member, badTarget, unreachableTarget, position}
 use Rattle.kernel.specs.Accepted.{Program, opOf, opsFrom}
 use Rattle.kernel.specs.Held.{heldFrom, same, partedBy, faultAt, faultPosition, recordAt, lockFault}
 use Rattle.verdict.specs.Verdict.{accepted, verdict, structureThen, refusalOf}
@@ -47,7 +47,8 @@ lanes2 =
 
 stands-for : verdict (storeBuffering 3) ≡ accepted kernel
 unfolding refusalOf structureThen headerRule headRule badRecord recordRule limitA limitB limitConstant limitTarget
-    lowest firstOf badLinkage linkageFrom chain member walkOf chainTooLong badTarget strayTarget lockFault position
+    lowest firstOf badLinkage linkageFrom chain member walkOf chainTooLong badTarget unreachableTarget lockFault
+    position
     opOf opsFrom recordAt faultPosition faultAt partedBy heldFrom same
 stands-for = refl
 

@@ -10,6 +10,7 @@ use Rattle.sheet.specs.Levels.{Level, level1, level2}
 use Rattle.sheet.specs.declared.Lowered.{Lowered}
 use Rattle.sheet.specs.declared.Lowered.the-variants.{Wrote, Refuses}
 use Rattle.sheet.specs.Bytes.{lowerBy}
+use Rattle.listing.specs.Listing.{printed}
 use Rattle.machine.specs.Rules.{Machine, source, target, tso}
 use Rattle.machine.specs.Schedule.{Move, move}
 use Rattle.machine.specs.Run.{Answer, runBy}
@@ -17,10 +18,12 @@ use Rattle.examples.specs.Kernels.{rec, recBytes, fileHeader, storeBuffe
 use Rattle.examples.specs.Kernels.{PL, PS, VL, VS, LOCK, UNLOCK}
 
 pub data Example : Type 0 where
-  -- lowering with so many bytes lent is refused, by number and record
-  refused-by : Level → (kernel : List ℕ) → (lent number named : ℕ) → Example
+  -- lowering into so many bytes is refused, by number and record
+  refused-by : Level → (kernel : List ℕ) → (room number named : ℕ) → Example
   -- lowering writes this sheet
   writes : Level → (kernel sheet : List ℕ) → Example
+  -- the level 2 text of the kernel
+  prints : (kernel text : List ℕ) → Example
   -- lowering writes these instructions
   shows : Level → (kernel : List ℕ) → List (ℕ × ℕ) → Example
   -- a sheet of so many bytes
@@ -30,9 +33,9 @@ pub data Example : Type 0 where
   -- no schedule finishes with register 1 zero in every lane
   never : Machine → (kernel : List ℕ) → Example
 
--- a buffer of n bytes, none of them zero
-abbrev lend : ℕ → List ℕ
-lend n = replicate n 255
+-- an output buffer of n bytes, none of them zero
+abbrev output : ℕ → List ℕ
+output n = replicate n 255
 
 -- the instructions of a sheet that was written: operation, and the low byte of the constant or position
 abbrev rows : ℕ → List ℕ → List (ℕ × ℕ)
@@ -67,10 +70,11 @@ endOf a = record { number = a .number; finished = a .finished; values = register
 
 -- what an example says
 abbrev pub Holds : Example → Type 0
-Holds (refused-by l s n x r) = lowerBy l (verdict s) (lend n) ≡ (Refuses x r, lend n)
-Holds (writes l s b) = lowerBy l (verdict s) (lend (length b + 1)) ≡ (Wrote (length b), b ++ 255 ∷ [])
-Holds (shows l s is) = instructions (lowerBy l (verdict s) (lend 100)) ≡ is
-Holds (fills l s n) = lowerBy l (verdict s) (lend n) .0 ≡ Wrote n
+Holds (refused-by l s n x r) = lowerBy l (verdict s) (output n) ≡ (Refuses x r, output n)
+Holds (writes l s b) = lowerBy l (verdict s) (output (length b + 1)) ≡ (Wrote (length b), b ++ 255 ∷ [])
+Holds (prints s x) = printed s ≡ x
+Holds (shows l s is) = instructions (lowerBy l (verdict s) (output 100)) ≡ is
+Holds (fills l s n) = lowerBy l (verdict s) (output n) .0 ≡ Wrote n
 Holds (ends m s mvs rs) =
     endOf (runBy m s (verdict s) mvs) ≡ record { number = 0; finished = true; values = rs }
 Holds (never m s) = (mvs : List Move) → endsAllZero (runBy m s (verdict s) mvs) ≡ false
@@ -91,13 +95,27 @@ codes = map (λ (o : ℕ). (o, 0))
 
 unfoldable pub table : List Example
 table =
-    -- this kernel: sheet of 80 bytes; 79 lent gives 9
+    -- this kernel: sheet of 80 bytes; 79 bytes give 9
     writes level2 (storeBuffering 3) (
     2 ∷ 2 ∷ 0 ∷ 2 ∷ 0 ∷ 0 ∷ 0 ∷ 0 ∷ 4 ∷ 0 ∷ 4 ∷ 0 ∷ 0 ∷ 0 ∷ 0 ∷ 0
     ∷ 1 ∷ 0 ∷ 0 ∷ 0 ∷ 1 ∷ 0 ∷ 0 ∷ 0 ∷ 4 ∷ 0 ∷ 0 ∷ 0 ∷ 0 ∷ 0 ∷ 0 ∷ 0
     ∷ 15 ∷ 0 ∷ 0 ∷ 0 ∷ 0 ∷ 0 ∷ 0 ∷ 0 ∷ 3 ∷ 1 ∷ 1 ∷ 0 ∷ 0 ∷ 0 ∷ 0 ∷ 0
     ∷ 1 ∷ 0 ∷ 0 ∷ 0 ∷ 1 ∷ 0 ∷ 0 ∷ 0 ∷ 4 ∷ 0 ∷ 1 ∷ 0 ∷ 0 ∷ 0 ∷ 0 ∷ 0
     ∷ 15 ∷ 0 ∷ 0 ∷ 0 ∷ 0 ∷ 0 ∷ 0 ∷ 0 ∷ 3 ∷ 1 ∷ 0 ∷ 0 ∷ 0 ∷ 0 ∷ 0 ∷ 0 ∷ []
+    )
+    -- its nine lines
+    ∷ prints (storeBuffering 3) (
+    108 ∷ 97 ∷ 110 ∷ 101 ∷ 115 ∷ 32 ∷ 50 ∷ 32 ∷ 108 ∷ 111 ∷ 99 ∷ 97 ∷ 116 ∷ 105 ∷ 111 ∷ 110 ∷ 115 ∷ 32 ∷ 50 ∷ 32
+    ∷ 118 ∷ 111 ∷ 108 ∷ 97 ∷ 116 ∷ 105 ∷ 108 ∷ 101 ∷ 32 ∷ 50 ∷ 32 ∷ 108 ∷ 111 ∷ 99 ∷ 107 ∷ 115 ∷ 32 ∷ 48 ∷ 10
+    ∷ 48 ∷ 32 ∷ 48 ∷ 32 ∷ 83 ∷ 69 ∷ 84 ∷ 32 ∷ 48 ∷ 32 ∷ 49 ∷ 10
+    ∷ 48 ∷ 32 ∷ 49 ∷ 32 ∷ 83 ∷ 84 ∷ 79 ∷ 82 ∷ 69 ∷ 32 ∷ 48 ∷ 32 ∷ 48 ∷ 10
+    ∷ 48 ∷ 32 ∷ 50 ∷ 32 ∷ 77 ∷ 70 ∷ 69 ∷ 78 ∷ 67 ∷ 69 ∷ 10
+    ∷ 48 ∷ 32 ∷ 51 ∷ 32 ∷ 76 ∷ 79 ∷ 65 ∷ 68 ∷ 32 ∷ 49 ∷ 32 ∷ 49 ∷ 10
+    ∷ 49 ∷ 32 ∷ 48 ∷ 32 ∷ 83 ∷ 69 ∷ 84 ∷ 32 ∷ 48 ∷ 32 ∷ 49 ∷ 10
+    ∷ 49 ∷ 32 ∷ 49 ∷ 32 ∷ 83 ∷ 84 ∷ 79 ∷ 82 ∷ 69 ∷ 32 ∷ 48 ∷ 32 ∷ 49 ∷ 10
+    ∷ 49 ∷ 32 ∷ 50 ∷ 32 ∷ 77 ∷ 70 ∷ 69 ∷ 78 ∷ 67 ∷ 69 ∷ 10
+    ∷ 49 ∷ 32 ∷ 51 ∷ 32 ∷ 76 ∷ 79 ∷ 65 ∷ 68 ∷ 32 ∷ 49 ∷ 32 ∷ 48 ∷ 10
+    ∷ []
     )
     ∷ fills level2 (storeBuffering 3) 80
     ∷ refused-by level2 (storeBuffering 3) 79 9 0

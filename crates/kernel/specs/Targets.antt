@@ -12,12 +12,12 @@ member x [] = false
 member x (y ∷ ys) = elim (eqb x y) [ true ↦ true | false ↦ member x ys ]
 
 -- the target of record i is neither zero, the end, nor among the records that follow i
-unfoldable pub strayTarget : List ℕ → ℕ → Bool
-strayTarget s i = cond (eqb (target s i) 0) false (not (member (target s i) (chain s 64 (next s i))))
+unfoldable pub unreachableTarget : List ℕ → ℕ → Bool
+unreachableTarget s i = cond (eqb (target s i) 0) false (not (member (target s i) (chain s 64 (next s i))))
 
 -- the lowest SKIP with such a target, or 0
 unfoldable pub badTarget : List ℕ → ℕ
-badTarget s = lowest (strayTarget s) 1 (recordCount s)
+badTarget s = lowest (unreachableTarget s) 1 (recordCount s)
 
 -- the position of a record in a chain; of 0, which no chain has, the chain's length
 unfoldable pub position : ℕ → List ℕ → ℕ

@@ -3,7 +3,7 @@ ghost use mathlib.Core.Path.{_≡_};
 ghost use Prim.Native.Nat.{_<_, _≤_};
 ghost use lib.ListN.{length, getD};
 ghost use Rattle.kernel.specs.Linkage.{chain};
-ghost use Rattle.kernel.specs.Targets.{member, strayTarget, badTarget, position};
+ghost use Rattle.kernel.specs.Targets.{member, unreachableTarget, badTarget, position};
 use crate::fields::next_of;
 use crate::fields::word_at;
 
@@ -28,9 +28,9 @@ fn leads_to(s: &[u8], h: usize, x: usize) -> bool
 }
 
 // The target of record i is neither zero nor among the records that follow it.
-fn stray_target(s: &[u8], i: usize) -> bool
+fn unreachable_target(s: &[u8], i: usize) -> bool
     requires { ⌜ i < 65536 ⌝ }
-    ensures { λ r. ⌜ r ≡ strayTarget (now (s .entry)) i ⌝ }
+    ensures { λ r. ⌜ r ≡ unreachableTarget (now (s .entry)) i ⌝ }
 {
     let x = word_at(s, 4 + 12 * i + 8);
     if x == 0 {
@@ -46,7 +46,7 @@ pub fn bad_target(s: &[u8]) -> usize
     let e = word_at(s, 6) + 1;
     let mut i = 1;
     while i < e {
-        if stray_target(s, i) {
+        if unreachable_target(s, i) {
             return i;
         }
         i += 1;

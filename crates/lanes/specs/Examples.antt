@@ -7,7 +7,7 @@ use Rattle.kernel.specs.Search.{lowest, firstOf}
 use Rattle.kernel.specs.Rules.{headerRule, headRule, badRecord, recordRule}
 use Rattle.kernel.specs.Rules.{limitA, limitB, limitConstant, limitTarget}
 use Rattle.kernel.specs.Linkage.{chain, walkOf, badLinkage, linkageFrom, chainTooLong}
-use Rattle.kernel.specs.Targets.{member, badTarget, strayTarget, position}
+use Rattle.kernel.specs.Targets.{member, badTarget, unreachableTarget, position}
 use Rattle.kernel.specs.Accepted.{opOf, opsFrom}
 use Rattle.kernel.specs.Held.{heldFrom, same, partedBy, faultAt, faultPosition, recordAt, lockFault}
 use Rattle.verdict.specs.Verdict.{structureThen, refusalOf}
@@ -35,9 +35,9 @@ kernel =
     ∷ 6 ∷ 0 ∷ 0 ∷ 0 ∷ 0 ∷ 0 ∷ 0 ∷ 0 ∷ 0 ∷ 0 ∷ 0 ∷ 0
     ∷ []
 
--- a buffer of n bytes, none of them zero
-lend : ℕ → List ℕ
-lend n = replicate n 255
+-- an output buffer of n bytes, none of them zero
+output : ℕ → List ℕ
+output n = replicate n 255
 
 -- what a call answers, and the buffer after it
 record Called : Type 0 where
@@ -67,10 +67,10 @@ counted f = f ∷ 0 ∷ 0 ∷ 0 ∷ 1 ∷ 0 ∷ 0 ∷ 0 ∷ 5 ∷ replicate 7 0 
 calls : List (Called × Called)
 calls =
     -- the kernel's sheets have 72 and 56 bytes
-    (called (callLower2 kernel (lend 55)), record { answer = 9 * 2 ^ 32; after = lend 55 })
-    ∷ (called (callLower1 kernel (lend 71)), record { answer = 9 * 2 ^ 32; after = lend 71 })
+    (called (callLower2 kernel (output 55)), record { answer = 9 * 2 ^ 32; after = output 55 })
+    ∷ (called (callLower1 kernel (output 71)), record { answer = 9 * 2 ^ 32; after = output 71 })
     ∷ (
-      called (callLower2 kernel (lend 57)),
+      called (callLower2 kernel (output 57)),
       record {
         answer = 56;
         after =
@@ -84,16 +84,16 @@ calls =
       },
     )
     -- refused by the file: number × 2^32 + record
-    ∷ (called (callLower1 (replicate 15 0) (lend 3)), record { answer = 2 ^ 32; after = lend 3 })
+    ∷ (called (callLower1 (replicate 15 0) (output 3)), record { answer = 2 ^ 32; after = output 3 })
     -- a refused file, then 9, then 10
-    ∷ (called (callRunTso (replicate 15 0) (0 ∷ []) (lend 3)), record { answer = 2 ^ 32; after = lend 3 })
-    ∷ (called (callRunTso kernel (0 ∷ []) (lend 3)), record { answer = 9 * 2 ^ 32; after = lend 3 })
-    ∷ (called (callRunTso kernel (0 ∷ []) (lend 2280)), record { answer = 10 * 2 ^ 32; after = lend 2280 })
-    ∷ (called (callRunTso kernel (0 ∷ 2 ∷ []) (lend 2280)), record { answer = 10 * 2 ^ 32; after = lend 2280 })
-    ∷ (called (callRunSource kernel (1 ∷ 0 ∷ []) (lend 2280)), record { answer = 10 * 2 ^ 32; after = lend 2280 })
+    ∷ (called (callRunTso (replicate 15 0) (0 ∷ []) (output 3)), record { answer = 2 ^ 32; after = output 3 })
+    ∷ (called (callRunTso kernel (0 ∷ []) (output 3)), record { answer = 9 * 2 ^ 32; after = output 3 })
+    ∷ (called (callRunTso kernel (0 ∷ []) (output 2280)), record { answer = 10 * 2 ^ 32; after = output 2280 })
+    ∷ (called (callRunTso kernel (0 ∷ 2 ∷ []) (output 2280)), record { answer = 10 * 2 ^ 32; after = output 2280 })
+    ∷ (called (callRunSource kernel (1 ∷ 0 ∷ []) (output 2280)), record { answer = 10 * 2 ^ 32; after = output 2280 })
     -- SET, STORE, a LOCK that waits, the commit, LOCK, UNLOCK: its release is pending
     ∷ (
-      called (callRunSource kernel (0 ∷ 0 ∷ 0 ∷ 0 ∷ 0 ∷ 0 ∷ 0 ∷ 1 ∷ 0 ∷ 0 ∷ 0 ∷ 0 ∷ []) (lend 2281)),
+      called (callRunSource kernel (0 ∷ 0 ∷ 0 ∷ 0 ∷ 0 ∷ 0 ∷ 0 ∷ 1 ∷ 0 ∷ 0 ∷ 0 ∷ 0 ∷ []) (output 2281)),
       record {
         answer = 2280;
         after =
@@ -102,7 +102,7 @@ calls =
     )
     -- MFENCE waits instead, and is an instruction of its own
     ∷ (
-      called (callRunTso kernel (0 ∷ 0 ∷ 0 ∷ 0 ∷ 0 ∷ 0 ∷ 0 ∷ 1 ∷ 0 ∷ 0 ∷ 0 ∷ 0 ∷ []) (lend 2281)),
+      called (callRunTso kernel (0 ∷ 0 ∷ 0 ∷ 0 ∷ 0 ∷ 0 ∷ 0 ∷ 1 ∷ 0 ∷ 0 ∷ 0 ∷ 0 ∷ []) (output 2281)),
       record {
         answer = 2280;
         after = counted 0 ++ memory ++ laneRecord (4 ∷ 0 ∷ []) (0 ∷ 0 ∷ []) registers (replicate 8 0) ++ 255 ∷ [];
@@ -110,7 +110,7 @@ calls =
     )
     -- a store that is pending: location 1, value 258
     ∷ (
-      called (callRunTso kernel (0 ∷ 0 ∷ 0 ∷ 0 ∷ []) (lend 2280)),
+      called (callRunTso kernel (0 ∷ 0 ∷ 0 ∷ 0 ∷ []) (output 2280)),
       record {
         answer = 2280;
         after =
@@ -122,7 +122,8 @@ calls =
 
 calls-hold : map (λ (e : Called × Called). e .0) calls ≡ map (λ (e : Called × Called). e .1) calls
 unfolding refusalOf structureThen headerRule headRule badRecord recordRule limitA limitB limitConstant limitTarget
-    lowest firstOf badLinkage linkageFrom chain member walkOf chainTooLong badTarget strayTarget lockFault position
+    lowest firstOf badLinkage linkageFrom chain member walkOf chainTooLong badTarget unreachableTarget lockFault
+    position
     opOf opsFrom recordAt faultPosition faultAt partedBy heldFrom same stands due rowsTo sheetBytes readSheet
-    movesIn entriesBytes stateLane stateBytes kernel lend calls
+    movesIn entriesBytes stateLane stateBytes kernel output calls
 calls-hold = refl

@@ -1,17 +1,13 @@
 -- The text of a level 2 sheet: of a kernel, and of the bytes of a sheet with the kernel's mask.
 use Prim.Native.Nat.{ℕ, suc}
-use mathlib.Core.Bool.{cond}
 use mathlib.Core.List.{List, [], _∷_, _++_}
 use lib.Count.{onesIn}
-use lib.Dec.{ltb}
-use lib.ListN.{length, getD, drop}
+use lib.ListN.{length, getD}
 use Rattle.kernel.specs.Accepted.{Program}
 use Rattle.verdict.specs.Verdict.{Verdict, refused, accepted, verdict}
 use Rattle.sheet.specs.Layout.{Instr}
 use Rattle.sheet.specs.Levels.{level2, sheetLanes}
 use Rattle.sheet.specs.Read.{readSheet}
-use Rattle.listing.specs.declared.whole.Listed.{Listed}
-use Rattle.listing.specs.declared.whole.Listed.the-variants.{Wrote, Short}
 use Rattle.listing.specs.Line.{lineOf, firstLine, refusalLine}
 
 -- the ones in a mask of 16 bits
@@ -44,8 +40,3 @@ printed s = printedBy (verdict s)
 -- the same of the bytes of a sheet, which do not have the kernel's mask
 unfoldable pub sheetText : List ℕ → ℕ → List ℕ
 sheetText b mask = firstLine (getD b 0 0) (getD b 1 0) (ones mask) (getD b 2 0) ++ sheetLines 0 (readSheet b)
-
--- the answer, and the buffer after; a buffer that is too short is as it was
-abbrev pub listInto : List ℕ → List ℕ → Listed × List ℕ
-listInto text buffer =
-    cond (ltb (length buffer) (length text)) (Short, buffer) (Wrote (length text), text ++ drop (length text) buffer)

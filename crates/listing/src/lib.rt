@@ -4,6 +4,5 @@ mod put;
 mod read;
 mod whole;
 
-pub use whole::Listed;
 pub use whole::list_refusal;
 pub use whole::list_sheet;

@@ -9,7 +9,7 @@ ghost use mathlib.Core.List.{_++_};
 ghost use lib.ListN.{length, drop};
 ghost use Rattle.sheet.specs.Read.{instrBy, readInstr};
 ghost use Rattle.listing.specs.Decimal.{decimal};
-ghost use Rattle.listing.specs.Put.{Puts};
+ghost use Rattle.sheet.specs.Put.{Puts};
 ghost use Rattle.listing.specs.Line.{pair, instrText, lineOf};
 
 pub(crate) fn put_pair(out: &mut [u8], at: usize, a: u32, b: u32) -> usize

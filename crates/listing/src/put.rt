@@ -5,7 +5,7 @@ ghost use Prim.Native.Nat.{_+_, _<_, _≤_, _^_};
 ghost use mathlib.Core.List.{_∷_, []};
 ghost use lib.ListN.{length, set};
 ghost use Rattle.listing.specs.Decimal.{decimal};
-ghost use Rattle.listing.specs.Put.{Puts};
+ghost use Rattle.sheet.specs.Put.{Puts};
 
 fn store(out: &mut [u8], at: usize, b: u8)
     ensures { λ q. ⌜ now (out .exit) ≡ set (now (out .entry)) at b ⌝ }

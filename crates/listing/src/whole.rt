@@ -4,13 +4,15 @@ use super::line::put_one;
 use super::put::put;
 use super::read::byte_at;
 use super::read::word_at;
+use sheet::Lowered;
 ghost use mathlib.Core.Path.{_≡_};
 ghost use Prim.Native.Nat.{_+_, _*_, _≤_, _<_, _^_};
 ghost use lib.ListN.{length, drop};
 ghost use Rattle.kernel.specs.Fields.{byte};
 ghost use Rattle.sheet.specs.Read.{readRows, readSheet, counts};
-ghost use Rattle.listing.specs.Put.{Puts};
-ghost use Rattle.listing.specs.Listing.{ones, laneLines, sheetLines, sheetText, listInto};
+ghost use Rattle.sheet.specs.Put.{Puts};
+ghost use Rattle.listing.specs.Listing.{ones, laneLines, sheetLines, sheetText};
+ghost use Rattle.sheet.specs.Bytes.{writeInto};
 ghost use Rattle.listing.specs.Line.{firstLine, refusalLine};
 
 // The lines of a lane of `count` instructions, whose bytes begin at `from`.
@@ -82,24 +84,18 @@ fn put_sheet(out: &mut [u8], sheet: &[u8], mask: u16) -> usize
     put_lanes(out, i, sheet)
 }
 
-// How a listing went: the bytes written, or the buffer is too short and as it was.
-pub enum Listed {
-    Wrote(usize),
-    Short,
-}
-
-// The listing of a level 2 sheet into a lent buffer. It is measured first, by laying it into a buffer that it does not
-// fit.
-pub fn list_sheet(sheet: &[u8], mask: u16, out: &mut [u8]) -> Listed
-    ensures { λ r. ⌜ (r, now (out .exit)) ≡ listInto (sheetText (now (sheet .entry)) mask) (now (out .entry)) ⌝ }
+// The listing of a level 2 sheet at the front of `out`; 9, and `out` as it was, where it does not fit. It is measured
+// first, by laying it into a buffer that it does not fit.
+pub fn list_sheet(sheet: &[u8], mask: u16, out: &mut [u8]) -> Lowered
+    ensures { λ r. ⌜ (r, now (out .exit)) ≡ writeInto (sheetText (now (sheet .entry)) mask) (now (out .entry)) ⌝ }
 {
     let mut none = [0u8; 1];
     let size = put_sheet(&mut none, sheet, mask);
     if out.len() < size {
-        return Listed::Short;
+        return Lowered::Refuses(9, 0);
     }
     let end = put_sheet(out, sheet, mask);
-    Listed::Wrote(end)
+    Lowered::Wrote(end)
 }
 
 // The line of a refusal, as far as the buffer reaches.
@@ -111,15 +107,15 @@ fn put_refusal(out: &mut [u8], number: u32, rec: u32) -> usize
     put(out, j, b'\n')
 }
 
-// The line of a refusal into a lent buffer.
-pub fn list_refusal(number: u32, rec: u32, out: &mut [u8]) -> Listed
-    ensures { λ r. ⌜ (r, now (out .exit)) ≡ listInto (refusalLine number rec) (now (out .entry)) ⌝ }
+// The line of a refusal, likewise.
+pub fn list_refusal(number: u32, rec: u32, out: &mut [u8]) -> Lowered
+    ensures { λ r. ⌜ (r, now (out .exit)) ≡ writeInto (refusalLine number rec) (now (out .entry)) ⌝ }
 {
     let mut none = [0u8; 1];
     let size = put_refusal(&mut none, number, rec);
     if out.len() < size {
-        return Listed::Short;
+        return Lowered::Refuses(9, 0);
     }
     let end = put_refusal(out, number, rec);
-    Listed::Wrote(end)
+    Lowered::Wrote(end)
 }

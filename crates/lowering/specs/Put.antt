@@ -1,9 +1,9 @@
--- Writing bytes into a buffer, and a lane's operations one after the other, as the code does it.
-use Prim.Native.Nat.{ℕ, suc, _+_, _≤_}
+-- A lane's operations one after the other, as the code writes them.
+use Prim.Native.Nat.{ℕ, suc, _≤_}
 use mathlib.Core.Path.{_≡_}
 use mathlib.Core.Bool.{Bool, false, cond}
 use mathlib.Core.List.{List, [], _∷_, _++_, map}
-use lib.ListN.{length, take, drop, getD}
+use lib.ListN.{length, getD}
 use Rattle.kernel.specs.declared.accepted.Op.{Op}
 use Rattle.kernel.specs.declared.accepted.Lane.{Lane}
 use Rattle.kernel.specs.Stored.{opsIn}
@@ -16,14 +16,6 @@ use Rattle.lowering.specs.declared.rows.Marks.{Marks}
 use Rattle.sheet.specs.Layout.{Placed, op, barrier, aim, sheet}
 use Rattle.sheet.specs.Levels.{level1}
 use Rattle.sheet.specs.Bytes.{row, laneBytes}
-
--- the buffer with these bytes from position i on
-abbrev pub putAt : List ℕ → ℕ → List ℕ → List ℕ
-putAt l i bytes = take i l ++ bytes ++ drop (i + length bytes) l
-
--- what is written from the front, and behind it what was there
-abbrev pub over : List ℕ → List ℕ → List ℕ
-over bytes buffer = bytes ++ drop (length bytes) buffer
 
 -- the row of a barrier's code where the barrier stands
 abbrev pub rowIf : Bool → ℕ → List ℕ

@@ -3,7 +3,8 @@ ghost use mathlib.Core.Path.{_≡_};
 ghost use Prim.Native.Nat.{min, _≤_};
 ghost use lib.ListN.{length, getD};
 ghost use Rattle.sheet.specs.Layout.{aim};
-ghost use Rattle.lowering.specs.Put.{over, standing, StartsTo, laneWith};
+ghost use Rattle.lowering.specs.Put.{standing, StartsTo, laneWith};
+ghost use Rattle.sheet.specs.Put.{Puts};
 ghost use Rattle.lowering.specs.Plan.{Aimed};
 use crate::rows::put_step;
 use crate::starts::Starts;
@@ -28,8 +29,7 @@ pub(crate) fn write_lane(out: &mut [u8], lane: Lane, placement: Placement, start
     requires starts_are { ⌜ StartsTo (standing placement) (min (lane .len) 64) (starts .at) ⌝ }
     requires targets { ⌜ Aimed lane ⌝ }
     requires room { ⌜ length (laneWith placement lane) ≤ length (now out) ⌝ }
-    ensures wrote { λ r. ⌜ now (out .exit) ≡ over (laneWith placement lane) (now (out .entry)) ⌝ }
-    ensures behind { λ r. ⌜ r ≡ length (laneWith placement lane) ⌝ }
+    ensures { λ r. ⌜ Puts (now (out .entry)) 0 (laneWith placement lane) (now (out .exit)) r ⌝ }
 {
     let slots = lane.slots;
     let positions = starts.at;

@@ -6,7 +6,7 @@ ghost use Rattle.kernel.specs.Accepted.{isVolatile};
 ghost use Rattle.kernel.specs.Stored.{pastLanes};
 ghost use Rattle.sheet.specs.Bytes.{word, writeInto};
 ghost use mathlib.Core.List.{[], _∷_, _++_};
-ghost use Rattle.lowering.specs.Put.{putAt};
+ghost use lib.Seq.{sets};
 ghost use Rattle.lowering.specs.Plan.{AllPlanned, Aimed, lanesBytes};
 ghost use Rattle.lowering.specs.Whole.{Whole, sizeIn, sheet1};
 use crate::lane::write_lane;
@@ -18,7 +18,7 @@ use kernel::accepted::Kernel;
 // The first half of the header: T, L, K, level, mask, two zero bytes.
 pub(crate) fn put_first(out: &mut [u8], t: u8, ls: u8, ks: u8, level: u8, mask: u16)
     requires { ⌜ 8 ≤ length (now out) ⌝ }
-    ensures { λ r. ⌜ now (out .exit) ≡ putAt (now (out .entry)) 0 (t ∷ ls ∷ ks ∷ level ∷ word mask ++ 0 ∷ 0 ∷ []) ⌝ }
+    ensures { λ r. ⌜ now (out .exit) ≡ sets (now (out .entry)) 0 (t ∷ ls ∷ ks ∷ level ∷ word mask ++ 0 ∷ 0 ∷ []) ⌝ }
 {
     out[0] = t;
     out[1] = ls;
@@ -33,7 +33,7 @@ pub(crate) fn put_first(out: &mut [u8], t: u8, ls: u8, ks: u8, level: u8, mask: 
 // The second half: four instruction counts.
 pub(crate) fn put_counts(out: &mut [u8], a: usize, b: usize, c: usize, d: usize)
     requires { ⌜ 16 ≤ length (now out) ⌝ }
-    ensures { λ r. ⌜ now (out .exit) ≡ putAt (now (out .entry)) 8 (word a ++ (word b ++ (word c ++ (word d ++ [])))) ⌝ }
+    ensures { λ r. ⌜ now (out .exit) ≡ sets (now (out .entry)) 8 (word a ++ (word b ++ (word c ++ (word d ++ [])))) ⌝ }
 {
     out[8] = (a % 256) as u8;
     out[9] = (a / 256 % 256) as u8;
@@ -51,7 +51,7 @@ pub(crate) fn write_lanes(out: &mut [u8], kernel: Kernel, plans: Plans)
     requires targets { ⌜ ((t : ℕ) → t < 4 → Aimed (getD (kernel .lanes) t pastLanes)) ⌝ }
     requires room { ⌜ 16 + length (lanesBytes (isVolatile (kernel .mask)) (kernel .lanes)) ≤ length (now out) ⌝ }
     ensures { λ r. ⌜
-        now (out .exit) ≡ putAt (now (out .entry)) 16 (lanesBytes (isVolatile (kernel .mask)) (kernel .lanes))
+        now (out .exit) ≡ sets (now (out .entry)) 16 (lanesBytes (isVolatile (kernel .mask)) (kernel .lanes))
         ⌝ }
 {
     let lanes = kernel.lanes;

@@ -1,4 +1,4 @@
-// A kernel file of whatever bytes, lowered into a lent buffer of whatever length.
+// A kernel file of whatever bytes, lowered into an output buffer of whatever length.
 ghost use mathlib.Core.Path.{_≡_};
 ghost use Rattle.sheet.specs.Bytes.{lower1 as lowered};
 use crate::level1::write_level1;

@@ -4,10 +4,12 @@ ghost use mathlib.Core.Bool.{cond};
 ghost use mathlib.Core.List.{[]};
 ghost use Prim.Native.Nat.{_+_, _≤_};
 ghost use lib.ListN.{length};
+ghost use lib.Seq.{sets};
 ghost use Rattle.placement.specs.Place.{chosen};
 ghost use Rattle.sheet.specs.Layout.{aim};
 ghost use Rattle.sheet.specs.Bytes.{row, opBytes};
-ghost use Rattle.lowering.specs.Put.{putAt, rowIf, marked, stepBytes};
+ghost use Rattle.sheet.specs.Put.{Puts};
+ghost use Rattle.lowering.specs.Put.{rowIf, marked, stepBytes};
 use kernel::accepted::Op;
 
 // Which barriers stand directly before an operation.
@@ -21,7 +23,7 @@ pub struct Marks {
 // Writes operation, a, b, zero and the four bytes of c from `at` on.
 pub(crate) fn put_row(out: &mut [u8], at: usize, o: u8, a: u8, b: u8, c: u32)
     requires { ⌜ at + 8 ≤ length (now out) ⌝ }
-    ensures { λ r. ⌜ now (out .exit) ≡ putAt (now (out .entry)) at (row o a b c) ⌝ }
+    ensures { λ r. ⌜ now (out .exit) ≡ sets (now (out .entry)) at (row o a b c) ⌝ }
 {
     out[at] = o;
     out[at + 1] = a;
@@ -36,7 +38,7 @@ pub(crate) fn put_row(out: &mut [u8], at: usize, o: u8, a: u8, b: u8, c: u32)
 // Writes an operation from `at` on; a SKIP is aimed at the given position.
 pub(crate) fn put_op(out: &mut [u8], at: usize, op: Op, target: u32)
     requires { ⌜ at + 8 ≤ length (now out) ⌝ }
-    ensures { λ r. ⌜ now (out .exit) ≡ putAt (now (out .entry)) at (opBytes (aim (λ t. target) op)) ⌝ }
+    ensures { λ r. ⌜ now (out .exit) ≡ sets (now (out .entry)) at (opBytes (aim (λ t. target) op)) ⌝ }
 {
     match op {
         Op::Set(a, c) => put_row(out, at, 1, a, 0, c),
@@ -52,8 +54,7 @@ pub(crate) fn put_op(out: &mut [u8], at: usize, op: Op, target: u32)
 // Writes a barrier from `at` on where it stands; the position behind it.
 pub(crate) fn put_barrier(out: &mut [u8], at: usize, stands: bool, code: u8) -> usize
     requires { ⌜ at + 8 ≤ length (now out) ⌝ }
-    ensures wrote { λ r. ⌜ now (out .exit) ≡ putAt (now (out .entry)) at (rowIf stands code) ⌝ }
-    ensures behind { λ r. ⌜ r ≡ at + length (rowIf stands code) ⌝ }
+    ensures { λ r. ⌜ Puts (now (out .entry)) at (rowIf stands code) (now (out .exit)) r ⌝ }
 {
     if stands {
         put_row(out, at, code, 0, 0, 0);
@@ -66,8 +67,7 @@ pub(crate) fn put_barrier(out: &mut [u8], at: usize, stands: bool, code: u8) -> 
 // Writes an operation from `at` on, behind the barriers that stand before it; the position behind it.
 pub(crate) fn put_step(out: &mut [u8], at: usize, m: Marks, op: Op, target: u32) -> usize
     requires { ⌜ at + length (stepBytes (chosen (marked m)) op target) ≤ length (now out) ⌝ }
-    ensures wrote { λ r. ⌜ now (out .exit) ≡ putAt (now (out .entry)) at (stepBytes (chosen (marked m)) op target) ⌝ }
-    ensures behind { λ r. ⌜ r ≡ at + length (stepBytes (chosen (marked m)) op target) ⌝ }
+    ensures { λ r. ⌜ Puts (now (out .entry)) at (stepBytes (chosen (marked m)) op target) (now (out .exit)) r ⌝ }
 {
     let behind_ll = put_barrier(out, at, m.ll, 11);
     let behind_ls = put_barrier(out, behind_ll, m.ls, 12);

@@ -31,8 +31,9 @@ use Rattle.sheet.proofs.LoweredLanes.{placed-operations, items-lowered}
 use Rattle.sheet.proofs.ReadBack.{lawful-back}
 use Rattle.sheet.proofs.SmallBytes.{sheet-bytes-small}
 use Rattle.sheet.proofs.Laws.Written.{written-all}
+use Rattle.sheet.proofs.Laws.Targets.{targets-within}
 use Rattle.matching.specs.Claims.{laneOf, laneItems, operationsIn, Demand2, lowered, Fitting}
-use Rattle.matching.proofs.KernelLanes.{forward, targets-within, lane-placed}
+use Rattle.matching.proofs.KernelLanes.{forward, lane-placed}
 
 abbrev Covered : Level → List Item → Type 0
 Covered l x =

@@ -46,18 +46,6 @@ module _ {ls ks : ℕ} {os : List Op} (w : LawfulLane ls ks os) where
   forward vol =
       forward-of (steps vol os) (λ p q e. let x = skip-at vol os p q e in w .bounded p (Skip (x .0) q) (x .1) .1)
 
-  pub targets-within : TargetsWithin (length os) os
-  targets-within p o t e j = go o e j
-    where
-      go : (o : Op) → getElem? os p ≡ some o → jump o ≡ some t → t ≤ length os
-      go (Set a c) e j = let z : _≡_ {A = ℕ} 0 1 = cc in absurd (omega arith)
-      go (Add a b) e j = let z : _≡_ {A = ℕ} 0 1 = cc in absurd (omega arith)
-      go (Load a x) e j = let z : _≡_ {A = ℕ} 0 1 = cc in absurd (omega arith)
-      go (Store a x) e j = let z : _≡_ {A = ℕ} 0 1 = cc in absurd (omega arith)
-      go (Lock l) e j = let z : _≡_ {A = ℕ} 0 1 = cc in absurd (omega arith)
-      go (Unlock l) e j = let z : _≡_ {A = ℕ} 0 1 = cc in absurd (omega arith)
-      go (Skip a u) e j = let same : u ≡ t = cc in rw (← same) (w .bounded p (Skip a u) e .2)
-
 kernel-placed : (l : Level) (vol : ℕ → Bool) (lanes : List (List Op))
     → kernelProgram (map (placed l vol) lanes) ≡ map (map op) lanes
 kernel-placed l vol [] = refl

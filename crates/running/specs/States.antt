@@ -1,14 +1,12 @@
--- The state of the text that lent rows hold, and what a turn of one lane makes of it.
-use Prim.Native.Nat.{ℕ, suc, _<_}
+-- The state of the text that borrowed rows hold, and what a turn of one lane makes of it.
+use Prim.Native.Nat.{ℕ, suc}
 use mathlib.Core.Path.{_≡_}
 use mathlib.Core.Bool.{Bool}
 use mathlib.Core.List.{List, [], _∷_}
 use mathlib.Core.Option.{Option}
-use lib.ListN.{length, getD, getElem?, take, set as update}
-use Rattle.kernel.specs.declared.accepted.Op.{Op}
-use Rattle.kernel.specs.declared.accepted.Op.the-variants.{Set, Add, Load, Store, Lock, Unlock, Skip}
+use lib.ListN.{length, getD, take, set as update}
 use Rattle.sheet.specs.Layout.{Instr}
-use Rattle.machine.specs.Step.{Core, Turn, waits, refuses, passes, does, execute, commit}
+use Rattle.machine.specs.Step.{Core, Turn, waits, refuses, passes, does, execute}
 use Rattle.machine.specs.State.{Lane, State, setLane}
 use Rattle.running.specs.declared.lane.Lane.{Lane as Stored}
 use Rattle.running.specs.declared.rules.Machine.{Machine as Coded}
@@ -91,23 +89,9 @@ coreIn s t =
 
 -- ## a turn of lane t
 
--- it carries out an instruction, or commits the entry that has i older ones
+-- it carries out an instruction
 abbrev pub carries : Coded → (ℕ → Bool) → Held → ℕ → Option Instr → Turn
 carries m vol s t i = execute (machineIn m) vol (suc t) (laneOf (s .rows) t .control) (coreIn s t) i
-
-abbrev pub commits : Coded → (ℕ → Bool) → Held → ℕ → ℕ → Turn
-commits m vol s t i =
-    commit (machineIn m) vol (laneOf (s .rows) t .control) (coreIn s t) i (getElem? (laneOf (s .rows) t .pending) i)
-
--- a lane of the code can carry it out: its location has a cell, and its entry has room
-abbrev pub Fits : Lane → Op → Type 0
-Fits l (Set a n) = Unit
-Fits l (Add a b) = Unit
-Fits l (Load a x) = x < 16
-Fits l (Store a x) = (x < 16) × (length (l .pending) < 64)
-Fits l (Lock k) = Unit
-Fits l (Unlock k) = (k < 4) × (length (l .pending) < 64)
-Fits l (Skip a p) = Unit
 
 abbrev pub movedBy : Turn → Moved
 movedBy waits = Waited

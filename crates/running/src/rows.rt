@@ -1,4 +1,4 @@
-// The state of four lanes, lent as rows of numbers: a lane is taken from it, changed and put back.
+// The state of four lanes, borrowed as rows of numbers: a lane is taken from it, changed and put back.
 ghost use mathlib.Core.Path.{_≡_};
 ghost use mathlib.Core.Option.{some};
 ghost use Prim.Native.Nat.{_<_};

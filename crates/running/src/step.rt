@@ -1,6 +1,5 @@
-// One move of a lane of the state that is lent as rows: an operation or a barrier of its program, or the commit of a
-// pending
-// entry. Whether the move waits is decided before anything is copied.
+// One move of a lane of the state that is borrowed as rows: an operation of its program. Whether the move waits is
+// decided before anything is copied.
 ghost use mathlib.Core.Path.{_≡_};
 ghost use mathlib.Core.Bool.{Bool};
 ghost use mathlib.Core.List.{List};

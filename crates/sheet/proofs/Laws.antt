@@ -2,3 +2,5 @@
 pub mod Cells
 pub mod Rows
 pub mod Written
+pub mod Put
+pub mod Targets

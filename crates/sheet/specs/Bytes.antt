@@ -78,11 +78,15 @@ header l k lanes =
 unfoldable pub sheetBytes : Level → Program → List ℕ
 sheetBytes l k = header l k (sheetLanes l k) ++ joined (map (laneBytes l) (sheetLanes l k))
 
--- the answer, and the output buffer after; 9 where it is shorter than the sheet
+-- what is written from the front, and behind it what was there
+abbrev pub over : List ℕ → List ℕ → List ℕ
+over bytes buffer = bytes ++ drop (length bytes) buffer
+
+-- the answer, and the output buffer after; 9 where it is shorter than the bytes
 abbrev pub writeInto : List ℕ → List ℕ → Lowered × List ℕ
 writeInto bytes buffer =
     cond (ltb (length buffer) (length bytes)) (Refuses 9 0, buffer)
-    (Wrote (length bytes), bytes ++ drop (length bytes) buffer)
+    (Wrote (length bytes), over bytes buffer)
 
 abbrev pub lowerBy : Level → Verdict → List ℕ → Lowered × List ℕ
 lowerBy l (refused n r) buffer = (Refuses n r, buffer)

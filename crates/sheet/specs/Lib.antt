@@ -4,6 +4,7 @@
 pub mod Layout
 pub mod Levels
 pub mod Bytes
+pub mod Put
 pub mod Read
 pub mod Relower
 pub mod Items

@@ -12,7 +12,7 @@ use native.Mathlib.Decide.{decLe}
 use borrow.Author.Tests.{eqb-true, eqb-false, not-false}
 use Rattle.kernel.specs.Fields.{recordCount, head, target, next}
 use Rattle.kernel.specs.Linkage.{chain, walkOf, chainTooLong}
-use Rattle.kernel.specs.Targets.{member, strayTarget, badTarget, position}
+use Rattle.kernel.specs.Targets.{member, unreachableTarget, badTarget, position}
 use Rattle.kernel.specs.Accepted.{recordsAt}
 use Rattle.kernel.proofs.Laws.Search.{nothing-found, nothing-named}
 use Rattle.kernel.proofs.Laws.Linkage.{walkOf-here, walkOf-on, chain-suc, chain-stop, chain-length, last-one}
@@ -164,19 +164,19 @@ module _ (s : List ℕ) (ok : Structured s) (t : ℕ) (ht : t < 4) where
 
     -- a target is zero, or a record at a later position
     later : (target s (getD lane p 0) ≡ 0) ⊎ (member (target s (getD lane p 0)) (drop (suc p) lane) ≡ true)
-    unfolding badTarget strayTarget
+    unfolding badTarget unreachableTarget
     later =
         let r = getD lane p 0 in
         let range = chain-range s (ok .records) 64 (head s t) p (head-range s (ok .header) t ht) h in
-        let straight : strayTarget s r ≡ false =
-        nothing-found (strayTarget s) 1 (recordCount s) r (omega arith) (ok .targets) (range .0)
+        let reached : unreachableTarget s r ≡ false =
+        nothing-found (unreachableTarget s) 1 (recordCount s) r (omega arith) (ok .targets) (range .0)
         (omega (arith, range .1)) in
-        go (target s r) (eqb (target s r) 0) refl (rw followed at straight)
+        go (target s r) (eqb (target s r) 0) refl (rw followed at reached)
       where
         go : (x : ℕ) (b : Bool) → eqb x 0 ≡ b → cond (eqb x 0) false (not (member x (drop (suc p) lane))) ≡ false
             → (x ≡ 0) ⊎ (member x (drop (suc p) lane) ≡ true)
-        go x true e straight = inl (eqb-true x 0 e)
-        go x false e straight = inr (not-false _ (rw e at straight))
+        go x true e reached = inl (eqb-true x 0 e)
+        go x false e reached = inr (not-false _ (rw e at reached))
 
     -- at the position of a SKIP's target stands its target, and past the last record 0, the end
     pub lands : getD lane (p + 1 + position (target s (getD lane p 0)) (drop (p + 1) lane)) 0 ≡ target s (getD lane p 0)

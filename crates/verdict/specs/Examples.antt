@@ -11,7 +11,7 @@ use Rattle.kernel.specs.Search.{lowest, firstOf}
 use Rattle.kernel.specs.Rules.{headerRule, headRule, badRecord, recordRule}
 use Rattle.kernel.specs.Rules.{limitA, limitB, limitConstant, limitTarget}
 use Rattle.kernel.specs.Linkage.{chain, walkOf, badLinkage, linkageFrom, chainTooLong}
-use Rattle.kernel.specs.Targets.{member, badTarget, strayTarget, position}
+use Rattle.kernel.specs.Targets.{member, badTarget, unreachableTarget, position}
 use Rattle.kernel.specs.Accepted.{opOf, opsFrom}
 use Rattle.kernel.specs.Held.{heldFrom, same, partedBy, faultAt, faultPosition, recordAt, lockFault}
 use Rattle.verdict.specs.Verdict.{structureThen, refusalOf}
@@ -79,6 +79,7 @@ table =
 
 examples : map (λ e. refusalOf (e .0)) table ≡ map (λ e. e .1) table
 unfolding refusalOf structureThen headerRule headRule badRecord recordRule limitA limitB limitConstant limitTarget
-    lowest firstOf badLinkage linkageFrom chain member walkOf chainTooLong badTarget strayTarget lockFault position
+    lowest firstOf badLinkage linkageFrom chain member walkOf chainTooLong badTarget unreachableTarget lockFault
+    position
     opOf opsFrom recordAt faultPosition faultAt partedBy heldFrom same header header2 entry sets skip table
 examples = refl

@@ -21,9 +21,10 @@ use Rattle.sheet.specs.Layout.{Instr, op, barrier, Placed, start, aim, cells, s
 use Rattle.sheet.specs.Levels.{Level, level1}
 use Rattle.sheet.specs.Bytes.{instrBytes, laneBytes}
 use Rattle.sheet.specs.Items.{TargetsWithin}
-use Rattle.lowering.specs.Put.{placedBy, StartsTo, stepBytes, over, putAt}
+use Rattle.lowering.specs.Put.{placedBy, StartsTo, stepBytes}
 use Rattle.sheet.proofs.Laws.Rows.{lane-bytes}
-use Rattle.lowering.proofs.Laws.Put.{put-on}
+use Rattle.sheet.specs.Put.{Puts}
+use Rattle.sheet.proofs.Laws.Put.{puts-on, puts-as}
 use Rattle.sheet.proofs.LoweredLanes.{Stand, start-by}
 
 pub bytes-append : (l : Level) (xs ys : List Instr) → laneBytes l (xs ++ ys) ≡ laneBytes l xs ++ laneBytes l ys
@@ -174,25 +175,11 @@ module _ (pre : ℕ → List Barrier) where
             starts-grow (suc p) (length ops) (omega arith),
           )
 
-      pub lane-put : (buffer out : List ℕ) (i : ℕ) {out′ : List ℕ} → out ≡ over (firstBytes p) buffer
-          → i ≡ length (firstBytes p)
-          → out′ ≡ putAt out i (stepBytes (pre p) (getD ops p noOp) v) → out′ ≡ over (firstBytes (p + 1)) buffer
-      lane-put buffer out i are at-is put =
+      pub lane-put : {buffer out out′ : List ℕ} {i i′ : ℕ} → Puts buffer 0 (firstBytes p) out i
+          → Puts out i (stepBytes (pre p) (getD ops p noOp) v) out′ i′ → Puts buffer 0 (firstBytes (p + 1)) out′ i′
+      lane-put were put =
           let one : suc p ≡ p + 1 = omega arith in
-          put ∙ ap (λ l. putAt l i (stepBytes (pre p) (getD ops p noOp) v)) are
-          ∙ put-on (firstBytes p) (stepBytes (pre p) (getD ops p noOp) v) buffer i (sym at-is)
-          ∙ ap (λ z. over z buffer) (sym (first-suc p v h e)) ∙ ap (λ n. over (firstBytes n) buffer) one
-
-      pub lane-behind : (i : ℕ) {i′ : ℕ} → i ≡ length (firstBytes p)
-          → i′ ≡ i + length (stepBytes (pre p) (getD ops p noOp) v) → i′ ≡ length (firstBytes (p + 1))
-      lane-behind i at-is behind =
-          let one : suc p ≡ p + 1 = omega arith in
-          omega (
-            arith,
-            ap length (first-suc p v h e),
-            ap (λ n. length (firstBytes n)) one,
-            length-append (firstBytes p) (stepBytes (pre p) (getD ops p noOp) v),
-          )
+          puts-as (sym (first-suc p v h e) ∙ ap firstBytes one) (puts-on were put)
 
     -- all of them
     pub first-all : (p : ℕ) → length ops ≤ p → firstBytes p ≡ laneBytes level1 (sheet (placedBy pre 0 ops))

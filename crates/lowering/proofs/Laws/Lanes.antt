@@ -6,7 +6,7 @@ use mathlib.Core.List.{List, [], _∷_, _++_, map, append-assoc, append-nil}
 use native.Mathlib.Omega.{arith}
 use native.Mathlib.Decide.{decLe}
 use lib.ListN.{length, getD, take, drop, length-append, length-drop, length-map, length-take}
-use lib.Seq.{take-all, drop-drop, drop-length}
+use lib.Seq.{sets, sets-eq, take-all, drop-drop, drop-length}
 use borrow.Rule.Slice.PartMut.{putMid, postOf, post-is}
 use mir.Val.{Val}
 use denote.Laws.{Is}
@@ -22,30 +22,33 @@ use Rattle.sheet.specs.Levels.{level1, placed}
 use Rattle.sheet.specs.Bytes.{joined, laneBytes}
 use Rattle.lowering.specs.declared.plan.Plan.{Plan}
 use Rattle.lowering.specs.declared.plan.Plans.{Plans}
-use Rattle.lowering.specs.Put.{putAt, over, standing, placedBy}
+use Rattle.lowering.specs.Put.{standing, placedBy}
+use Rattle.sheet.specs.Bytes.{over}
 use Rattle.lowering.specs.Plan.{Planned, AllPlanned, noPlan, plannedBytes, writtenLanes, laneAt1, lanesBytes}
-use Rattle.lowering.proofs.Laws.Put.{put-length}
+use Rattle.sheet.specs.Put.{Puts}
+use Rattle.sheet.proofs.Laws.Put.{puts-front, puts-length}
 use Rattle.lowering.proofs.Laws.Lane.{first-all, first-length}
 use Rattle.lowering.proofs.Laws.Plan.{placed-is}
 
--- writing at the front of what begins at i
-pub over-part : (l xs : List ℕ) (i : ℕ) → take i l ++ over xs (drop i l) ≡ putAt l i xs
-over-part l xs i =
-    ap (λ z. take i l ++ (xs ++ z)) (drop-drop (length xs) i l)
-    ∙ sym (append-assoc (take i l) xs (drop (i + length xs) l))
-
--- a part `&mut l[i..]` that comes back with bytes written at its front
-pub part-back : (l xs ys : List ℕ) (i : ℕ) → i ≤ length l → ys ≡ over xs (take (length l - i) (drop i l))
-    → putMid i (length l - i) l ys ≡ putAt l i xs
-part-back l xs ys i h e =
-    let rest : take (length l - i) (drop i l) ≡ drop i l =
-    take-all (length l - i) (drop i l) (omega (arith, length-drop i l)) in
-    let none : postOf i (length l - i) l ≡ [] = post-is i (length l) l h ∙ drop-length l in
-    ap (λ z. take i l ++ (ys ++ z)) none ∙ ap (λ z. take i l ++ z) (append-nil ys ∙ e ∙ ap (over xs) rest)
-    ∙ over-part l xs i
-
 pub part-length : (l : List ℕ) (i : ℕ) → i ≤ length l → length (take (length l - i) (drop i l)) ≡ length l - i
 part-length l i h = omega (arith, length-take (length l - i) (drop i l), length-drop i l)
+
+-- a part `&mut l[i..]` that comes back with bytes written at its front
+pub part-back : (l xs : List ℕ) (i : ℕ) {ys : List ℕ} {n : ℕ} → i + length xs ≤ length l
+    → Puts (take (length l - i) (drop i l)) 0 xs ys n → Puts l i xs (putMid i (length l - i) l ys) (i + n)
+part-back l xs i {ys} h p =
+    let rest : take (length l - i) (drop i l) ≡ drop i l =
+    take-all (length l - i) (drop i l) (omega (arith, length-drop i l)) in
+    let none : postOf i (length l - i) l ≡ [] = post-is i (length l) l (omega arith) ∙ drop-length l in
+    let front : ys ≡ over xs (drop i l) =
+    puts-front (omega (arith, part-length l i (omega arith))) p ∙ ap (over xs) rest in
+    record {
+      bytes =
+          ap (λ z. take i l ++ (ys ++ z)) none ∙ ap (λ z. take i l ++ z) (append-nil ys ∙ front)
+          ∙ ap (λ z. take i l ++ (xs ++ z)) (drop-drop (length xs) i l)
+          ∙ sym (append-assoc (take i l) xs (drop (i + length xs) l)) ∙ sym (sets-eq xs l i h);
+      behind = omega (arith, p .behind);
+    }
 
 -- what a kernel's type says of its lanes
 pub lanes-room : (k : Kernel) (vs : List Val) → Is T.the-row k vs → length (k .lanes) ≡ 4
@@ -125,10 +128,6 @@ module _
   pub written-fits : (t : ℕ) → t ≤ 4 → 16 + length (writtenLanes (k .lanes) (r .lanes) t) ≤ length buffer
   written-fits t h = omega (arith, ap length all-written, written-grows (k .lanes) (r .lanes) t 4 h, room)
 
-  pub written-length : (t : ℕ) → t ≤ 4
-      → length (putAt buffer 16 (writtenLanes (k .lanes) (r .lanes) t)) ≡ length buffer
-  written-length t h = put-length buffer (writtenLanes (k .lanes) (r .lanes) t) 16 (written-fits t h)
-
   pub next-fits : (t : ℕ) → t < 4
       → 16 + length (writtenLanes (k .lanes) (r .lanes) t)
       + length (plannedBytes (getD (k .lanes) t pastLanes) (getD (r .lanes) t noPlan)) ≤ length buffer
@@ -141,10 +140,10 @@ module _
       )
 
   -- t lanes are written into `out`, up to `at`
-  pub now-fits : (t at : ℕ) (out : List ℕ) → t < 4 → at ≡ 16 + length (writtenLanes (k .lanes) (r .lanes) t)
-      → out ≡ putAt buffer 16 (writtenLanes (k .lanes) (r .lanes) t)
+  pub now-fits : (t : ℕ) {at : ℕ} {out : List ℕ} → t < 4
+      → Puts buffer 16 (writtenLanes (k .lanes) (r .lanes) t) out at
       → (length out ≡ length buffer)
       × (at + length (plannedBytes (getD (k .lanes) t pastLanes) (getD (r .lanes) t noPlan)) ≤ length out)
-  now-fits t at out h at-is out-is =
-      let same = ap length out-is ∙ written-length t (omega arith) in
-      (same, omega (arith, same, at-is, next-fits t h))
+  now-fits t h p =
+      let same = puts-length p in
+      (same, omega (arith, same, p .behind, next-fits t h))

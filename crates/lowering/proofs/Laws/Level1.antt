@@ -5,12 +5,12 @@ use mathlib.Core.Bool.{Bool}
 use mathlib.Core.List.{List, [], _∷_, _++_, map, append-assoc, append-nil, map-append}
 use native.Mathlib.Omega.{arith}
 use lib.ListN.{length, getD, replicate, length-map, List·getD-map}
+use lib.Seq.{sets}
 use Rattle.kernel.specs.declared.accepted.Op.{Op}
 use Rattle.kernel.specs.declared.accepted.Lane.{Lane}
 use Rattle.kernel.specs.declared.accepted.Kernel.{Kernel}
 use Rattle.kernel.specs.Accepted.{isVolatile}
 use Rattle.kernel.specs.Stored.{opsIn, noLane, storedLane, storedLanes, stored, pastLanes, filled}
-use Rattle.kernel.proofs.Laws.Stored.{ops-stored}
 use Rattle.placement.specs.Sheet.{start as startBy}
 use Rattle.sheet.specs.Layout.{Instr, sheet}
 use Rattle.sheet.specs.Levels.{level1, placed, sheetLanes}
@@ -19,12 +19,13 @@ use Rattle.sheet.proofs.Laws.Rows.{total, lane-bytes}
 use Rattle.sheet.proofs.Laws.Written.{written-all}
 use Rattle.sheet.proofs.Sizes.{sheet-size}
 use Rattle.lowering.specs.declared.plan.Plans.{Plans}
-use Rattle.lowering.specs.Put.{putAt, over, standing}
+use Rattle.lowering.specs.Put.{standing}
+use Rattle.sheet.specs.Bytes.{over}
 use Rattle.lowering.specs.Plan.{AllPlanned, noPlan, plannedBytes, laneAt1, lanesBytes}
 use Rattle.lowering.specs.Whole.{programIn, Whole, sizeIn, sheet1}
 use Rattle.lowering.proofs.Laws.Lanes.{planned-is, planned-length}
-use Rattle.lowering.proofs.Laws.Put.{put-front, put-put}
-use Rattle.lowering.proofs.Laws.Whole.{ops-are, len-is, count-is}
+use Rattle.sheet.proofs.Laws.Put.{sets-on, puts-front}
+use Rattle.lowering.proofs.Laws.Whole.{lanes-back, ops-are, len-is, count-is}
 
 -- what four lanes hold
 total-four : (xs : List (List Instr)) → length xs ≤ 4
@@ -46,15 +47,11 @@ none-added : (vol : ℕ → Bool) (n : ℕ) → joined (map (laneAt1 vol) (repli
 none-added vol zero = refl
 none-added vol (suc n) = none-added vol n
 
-stored-lanes : (vol : ℕ → Bool) (os : List (List Op)) (rs : List (List ℕ)) → length os ≡ length rs
-    → ((t : ℕ) → length (getD os t []) ≡ length (getD rs t []))
-    → lanesBytes vol (storedLanes os rs) ≡ joined (map (laneBytes level1) (map sheet (map (placed level1 vol) os)))
-unfolding storedLanes
-stored-lanes vol [] rs e each = refl
-stored-lanes vol (o ∷ os) [] e each = absurd (omega arith)
-stored-lanes vol (o ∷ os) (r ∷ rs) e each =
-    λ i. laneBytes level1 (sheet (placed level1 vol (ops-stored o r (each 0) i)))
-    ++ stored-lanes vol os rs (omega arith) (λ t. each (suc t)) i
+-- the lanes of a sheet, from operations that are held in lanes
+lanes-held : (vol : ℕ → Bool) (lanes : List Lane)
+    → lanesBytes vol lanes ≡ joined (map (laneBytes level1) (map sheet (map (placed level1 vol) (map opsIn lanes))))
+lanes-held vol [] = refl
+lanes-held vol (x ∷ lanes) = ap (λ z. laneAt1 vol x ++ z) (lanes-held vol lanes)
 
 module _ (k : Kernel) (w : Whole k) where
   pub lanes-bytes-are : lanesBytes (isVolatile (k .mask)) (k .lanes)
@@ -70,7 +67,9 @@ module _ (k : Kernel) (w : Whole k) where
       ∙ joined-append (map (laneAt1 vol) held) (map (laneAt1 vol) (replicate (4 - length held) noLane))
       ∙ ap (λ z. lanesBytes vol held ++ z) (none-added vol (4 - length held))
       ∙ append-nil (lanesBytes vol held)
-      ∙ stored-lanes vol os rs (sym (w .lawful .same-lanes)) (λ t. sym (w .lawful .same-length t))
+      ∙ lanes-held vol held
+      ∙ ap (λ z. joined (map (laneBytes level1) (map sheet (map (placed level1 vol) z))))
+      (lanes-back os rs (sym (w .lawful .same-lanes)) (λ t. sym (w .lawful .same-length t)) .0)
 
   module _ (r : Plans) (planned : AllPlanned k r) where
     -- the plan knows the size of each lane
@@ -138,15 +137,16 @@ module _ (k : Kernel) (w : Whole k) where
         room-by = omega (arith, ap length sheet-by)
 
         pub sheet-put : {l₁ l₂ l₃ : List ℕ} (buffer : List ℕ) → length (sheet1 k) ≤ length buffer
-            → l₁ ≡ putAt buffer 0 (k .count ∷ k .locations ∷ k .locks ∷ 1 ∷ word (k .mask) ++ 0 ∷ 0 ∷ [])
-            → l₂ ≡ putAt l₁ 8 (word a ++ (word b ++ (word c ++ (word d ++ []))))
-            → l₃ ≡ putAt l₂ 16 (lanesBytes (isVolatile (k .mask)) (k .lanes))
+            → l₁ ≡ sets buffer 0 (k .count ∷ k .locations ∷ k .locks ∷ 1 ∷ word (k .mask) ++ 0 ∷ 0 ∷ [])
+            → l₂ ≡ sets l₁ 8 (word a ++ (word b ++ (word c ++ (word d ++ []))))
+            → l₃ ≡ sets l₂ 16 (lanesBytes (isVolatile (k .mask)) (k .lanes))
             → l₃ ≡ writeInto (sheet1 k) buffer .1
         sheet-put buffer room e₁ e₂ e₃ =
             let first : List ℕ = k .count ∷ k .locations ∷ k .locks ∷ 1 ∷ word (k .mask) ++ 0 ∷ 0 ∷ [] in
             let counts : List ℕ = word a ++ (word b ++ (word c ++ (word d ++ []))) in
             let lanes = lanesBytes (isVolatile (k .mask)) (k .lanes) in
-            let two = e₂ ∙ ap (λ l. putAt l 8 counts) e₁ ∙ put-put buffer first counts 0 (omega arith) in
-            e₃ ∙ ap (λ l. putAt l 16 lanes) two ∙ put-put buffer (first ++ counts) lanes 0 (omega arith)
-            ∙ put-front buffer (first ++ counts ++ lanes) ∙ ap (λ bytes. over bytes buffer) sheet-by
+            let two = e₂ ∙ ap (λ l. sets l 8 counts) e₁ ∙ sets-on buffer 0 first counts in
+            e₃ ∙ ap (λ l. sets l 16 lanes) two ∙ sets-on buffer 0 (first ++ counts) lanes
+            ∙ ap (sets buffer 0) sheet-by
+            ∙ puts-front {l = buffer} {x = sheet1 k} room (record { bytes = refl; behind = refl })
             ∙ ap (λ x. x .1) (sym (written-all (sheet1 k) buffer room))

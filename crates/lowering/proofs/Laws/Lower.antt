@@ -1,8 +1,7 @@
 -- Laws of lowering a file: what a refusal answers, and what is held of an accepted kernel.
-use Prim.Native.Nat.{ℕ, _≤_, _<_}
+use Prim.Native.Nat.{ℕ}
 use mathlib.Core.Path.{_≡_, refl, sym, ap, _∙_, subst}
 use mathlib.Core.List.{List}
-use lib.ListN.{length}
 use borrow.Author.Tests.{ne-eqb}
 use Rattle.verdict.specs.declared.Loaded.{Loaded}
 use Rattle.kernel.specs.Accepted.{programOf}
@@ -10,10 +9,9 @@ use Rattle.kernel.specs.Lawful.{Lawful}
 use Rattle.verdict.specs.Verdict.{verdict, accepted, refusalOf, numberOf, recordOf}
 use Rattle.verdict.specs.Loaded.{loadedOf, kernelBy}
 use Rattle.verdict.proofs.Lawful.{accepted-lawful}
-use Rattle.sheet.specs.declared.Lowered.the-variants.{Wrote, Refuses}
+use Rattle.sheet.specs.declared.Lowered.the-variants.{Refuses}
 use Rattle.sheet.specs.Levels.{Level, level1}
 use Rattle.sheet.specs.Bytes.{sheetBytes, writeInto, lowerBy}
-use Rattle.sheet.proofs.Laws.Written.{short-untouched, written-all}
 use Rattle.lowering.specs.Whole.{programIn, Whole, sheet1}
 use Rattle.lowering.proofs.Laws.Whole.{program-stored, whole-stored}
 
@@ -40,16 +38,3 @@ module _ (s : List ℕ) where
         ∙ ap (λ v. writeInto (sheet1 (kernelBy v)) buffer) accepted-by
         ∙ ap (λ k. writeInto (sheetBytes level1 k) buffer) back
         ∙ ap (λ v. lowerBy level1 v buffer) (sym accepted-by)
-
--- the answer where the bytes do not fit, and where they do
-module _ (bytes buffer : List ℕ) {last : List ℕ} (e : last ≡ writeInto bytes buffer .1) where
-  pub answer-short : length buffer < length bytes → (Refuses 9 0, last) ≡ writeInto bytes buffer
-  answer-short h =
-      let short = short-untouched bytes buffer h in
-      (λ i. (Refuses 9 0, (e ∙ ap (λ x. x .1) short) i)) ∙ sym short
-
-  pub answer-full : {size : ℕ} → size ≡ length bytes → length bytes ≤ length buffer
-      → (Wrote size, last) ≡ writeInto bytes buffer
-  answer-full n h =
-      let full = written-all bytes buffer h in
-      (λ i. (Wrote (n i), (e ∙ ap (λ x. x .1) full) i)) ∙ sym full

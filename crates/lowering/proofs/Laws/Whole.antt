@@ -1,40 +1,29 @@
 -- Laws of the kernel that the code's struct holds.
-use Prim.Native.Nat.{ℕ, zero, suc, min, _≤_, _<_}
+use Prim.Native.Nat.{ℕ, suc, min, _<_}
 use mathlib.Core.Path.{_≡_, refl, sym, ap, _∙_, subst}
-use mathlib.Core.Bool.{Bool}
 use mathlib.Core.List.{List, [], _∷_, map}
-use mathlib.Core.Option.{some}
 use native.Mathlib.Omega.{arith}
-use native.Mathlib.Decide.{decLt}
-use lib.ListN.{length, getD, getElem?, take, length-map, List·getD-eq-default}
+use lib.ListN.{length, getD, take}
 use Rattle.kernel.specs.declared.accepted.Op.{Op}
-use Rattle.kernel.specs.declared.accepted.Op.the-variants.{Set, Add, Load, Store, Lock, Unlock, Skip}
-use Rattle.kernel.specs.declared.accepted.Lane.{Lane}
 use Rattle.kernel.specs.declared.accepted.Kernel.{Kernel}
-use Rattle.kernel.specs.Accepted.{Program, jump}
+use Rattle.kernel.specs.Accepted.{Program}
 use Rattle.kernel.specs.Stored.{opsIn, recordsIn, storedLane, storedLanes, stored, noLane, pastLanes, filled}
-use Rattle.kernel.specs.Lawful.{Lawful, LawfulLane, Bounded}
+use Rattle.kernel.specs.Lawful.{Lawful}
 use Rattle.kernel.proofs.Laws.Stored.{filled-front, ops-stored, records-stored, lanes-at}
 use Rattle.sheet.specs.Items.{TargetsWithin}
+use Rattle.sheet.proofs.Laws.Targets.{targets-within}
+use Rattle.lowering.specs.Plan.{Aimed}
 use Rattle.lowering.specs.Whole.{programIn, Whole}
 
--- records and operations of each lane are as many
-abbrev Paired : Program → Type 0
-Paired k =
-    (length (k .lanes) ≡ length (k .records))
-    × ((t : ℕ) → length (getD (k .lanes) t []) ≡ length (getD (k .records) t []))
+stored-length : (os : List (List Op)) (rs : List (List ℕ)) → length os ≡ length rs
+    → length (storedLanes os rs) ≡ length os
+unfolding storedLanes
+stored-length [] rs e = refl
+stored-length (o ∷ os) [] e = absurd (omega arith)
+stored-length (o ∷ os) (r ∷ rs) e = ap suc (stored-length os rs (omega arith))
 
-module _ (os : List (List Op)) (rs : List (List ℕ)) where
-  pub stored-length : length os ≡ length rs → length (storedLanes os rs) ≡ length os
-  unfolding storedLanes
-  stored-length e = go os rs e
-    where
-      go : (os : List (List Op)) (rs : List (List ℕ)) → length os ≡ length rs → length (storedLanes os rs) ≡ length os
-      go [] rs e = refl
-      go (o ∷ os) [] e = absurd (omega arith)
-      go (o ∷ os) (r ∷ rs) e = ap suc (go os rs (omega arith))
-
-lanes-back : (os : List (List Op)) (rs : List (List ℕ)) → length os ≡ length rs
+-- stored lanes are read back
+pub lanes-back : (os : List (List Op)) (rs : List (List ℕ)) → length os ≡ length rs
     → ((t : ℕ) → length (getD os t []) ≡ length (getD rs t []))
     → (map opsIn (storedLanes os rs) ≡ os) × (map recordsIn (storedLanes os rs) ≡ rs)
 unfolding storedLanes
@@ -93,25 +82,6 @@ module _ (k : Kernel) (w : Whole k) where
   unfolding stored
   count-is = ap (λ x. x .count) (w .same)
 
-  -- every target is a position of its lane, or its end
-  pub targets-within : (t : ℕ) → t < 4
-      → TargetsWithin (length (opsIn (getD (k .lanes) t pastLanes))) (opsIn (getD (k .lanes) t pastLanes))
-  targets-within t h =
-      subst (λ ops. TargetsWithin (length ops) ops) (sym (ops-are t h))
-      (within (getD (programIn k .lanes) t []) (w .lawful .lane t))
-    where
-      target : (ls ks n p x : ℕ) (o : Op) → jump o ≡ some x → Bounded ls ks n p o → x ≤ n
-      target ls ks n p x (Set a c) e b = let z : _≡_ {A = ℕ} 0 1 = cc in absurd (omega arith)
-      target ls ks n p x (Add a c) e b = let z : _≡_ {A = ℕ} 0 1 = cc in absurd (omega arith)
-      target ls ks n p x (Load a c) e b = let z : _≡_ {A = ℕ} 0 1 = cc in absurd (omega arith)
-      target ls ks n p x (Store a c) e b = let z : _≡_ {A = ℕ} 0 1 = cc in absurd (omega arith)
-      target ls ks n p x (Lock l) e b = let z : _≡_ {A = ℕ} 0 1 = cc in absurd (omega arith)
-      target ls ks n p x (Unlock l) e b = let z : _≡_ {A = ℕ} 0 1 = cc in absurd (omega arith)
-      target ls ks n p x (Skip a q) e b =
-          let s : q ≡ x = cc in
-          omega (arith, b .2)
-
-      within : (ops : List Op) → LawfulLane (programIn k .locations) (programIn k .locks) ops
-          → TargetsWithin (length ops) ops
-      within ops law p o x e j =
-          target (programIn k .locations) (programIn k .locks) (length ops) p x o j (law .bounded p o e)
+  pub targets-aimed : (t : ℕ) → t < 4 → Aimed (getD (k .lanes) t pastLanes)
+  targets-aimed t h =
+      subst (λ ops. TargetsWithin (length ops) ops) (sym (ops-are t h)) (targets-within (w .lawful .lane t))

@@ -1,11 +1,11 @@
--- Laws of a lane's turn on lent rows: a wait, a refusal, a move that is done.
+-- Laws of a lane's turn on borrowed rows: a wait, a refusal, a move that is done.
 use Prim.Native.Nat.{ℕ, _+_, _-_}
 use mathlib.Core.Path.{_≡_, refl, subst}
 use mathlib.Core.Option.{Option}
 use native.Mathlib.Omega.{arith}
 use borrow.Author.Tests.{le-ltb}
 use Rattle.machine.specs.Entries.{release}
-use Rattle.machine.specs.Step.{Control, Core, waits, refuses, passes, does}
+use Rattle.machine.specs.Step.{Control, Core, waits, refuses, does}
 use Rattle.machine.specs.State.{Lane, laneOf}
 use Rattle.running.specs.declared.step.Moved.the-variants.{Waited, Done, ReleaseNotHeld}
 use Rattle.running.specs.Lanes.{entryOf}
@@ -21,14 +21,6 @@ pub took-does : (s : Held) (t : ℕ) (k : Control) (c : Core) (v : Option ℕ) (
     → Became (s .rows) t (laneOf k c) q
     → Took s t (does k c v) Done (storeOf q (c .memory) (c .locks))
 took-does s t k c v q b = record {
-  answer = refl;
-  sized = b .sized;
-  state = λ n. λ i. record { lanes = b .lanes n i; memory = c .memory; locks = c .locks };
-}
-
-pub took-passes : (s : Held) (t : ℕ) (k : Control) (c : Core) (q : Rows) → Became (s .rows) t (laneOf k c) q
-    → Took s t (passes k c) Done (storeOf q (c .memory) (c .locks))
-took-passes s t k c q b = record {
   answer = refl;
   sized = b .sized;
   state = λ n. λ i. record { lanes = b .lanes n i; memory = c .memory; locks = c .locks };

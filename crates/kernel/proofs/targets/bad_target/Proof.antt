@@ -5,12 +5,12 @@ use mathlib.Core.Path.{_≡_, _∙_, sym, ap}
 use native.Mathlib.Omega.{arith}
 use Rattle.kernel.specs.Search.{lowest}
 use Rattle.kernel.proofs.Laws.Search.{search-start, search-on, search-found, search-none}
-use Rattle.kernel.specs.Targets.{strayTarget, badTarget}
+use Rattle.kernel.specs.Targets.{unreachableTarget, badTarget}
 use Rattle.kernel.proofs.targets.bad_target.Statement.{statement}
 use Rattle.kernel.proofs.targets.bad_target.Tie as tie
 
 abbrev Inv-loop : tie.InvT-loop
-Inv-loop s e i₀ i = (e ≤ 65536) × (lowest (strayTarget s) i (e - i) ≡ badTarget s)
+Inv-loop s e i₀ i = (e ≤ 65536) × (lowest (unreachableTarget s) i (e - i) ≡ badTarget s)
 
 abbrev μ-loop : tie.MeasureT-loop
 μ-loop s e i₀ i = e - i
@@ -25,12 +25,13 @@ loop-holds : tie.Need-loop-holds Inv-loop μ-loop
 unfolding badTarget
 loop-holds c = (omega arith, search-start _ 1 (c .word-at .result) ∙ ap (lowest _ 1) (c .word-at .ensures .0))
 
-stray-target-requires : tie.Need-stray-target-requires Inv-loop μ-loop
-stray-target-requires c κs = search needs
+unreachable-target-requires : tie.Need-unreachable-target-requires Inv-loop μ-loop
+unreachable-target-requires c κs = search needs
 
 returns : tie.Need-returns Inv-loop μ-loop
 returns c =
-    search-found _ _ _ (c .before .before .loop-test .taken) (sym (c .before .stray-target .ensures) ∙ c .if1 .taken)
+    search-found _ _ _ (c .before .before .loop-test .taken)
+    (sym (c .before .unreachable-target .ensures) ∙ c .if1 .taken)
     (c .before .before .before .loop .inv .1)
 
 add-i : tie.Need-add-i Inv-loop μ-loop
@@ -42,7 +43,7 @@ loop-less c = omega arith
 loop-again : tie.Need-loop-again Inv-loop μ-loop
 loop-again c = (
   omega arith,
-  search-on _ _ _ (c .before .before .loop-test .taken) (sym (c .before .stray-target .ensures) ∙ c .if1 .left)
+  search-on _ _ _ (c .before .before .loop-test .taken) (sym (c .before .unreachable-target .ensures) ∙ c .if1 .left)
       (c .before .before .before .loop .inv .1),
 )
 
@@ -58,7 +59,7 @@ bad-target-spec =
     word-at-requires
     add-e
     loop-holds
-    stray-target-requires
+    unreachable-target-requires
     returns
     add-i
     loop-less

@@ -1,6 +1,6 @@
 -- `listing::line::put_instr` meets its contract.
 use Rattle.listing.specs.Line.{instrText}
-use Rattle.listing.proofs.Laws.Put.{puts-as}
+use Rattle.sheet.proofs.Laws.Put.{puts-as}
 use Rattle.listing.proofs.Laws.Line.{code-text, other-text}
 use borrow.Author.Needs.{needs}
 use Rattle.listing.proofs.line.put_instr.Statement.{statement}

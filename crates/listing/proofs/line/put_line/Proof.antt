@@ -2,7 +2,7 @@
 use mathlib.Core.Path.{ap}
 use native.Mathlib.Omega.{arith}
 use Rattle.listing.specs.Line.{lineOf}
-use Rattle.listing.proofs.Laws.Put.{puts-as, puts-on}
+use Rattle.sheet.proofs.Laws.Put.{puts-as, puts-on}
 use Rattle.listing.proofs.Laws.Line.{pair-few, instr-few, line-few, row-at}
 use borrow.Author.Needs.{needs}
 use Rattle.listing.proofs.line.put_line.Statement.{statement}

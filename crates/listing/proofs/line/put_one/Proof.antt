@@ -2,7 +2,7 @@
 use native.Mathlib.Omega.{arith}
 use lib.ListN.{length-append}
 use Rattle.listing.specs.Decimal.{decimal}
-use Rattle.listing.proofs.Laws.Put.{puts-on}
+use Rattle.sheet.proofs.Laws.Put.{puts-on}
 use Rattle.listing.proofs.Laws.Decimal.{decimal-few}
 use borrow.Author.Needs.{needs}
 use Rattle.listing.proofs.line.put_one.Statement.{statement}

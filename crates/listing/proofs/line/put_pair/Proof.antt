@@ -1,6 +1,6 @@
 -- `listing::line::put_pair` meets its contract.
 use native.Mathlib.Omega.{arith}
-use Rattle.listing.proofs.Laws.Put.{puts-on}
+use Rattle.sheet.proofs.Laws.Put.{puts-on}
 use Rattle.listing.proofs.Laws.Decimal.{decimal-few}
 use borrow.Author.Needs.{needs}
 use Rattle.listing.proofs.line.put_pair.Statement.{statement}

@@ -1,5 +1,5 @@
 -- `listing::line::put_two` meets its contract.
-use Rattle.listing.proofs.Laws.Put.{puts-on}
+use Rattle.sheet.proofs.Laws.Put.{puts-on}
 use borrow.Author.Needs.{needs}
 use Rattle.listing.proofs.line.put_two.Statement.{statement}
 use Rattle.listing.proofs.line.put_two.Tie as tie

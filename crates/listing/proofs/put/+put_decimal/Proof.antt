@@ -3,7 +3,7 @@ use borrow.Author.Needs.{needs}
 use mathlib.Core.Path.{sym, ap, _∙_}
 use mathlib.Core.List.{[], _∷_}
 use native.Mathlib.Omega.{arith}
-use Rattle.listing.proofs.Laws.Put.{puts-as, puts-on}
+use Rattle.sheet.proofs.Laws.Put.{puts-as, puts-on}
 use Rattle.listing.proofs.Laws.Decimal.{decimal-one, decimal-more, decimal-room}
 use Prim.Native.Nat.{ℕ, _<_}
 use borrow.Fn.Kinds.{In}

@@ -4,8 +4,8 @@ use mathlib.Core.Path.{_≡_, refl, _∙_}
 use native.Mathlib.Omega.{arith}
 use lib.ListN.{length, take}
 use lib.Seq.{take-all}
-use Rattle.listing.specs.Put.{Puts}
-use Rattle.listing.proofs.Laws.Put.{puts-none, puts-as, puts-end, puts-length, puts-next}
+use Rattle.sheet.specs.Put.{Puts}
+use Rattle.sheet.proofs.Laws.Put.{puts-none, puts-as, puts-end, puts-length, puts-next}
 use borrow.Author.Needs.{needs}
 use Rattle.listing.proofs.put.put_text.Statement.{statement}
 use Rattle.listing.proofs.put.put_text.Tie as tie

@@ -1,5 +1,6 @@
 -- `listing::whole::list_refusal` meets its contract.
-use Rattle.listing.proofs.Laws.Listed.{listed-short, listed-whole}
+use Rattle.sheet.proofs.Laws.Put.{measured-short, measured-whole}
+use native.Mathlib.Omega.{arith}
 use borrow.Author.Needs.{needs}
 use Rattle.listing.proofs.whole.list_refusal.Statement.{statement}
 use Rattle.listing.proofs.whole.list_refusal.Tie as tie
@@ -13,7 +14,7 @@ put-refusal-requires c κs = search needs
 returns : tie.Need-returns
 returns c =
     let c4 = c .before .before .before .before in
-    listed-short (c4 .before .args .out .now) (c .before .before .put-refusal .ensures) (c .if1 .taken)
+    measured-short (c .before .before .put-refusal .ensures) (c4 .before .args .out .now) (omega (arith, c .if1 .taken))
 
 put-refusal-requires-2 : tie.Need-put-refusal-requires-2
 put-refusal-requires-2 c κs = search needs
@@ -24,7 +25,8 @@ same-length c = search needs
 returns-2 : tie.Need-returns-2
 returns-2 c =
     let c4 = c .before .before .before .before in
-    listed-whole (c4 .before .before .put-refusal .ensures) (c4 .if1 .left) (c .before .before .put-refusal2 .ensures)
+    measured-whole (c4 .before .before .put-refusal .ensures) (omega (arith, c4 .if1 .left))
+    (c .before .before .put-refusal2 .ensures)
 
 pub list-refusal-spec : {M : Type 1} → statement M
 list-refusal-spec =

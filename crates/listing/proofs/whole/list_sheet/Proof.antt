@@ -1,5 +1,6 @@
 -- `listing::whole::list_sheet` meets its contract.
-use Rattle.listing.proofs.Laws.Listed.{listed-short, listed-whole}
+use Rattle.sheet.proofs.Laws.Put.{measured-short, measured-whole}
+use native.Mathlib.Omega.{arith}
 use borrow.Author.Needs.{needs}
 use Rattle.listing.proofs.whole.list_sheet.Statement.{statement}
 use Rattle.listing.proofs.whole.list_sheet.Tie as tie
@@ -13,7 +14,8 @@ put-sheet-requires c κs = search needs
 returns : tie.Need-returns
 returns c =
     let c4 = c .before .before .before .before in
-    listed-short (c4 .before .before .args .out .now) (c .before .before .put-sheet .ensures) (c .if1 .taken)
+    measured-short (c .before .before .put-sheet .ensures) (c4 .before .before .args .out .now)
+    (omega (arith, c .if1 .taken))
 
 put-sheet-requires-2 : tie.Need-put-sheet-requires-2
 put-sheet-requires-2 c κs = search needs
@@ -24,7 +26,8 @@ same-length c = search needs
 returns-2 : tie.Need-returns-2
 returns-2 c =
     let c4 = c .before .before .before .before in
-    listed-whole (c4 .before .before .put-sheet .ensures) (c4 .if1 .left) (c .before .before .put-sheet2 .ensures)
+    measured-whole (c4 .before .before .put-sheet .ensures) (omega (arith, c4 .if1 .left))
+    (c .before .before .put-sheet2 .ensures)
 
 pub list-sheet-spec : {M : Type 1} → statement M
 list-sheet-spec =

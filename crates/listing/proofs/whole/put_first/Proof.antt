@@ -1,7 +1,7 @@
 -- `listing::whole::put_first` meets its contract.
 use native.Mathlib.Omega.{arith}
 use Rattle.listing.specs.Line.{firstLine}
-use Rattle.listing.proofs.Laws.Put.{puts-as, puts-on}
+use Rattle.sheet.proofs.Laws.Put.{puts-as, puts-on}
 use Rattle.listing.proofs.Laws.Line.{first-same}
 use Rattle.listing.proofs.Laws.Sheet.{ones-16}
 use borrow.Author.Needs.{needs}

@@ -5,9 +5,9 @@ use native.Mathlib.Omega.{arith}
 use Prim.Native.Nat.{_*_, _-_, _≤_}
 use lib.ListN.{length, drop}
 use Rattle.sheet.specs.Read.{readRows}
-use Rattle.listing.specs.Put.{Puts}
+use Rattle.sheet.specs.Put.{Puts}
 use Rattle.listing.specs.Listing.{laneLines}
-use Rattle.listing.proofs.Laws.Put.{puts-none, puts-as, puts-on, puts-length}
+use Rattle.sheet.proofs.Laws.Put.{puts-none, puts-as, puts-on, puts-length}
 use Rattle.listing.proofs.Laws.Sheet.{lane-next}
 use Rattle.listing.proofs.whole.put_lane.Statement.{statement}
 use Rattle.listing.proofs.whole.put_lane.Tie as tie

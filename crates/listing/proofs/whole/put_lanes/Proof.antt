@@ -6,9 +6,9 @@ use Prim.Native.Nat.{_*_, _-_, _≤_, _<_}
 use lib.ListN.{length, take, drop}
 use lib.Seq.{take-all}
 use Rattle.sheet.specs.Read.{readLanes, readSheet, counts}
-use Rattle.listing.specs.Put.{Puts}
+use Rattle.sheet.specs.Put.{Puts}
 use Rattle.listing.specs.Listing.{sheetLines}
-use Rattle.listing.proofs.Laws.Put.{puts-none, puts-as, puts-on, puts-length}
+use Rattle.sheet.proofs.Laws.Put.{puts-none, puts-as, puts-on, puts-length}
 use Rattle.listing.proofs.Laws.Sheet.{total, lanes-next, from-next}
 use borrow.Author.Needs.{needs}
 use Rattle.listing.proofs.whole.put_lanes.Statement.{statement}

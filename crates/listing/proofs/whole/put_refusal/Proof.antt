@@ -1,6 +1,6 @@
 -- `listing::whole::put_refusal` meets its contract.
 use Rattle.listing.specs.Line.{refusalLine}
-use Rattle.listing.proofs.Laws.Put.{puts-on}
+use Rattle.sheet.proofs.Laws.Put.{puts-on}
 use borrow.Author.Needs.{needs}
 use Rattle.listing.proofs.whole.put_refusal.Statement.{statement}
 use Rattle.listing.proofs.whole.put_refusal.Tie as tie

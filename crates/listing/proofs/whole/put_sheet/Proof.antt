@@ -1,6 +1,6 @@
 -- `listing::whole::put_sheet` meets its contract.
 use Rattle.listing.specs.Listing.{sheetText}
-use Rattle.listing.proofs.Laws.Put.{puts-on}
+use Rattle.sheet.proofs.Laws.Put.{puts-on}
 use borrow.Author.Needs.{needs}
 use Rattle.listing.proofs.whole.put_sheet.Statement.{statement}
 use Rattle.listing.proofs.whole.put_sheet.Tie as tie

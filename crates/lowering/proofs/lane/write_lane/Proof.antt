@@ -9,18 +9,17 @@ use Rattle.kernel.proofs.Laws.Sets.{slots-room, slots-cut, cut-length, cut-at}
 use Rattle.placement.specs.Sheet.{start as startBy}
 use Rattle.placement.specs.Place.{chosen}
 use Rattle.sheet.specs.Items.{TargetsWithin}
-use Rattle.lowering.specs.Put.{putAt, over, marked, standing, stepBytes, StartsTo}
+use Rattle.lowering.specs.Put.{marked, standing, stepBytes, StartsTo}
+use Rattle.sheet.specs.Put.{Puts}
+use Rattle.sheet.proofs.Laws.Put.{puts-none, puts-as, puts-length}
 use Rattle.lowering.proofs.Laws.Lane.{firstBytes, first-all, first-length, target-aims, lane-room, lane-put}
-use Rattle.lowering.proofs.Laws.Lane.{lane-behind}
-use Rattle.lowering.proofs.Laws.Put.{over-length}
 use borrow.Author.Needs.{needs}
 use Rattle.lowering.proofs.lane.write_lane.Statement.{statement}
 use Rattle.lowering.proofs.lane.write_lane.Tie as tie
 
 abbrev Inv-loop : tie.InvT-loop
 Inv-loop out₀ placement slots positions n at₀ p₀ out at p =
-    (p ≤ n) × (at ≡ length (firstBytes (standing placement) (map (λ x. x .op) (take n slots)) p))
-    × (out ≡ over (firstBytes (standing placement) (map (λ x. x .op) (take n slots)) p) out₀)
+    (p ≤ n) × Puts out₀ 0 (firstBytes (standing placement) (map (λ x. x .op) (take n slots)) p) out at
 
 abbrev μ-loop : tie.MeasureT-loop
 μ-loop out₀ placement slots positions n at₀ p₀ out at p = n - p
@@ -29,7 +28,7 @@ count-requires : tie.Need-count-requires Inv-loop μ-loop
 count-requires c κs = search needs
 
 loop-holds : tie.Need-loop-holds Inv-loop μ-loop
-loop-holds c = (omega arith, refl, refl)
+loop-holds c = (omega arith, puts-none)
 
 mul-slot : tie.Need-mul-slot Inv-loop μ-loop
 mul-slot c = omega arith
@@ -72,9 +71,7 @@ put-step-requires c κs =
     let fits : 8 * startBy pre (length ops) ≤ length (a .args .out .now) =
     omega (arith, all-length, rw whole at (a .pre .1 .1)) in
     let room-is = lane-room pre ops (l .p) v inside aims in
-    let long = over-length (firstBytes pre ops (l .p)) (a .args .out .now) (omega (arith, room-is, fits)) in
-    let out-is = ap length (l .inv .2) ∙ long in
-    rw (c .marks-at .ensures, ← op-is) (omega (arith, room-is, fits, out-is, l .inv .1))
+    rw (c .marks-at .ensures, ← op-is) (omega (arith, room-is, fits, puts-length (l .inv .1), l .inv .1 .behind))
 
 add-p : tie.Need-add-p Inv-loop μ-loop
 add-p c = omega arith
@@ -106,39 +103,15 @@ loop-again c =
     let targets : TargetsWithin n ops = subst (λ m. TargetsWithin m ops) len-is (rw whole at (a .pre .1 .0)) in
     let aims = target-aims pre ops n (a .args .starts .at) (l .p) v (sym len-is) starts targets inside
     (rw op-is (c4 .before .target-of .ensures)) in
-    let all-length =
-    ap length (sym (first-all pre ops (length ops) (omega arith)))
-    ∙ first-length pre ops (length ops) (omega arith) in
-    let fits : 8 * startBy pre (length ops) ≤ length (a .args .out .now) =
-    omega (arith, all-length, rw whole at (a .pre .1 .1)) in
-    let room-is = lane-room pre ops (l .p) v inside aims in
     let step : stepBytes (chosen (marked (c .before .before .before .marks-at .result)))
     (getD slots (l .p) noSlot .op) v ≡ stepBytes (pre (l .p)) (getD ops (l .p) noOp) v =
     (λ j. stepBytes (chosen (marked (c .before .before .before .marks-at .ensures j))) (sym op-is j) v) in (
       omega arith,
-      lane-behind pre ops (l .p) v inside aims (l .at) (l .inv .1)
-          (c .before .before .put-step .ensures .1 ∙ ap (λ z. l .at + length z) step),
-      lane-put pre ops (l .p) v inside aims (a .args .out .now) (l .out) (l .at) (l .inv .2) (l .inv .1)
-          (c .before .before .put-step .ensures .0 ∙ ap (putAt (l .out) (l .at)) step),
+      lane-put pre ops (l .p) v inside aims (l .inv .1) (puts-as step (c .before .before .put-step .ensures)),
     )
 
 same-length : tie.Need-same-length Inv-loop μ-loop
-same-length c =
-    let c4 = c .before .before .before .before in
-    let a = c4 .before .before in
-    let n = c .before .before .count .result in
-    let slots = a .args .lane .slots in
-    let room = slots-room (a .args .lane) _ (a .good .1 .0) in
-    let small : n ≤ length slots = omega (arith, room) in
-    let ops = map (λ x. x .op) (take n slots) in
-    let pre = standing (a .args .placement) in
-    let len-is : length ops ≡ n = cut-length (λ x. x .op) n slots small in
-    let l = c .before .loop in
-    let whole : opsIn (a .args .lane) ≡ ops =
-    slots-cut (λ x. x .op) (a .args .lane) n (c .before .before .count .ensures) room in
-    let all = ap length (first-all pre ops (l .p) (omega (arith, len-is, c .loop-test .left))) in
-    ap length (l .inv .2)
-    ∙ over-length (firstBytes pre ops (l .p)) (a .args .out .now) (omega (arith, all, rw whole at (a .pre .1 .1)))
+same-length c = puts-length (c .before .loop .inv .1)
 
 returns : tie.Need-returns Inv-loop μ-loop
 returns c =
@@ -155,7 +128,7 @@ returns c =
     let whole : opsIn (a .args .lane) ≡ ops =
     slots-cut (λ x. x .op) (a .args .lane) n (c .before .before .count .ensures) room in
     let all = first-all pre ops (l .p) (omega (arith, len-is, c .loop-test .left)) in
-    rw whole (l .inv .2 ∙ ap (λ z. over z (a .args .out .now)) all, l .inv .1 ∙ ap length all)
+    rw whole (puts-as all (l .inv .1))
 
 pub write-lane-spec : {M : Type 1} → statement M
 write-lane-spec =

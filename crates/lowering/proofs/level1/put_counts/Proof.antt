@@ -59,9 +59,7 @@ same-length : tie.Need-same-length
 same-length c = simp length-set
 
 returns : tie.Need-returns
-returns c =
-    let room : 8 + 8 ≤ length (c .args .out .now) = omega arith in
-    eight (c .args .out .now) 8 _ _ _ _ _ _ _ _ room
+returns c = eight (c .args .out .now) 8 _ _ _ _ _ _ _ _
 
 pub put-counts-spec : {M : Type 1} → statement M
 put-counts-spec =

@@ -41,9 +41,7 @@ same-length : tie.Need-same-length
 same-length c = simp length-set
 
 returns : tie.Need-returns
-returns c =
-    let room : 0 + 8 ≤ length (c .args .out .now) = omega arith in
-    eight (c .args .out .now) 0 _ _ _ _ _ _ _ _ room
+returns c = eight (c .args .out .now) 0 _ _ _ _ _ _ _ _
 
 pub put-first-spec : {M : Type 1} → statement M
 put-first-spec =

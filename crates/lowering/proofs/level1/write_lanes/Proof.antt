@@ -1,29 +1,30 @@
 -- `lowering::level1::write_lanes` meets its contract. What is written is the bytes of the lanes passed.
 use Prim.Native.Nat.{_≤_, _<_, _-_, _+_, _*_}
-use lib.ListN.{length, getD, length-append}
+use lib.ListN.{length, getD}
+use lib.Seq.{sets}
 use mathlib.Core.List.{_++_}
 use mathlib.Core.Path.{_≡_, refl, sym, ap, _∙_}
 use native.Mathlib.Omega.{arith}
 use Rattle.kernel.specs.Stored.{pastLanes}
-use Rattle.lowering.specs.Put.{putAt}
+use Rattle.sheet.specs.Put.{Puts}
+use Rattle.sheet.proofs.Laws.Put.{puts-none, puts-as, puts-on, puts-length}
 use Rattle.lowering.specs.Plan.{noPlan, plannedBytes, writtenLanes}
-use Rattle.lowering.proofs.Laws.Put.{put-none, put-put}
 use Rattle.lowering.proofs.Laws.Lanes.{part-back, part-length, written-suc}
-use Rattle.lowering.proofs.Laws.Lanes.{all-written, written-length, now-fits}
+use Rattle.lowering.proofs.Laws.Lanes.{all-written, now-fits}
 use borrow.Author.Needs.{needs}
 use Rattle.lowering.proofs.level1.write_lanes.Statement.{statement}
 use Rattle.lowering.proofs.level1.write_lanes.Tie as tie
 
 abbrev Inv-loop : tie.InvT-loop
 Inv-loop out₀ lanes all at₀ t₀ out at t =
-    (t ≤ 4) × (at ≡ 16 + length (writtenLanes lanes all t)) × (out ≡ putAt out₀ 16 (writtenLanes lanes all t))
+    (t ≤ 4) × Puts out₀ 16 (writtenLanes lanes all t) out at
 
 abbrev μ-loop : tie.MeasureT-loop
 μ-loop out₀ lanes all at₀ t₀ out at t = 4 - t
 
 loop-holds : tie.Need-loop-holds Inv-loop μ-loop
 unfolding writtenLanes
-loop-holds c = (omega arith, refl, sym (put-none _ 16))
+loop-holds c = (omega arith, puts-none)
 
 mul-lane : tie.Need-mul-lane Inv-loop μ-loop
 mul-lane c = omega arith
@@ -44,7 +45,7 @@ sub-write-lane c =
     let l = here .loop in
     let fits =
     now-fits (a .args .kernel) (a .args .plans) _ (a .good .1 .0) (a .pre .0) (a .args .out .now) (a .pre .1 .1) (l .t)
-    (l .at) (l .out) (omega arith) (l .inv .1) (l .inv .2) in
+    (omega arith) (l .inv .1) in
     omega (arith, fits .1)
 
 part-write-lane-start : tie.Need-part-write-lane-start Inv-loop μ-loop
@@ -54,7 +55,7 @@ part-write-lane-start c =
     let l = here .loop in
     let fits =
     now-fits (a .args .kernel) (a .args .plans) _ (a .good .1 .0) (a .pre .0) (a .args .out .now) (a .pre .1 .1) (l .t)
-    (l .at) (l .out) (omega arith) (l .inv .1) (l .inv .2) in
+    (omega arith) (l .inv .1) in
     omega (arith, fits .1)
 
 part-write-lane-end : tie.Need-part-write-lane-end Inv-loop μ-loop
@@ -67,7 +68,7 @@ write-lane-requires c κs =
     let l = here .loop in
     let fits =
     now-fits (a .args .kernel) (a .args .plans) _ (a .good .1 .0) (a .pre .0) (a .args .out .now) (a .pre .1 .1) (l .t)
-    (l .at) (l .out) (omega arith) (l .inv .1) (l .inv .2) in
+    (omega arith) (l .inv .1) in
     let inside : l .at ≤ length (l .out) = omega (arith, fits .1) in (
       a .pre .0 (l .t) (omega arith) .starts,
       (a .pre .1 .0 (l .t) (omega arith), omega (arith, part-length (l .out) (l .at) inside, fits .1)),
@@ -80,8 +81,8 @@ add-at c =
     let l = here .loop in
     let fits =
     now-fits (a .args .kernel) (a .args .plans) _ (a .good .1 .0) (a .pre .0) (a .args .out .now) (a .pre .1 .1) (l .t)
-    (l .at) (l .out) (omega arith) (l .inv .1) (l .inv .2) in
-    omega (arith, c .before .before .write-lane .ensures .1, fits .0, fits .1, a .good)
+    (omega arith) (l .inv .1) in
+    omega (arith, c .before .before .write-lane .ensures .behind, fits .0, fits .1, a .good)
 
 add-t : tie.Need-add-t Inv-loop μ-loop
 add-t c = omega arith
@@ -96,37 +97,24 @@ loop-again c =
     let l = here .loop in
     let fits =
     now-fits (a .args .kernel) (a .args .plans) _ (a .good .1 .0) (a .pre .0) (a .args .out .now) (a .pre .1 .1) (l .t)
-    (l .at) (l .out) (omega arith) (l .inv .1) (l .inv .2) in
+    (omega arith) (l .inv .1) in
     let lanes = a .args .kernel .lanes in
     let plans = a .args .plans .lanes in
     let lane = plannedBytes (getD lanes (l .t) pastLanes) (getD plans (l .t) noPlan) in
-    let inside : l .at ≤ length (l .out) = omega (arith, fits .1) in
-    let w = c .before .before .write-lane .ensures in
-    let longer = ap length (written-suc lanes plans (l .t)) ∙ length-append (writtenLanes lanes plans (l .t)) lane in (
-      omega arith,
-      omega (arith, w .1, longer, l .inv .1),
-      part-back (l .out) lane _ (l .at) inside (w .0)
-          ∙ (λ j. putAt (l .inv .2 j) (l .inv .1 j) lane)
-          ∙ put-put (a .args .out .now) (writtenLanes lanes plans (l .t)) lane 16 (omega (arith, a .pre .1 .1))
-          ∙ ap (putAt (a .args .out .now) 16) (sym (written-suc lanes plans (l .t))),
-    )
+    let wrote = part-back (l .out) lane (l .at) (fits .1) (c .before .before .write-lane .ensures) in
+    (omega arith, puts-as (sym (written-suc lanes plans (l .t))) (puts-on (l .inv .1) wrote))
 
 same-length : tie.Need-same-length Inv-loop μ-loop
-same-length c =
-    let a = c .before .before .before .before .before in
-    let l = c .before .loop in
-    ap length (l .inv .2)
-    ∙ written-length (a .args .kernel) (a .args .plans) _ (a .good .1 .0) (a .pre .0) (a .args .out .now) (a .pre .1 .1)
-    (l .t) (l .inv .0)
+same-length c = puts-length (c .before .loop .inv .1)
 
 returns : tie.Need-returns Inv-loop μ-loop
 returns c =
     let a = c .before .before .before .before .before in
     let l = c .before .loop in
     let last : l .t ≡ 4 = omega arith in
-    l .inv .2
-    ∙ ap (λ n. putAt (a .args .out .now) 16 (writtenLanes (a .args .kernel .lanes) (a .args .plans .lanes) n)) last
-    ∙ ap (putAt (a .args .out .now) 16)
+    l .inv .1 .bytes
+    ∙ ap (λ n. sets (a .args .out .now) 16 (writtenLanes (a .args .kernel .lanes) (a .args .plans .lanes) n)) last
+    ∙ ap (sets (a .args .out .now) 16)
     (all-written (a .args .kernel) (a .args .plans) _ (a .good .1 .0) (a .pre .0) (a .args .out .now) (a .pre .1 .1))
 
 pub write-lanes-spec : {M : Type 1} → statement M

@@ -6,7 +6,7 @@ use Rattle.sheet.specs.Levels.{level1}
 use Rattle.sheet.proofs.Sizes.{sheet-small}
 use Rattle.sheet.proofs.Laws.Written.{short-untouched}
 use Rattle.lowering.specs.Whole.{programIn, sheet1}
-use Rattle.lowering.proofs.Laws.Whole.{count-is, targets-within}
+use Rattle.lowering.proofs.Laws.Whole.{count-is, targets-aimed}
 use Rattle.lowering.proofs.Laws.Level1.{size-by, room-by, sheet-put}
 use borrow.Author.Needs.{needs}
 use Rattle.lowering.proofs.level1.write_level1.Statement.{statement}
@@ -133,7 +133,7 @@ write-lanes-requires c κs =
     let room =
     room-by k (a .pre) (p .result) (p .ensures) _ _ _ _ (s .before .before .before .size-at .ensures)
     (s .before .before .size-at2 .ensures) (s .before .size-at3 .ensures) (s .size-at4 .ensures) in
-    (p .ensures, (targets-within k (a .pre), omega (arith, size, room, c12 .if1 .left)))
+    (p .ensures, (targets-aimed k (a .pre), omega (arith, size, room, c12 .if1 .left)))
 
 same-length : tie.Need-same-length
 same-length c = search needs

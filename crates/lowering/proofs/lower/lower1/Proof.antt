@@ -10,9 +10,9 @@ use Rattle.sheet.specs.declared.Lowered.{Lowered}
 use Rattle.sheet.specs.declared.Lowered.the-variants.{Wrote, Refuses}
 use Rattle.sheet.specs.Levels.{level1}
 use Rattle.sheet.specs.Bytes.{writeInto}
-use Rattle.sheet.proofs.Laws.Written.{written-length}
+use Rattle.sheet.proofs.Laws.Written.{written-length, answer-short, answer-full}
 use Rattle.lowering.specs.Whole.{Whole, sheet1}
-use Rattle.lowering.proofs.Laws.Lower.{refused-by, whole-loaded, lowered-by, answer-short, answer-full}
+use Rattle.lowering.proofs.Laws.Lower.{refused-by, whole-loaded, lowered-by}
 use borrow.Author.Needs.{needs}
 use Rattle.lowering.proofs.lower.lower1.Statement.{statement}
 use Rattle.lowering.proofs.lower.lower1.Tie as tie

@@ -67,7 +67,7 @@ same-length : tie.Need-same-length
 same-length c = simp length-set
 
 returns : tie.Need-returns
-returns c = eight _ _ _ _ _ _ _ _ _ _ (c .pre)
+returns c = eight (c .args .out .now) (c .args .at) _ _ _ _ _ _ _ _
 
 pub put-row-spec : {M : Type 1} → statement M
 put-row-spec =

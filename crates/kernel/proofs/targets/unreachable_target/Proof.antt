@@ -1,10 +1,10 @@
--- `kernel::targets::stray_target` meets its contract.
+-- `kernel::targets::unreachable_target` meets its contract.
 use borrow.Author.Needs.{needs}
 use borrow.Author.Tests.{eq-eqb, ne-eqb}
 use mathlib.Core.Path.{_∙_, refl, sym}
-use Rattle.kernel.specs.Targets.{strayTarget}
-use Rattle.kernel.proofs.targets.stray_target.Statement.{statement}
-use Rattle.kernel.proofs.targets.stray_target.Tie as tie
+use Rattle.kernel.specs.Targets.{unreachableTarget}
+use Rattle.kernel.proofs.targets.unreachable_target.Statement.{statement}
+use Rattle.kernel.proofs.targets.unreachable_target.Tie as tie
 
 mul-word-at : tie.Need-mul-word-at
 mul-word-at c = search needs
@@ -19,7 +19,7 @@ word-at-requires : tie.Need-word-at-requires
 word-at-requires c κs = search needs
 
 returns : tie.Need-returns
-unfolding strayTarget
+unfolding unreachableTarget
 returns c = rw (eq-eqb _ _ (sym (c .before .word-at .ensures .0) ∙ c .if1 .taken)) refl
 
 next-of-requires : tie.Need-next-of-requires
@@ -29,7 +29,7 @@ leads-to-requires : tie.Need-leads-to-requires
 leads-to-requires c κs = search needs
 
 returns-2 : tie.Need-returns-2
-unfolding strayTarget
+unfolding unreachableTarget
 returns-2 c =
     rw (
       c .leads-to .ensures,
@@ -38,8 +38,8 @@ returns-2 c =
       ne-eqb _ _ (c .before .before .if1 .left),
     ) refl
 
-pub stray-target-spec : {M : Type 1} → statement M
-stray-target-spec =
+pub unreachable-target-spec : {M : Type 1} → statement M
+unreachable-target-spec =
     tie.close
     (tie.spec
     mul-word-at

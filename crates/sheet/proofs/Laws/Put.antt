@@ -5,7 +5,10 @@ use mathlib.Core.List.{List, [], _∷_, _++_}
 use native.Mathlib.Omega.{arith}
 use lib.ListN.{length, getD, take, drop, set, length-append}
 use lib.Seq.{sets, sets-eq, length-sets, take-suc}
-use Rattle.listing.specs.Put.{Puts}
+use Rattle.sheet.specs.declared.Lowered.the-variants.{Wrote, Refuses}
+use Rattle.sheet.specs.Bytes.{over, writeInto}
+use Rattle.sheet.specs.Put.{Puts}
+use Rattle.sheet.proofs.Laws.Written.{written-all, short-untouched}
 
 pub sets-on : (l : List ℕ) (i : ℕ) (x y : List ℕ) → sets (sets l i x) (i + length x) y ≡ sets l i (x ++ y)
 sets-on l i [] y = let e : i + 0 ≡ i = omega arith in ap (λ n. sets l n y) e
@@ -35,7 +38,7 @@ pub puts-length : {l m x : List ℕ} {i j : ℕ} → Puts l i x m j → length m
 puts-length {l} {m} {x} {i} {j} p = ap length (p .bytes) ∙ length-sets l i x
 
 -- a text that fits, laid from the front on
-pub puts-front : {l m x : List ℕ} {j : ℕ} → length x ≤ length l → Puts l 0 x m j → m ≡ x ++ drop (length x) l
+pub puts-front : {l m x : List ℕ} {j : ℕ} → length x ≤ length l → Puts l 0 x m j → m ≡ over x l
 puts-front {l} {m} {x} {j} h p =
     let e : 0 + length x ≡ length x = omega arith in
     p .bytes ∙ sets-eq x l 0 (omega arith) ∙ ap (λ n. x ++ drop n l) e
@@ -47,3 +50,16 @@ puts-next t i j {l} {m} {n} {k} {b} p h e q =
     let one : j + 1 ≡ suc j = omega arith in
     let next : take j t ++ b ∷ [] ≡ take (j + 1) t = rw (one, take-suc t j 0 h, e) in
     puts-end (puts-as next (puts-on p q)) (omega (arith, q .behind))
+
+-- a text that is measured first, by laying it into another buffer, and then laid into the output buffer if it fits
+module _ {l m x : List ℕ} {size : ℕ} (p : Puts l 0 x m size) where
+  pub measured-short : (buffer : List ℕ) → length buffer < size → (Refuses 9 0, buffer) ≡ writeInto x buffer
+  measured-short buffer h = sym (short-untouched x buffer (omega (arith, p .behind)))
+
+  pub measured-whole : {buffer after : List ℕ} {end : ℕ} → size ≤ length buffer → Puts buffer 0 x after end
+      → (Wrote end, after) ≡ writeInto x buffer
+  measured-whole {buffer} {after} {end} h q =
+      let fits : length x ≤ length buffer = omega (arith, p .behind) in
+      let whole : end ≡ length x = omega (arith, q .behind) in
+      let laid : after ≡ over x buffer = puts-front fits q in
+      (λ i. (Wrote (whole i), laid i)) ∙ sym (written-all x buffer fits)
