@@ -12,7 +12,8 @@ use Rattle.placement.specs.declared.cookbook.Barrier.the-variants.{LL, LS, SS, 
 use Rattle.placement.specs.declared.place.Placement.{Placement}
 use Rattle.placement.specs.Place.{chosen}
 use Rattle.placement.specs.Sheet.{start as startBy}
-use Rattle.lowering.specs.declared.rows.Marks.{Marks}
+use Rattle.rows.specs.Filled.{FilledTo}
+use Rattle.lowering.specs.declared.steps.Marks.{Marks}
 use Rattle.sheet.specs.Layout.{Placed, op, barrier, aim, sheet}
 use Rattle.sheet.specs.Levels.{level1}
 use Rattle.sheet.specs.Bytes.{row, laneBytes}
@@ -42,9 +43,8 @@ abbrev pub standing : Placement → ℕ → List Barrier
 standing r p = chosen (marked (standingMarks r p))
 
 -- the array of the positions at which the operations up to the n-th begin
-pub record StartsTo (pre : ℕ → List Barrier) (n : ℕ) (at : List ℕ) : Type 0 where
-  pub room : length at ≡ 65
-  pub each : (p : ℕ) → p ≤ n → getD at p 0 ≡ startBy pre p
+abbrev pub StartsTo : (ℕ → List Barrier) → ℕ → List ℕ → Type 0
+StartsTo pre = FilledTo 65 (startBy pre)
 
 -- the operations of a chain, the first of which stands at position p, with the barriers that pre puts before each
 abbrev pub placedBy : (ℕ → List Barrier) → ℕ → List Op → List Placed

@@ -14,36 +14,8 @@ use crate::plan::Plans;
 use crate::plan::plans_of;
 use crate::plan::size_of;
 use kernel::accepted::Kernel;
-
-// The first half of the header: T, L, K, level, mask, two zero bytes.
-pub(crate) fn put_first(out: &mut [u8], t: u8, ls: u8, ks: u8, level: u8, mask: u16)
-    requires { ⌜ 8 ≤ length (now out) ⌝ }
-    ensures { λ r. ⌜ now (out .exit) ≡ sets (now (out .entry)) 0 (t ∷ ls ∷ ks ∷ level ∷ word mask ++ 0 ∷ 0 ∷ []) ⌝ }
-{
-    out[0] = t;
-    out[1] = ls;
-    out[2] = ks;
-    out[3] = level;
-    out[4] = (mask % 256) as u8;
-    out[5] = (mask / 256 % 256) as u8;
-    out[6] = 0;
-    out[7] = 0;
-}
-
-// The second half: four instruction counts.
-pub(crate) fn put_counts(out: &mut [u8], a: usize, b: usize, c: usize, d: usize)
-    requires { ⌜ 16 ≤ length (now out) ⌝ }
-    ensures { λ r. ⌜ now (out .exit) ≡ sets (now (out .entry)) 8 (word a ++ (word b ++ (word c ++ (word d ++ [])))) ⌝ }
-{
-    out[8] = (a % 256) as u8;
-    out[9] = (a / 256 % 256) as u8;
-    out[10] = (b % 256) as u8;
-    out[11] = (b / 256 % 256) as u8;
-    out[12] = (c % 256) as u8;
-    out[13] = (c / 256 % 256) as u8;
-    out[14] = (d % 256) as u8;
-    out[15] = (d / 256 % 256) as u8;
-}
+use rows::put::put_counts;
+use rows::put::put_first;
 
 // Writes the four lanes behind the header.
 pub(crate) fn write_lanes(out: &mut [u8], kernel: Kernel, plans: Plans)

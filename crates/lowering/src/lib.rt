@@ -3,5 +3,5 @@ pub(crate) mod lane;
 pub(crate) mod level1;
 pub mod lower;
 pub(crate) mod plan;
-pub(crate) mod rows;
 pub(crate) mod starts;
+pub(crate) mod steps;

@@ -5,7 +5,7 @@ ghost use Prim.Native.Nat.{suc, min, _≤_};
 ghost use lib.ListN.{length};
 ghost use Rattle.placement.specs.Place.{chosen};
 ghost use Rattle.lowering.specs.Put.{marked, standingMarks, standing, StartsTo};
-use crate::rows::Marks;
+use crate::steps::Marks;
 use placement::place::Placement;
 
 // The position of each operation's first barrier, and behind the last operation the count of instructions.

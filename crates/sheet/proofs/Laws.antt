@@ -3,4 +3,5 @@ pub mod Cells
 pub mod Rows
 pub mod Written
 pub mod Put
+pub mod Part
 pub mod Targets

@@ -5,4 +5,5 @@ pub mod ReadBack
 pub mod LoweredLanes
 pub mod Sizes
 pub mod Relowered
+pub mod RelowerBytes
 pub mod SmallBytes

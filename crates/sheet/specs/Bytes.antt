@@ -69,11 +69,12 @@ abbrev pub countBytes : List (List Instr) → ℕ → List ℕ
 countBytes lanes t = word (length (getD lanes t []))
 
 -- T, L, K, level, mask, two zero bytes, four counts
+abbrev pub headerBy : ℕ → ℕ → ℕ → ℕ → ℕ → List (List Instr) → List ℕ
+headerBy t ls ks level mask lanes =
+    t ∷ ls ∷ ks ∷ level ∷ word mask ++ 0 ∷ 0 ∷ joined (map (countBytes lanes) (0 ∷ 1 ∷ 2 ∷ 3 ∷ []))
+
 abbrev pub header : Level → Program → List (List Instr) → List ℕ
-header l k lanes =
-    length (k .lanes) ∷ k .locations ∷ k .locks ∷ levelNumber l
-    ∷ word (maskAt l k) ++ 0 ∷ 0
-    ∷ joined (map (countBytes lanes) (0 ∷ 1 ∷ 2 ∷ 3 ∷ []))
+header l k = headerBy (length (k .lanes)) (k .locations) (k .locks) (levelNumber l) (maskAt l k)
 
 unfoldable pub sheetBytes : Level → Program → List ℕ
 sheetBytes l k = header l k (sheetLanes l k) ++ joined (map (laneBytes l) (sheetLanes l k))

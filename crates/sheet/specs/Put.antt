@@ -1,7 +1,9 @@
 -- Bytes laid into a buffer from a position on. What does not fit is dropped, and the position counts on all the same.
 use Prim.Native.Nat.{ℕ, _+_}
 use mathlib.Core.Path.{_≡_}
+use mathlib.Core.Bool.{cond}
 use mathlib.Core.List.{List}
+use lib.Dec.{leb}
 use lib.ListN.{length}
 use lib.Seq.{sets}
 
@@ -9,3 +11,7 @@ use lib.Seq.{sets}
 pub record Puts (before : List ℕ) (at : ℕ) (x : List ℕ) (after : List ℕ) (end : ℕ) : Type 0 where
   pub bytes : after ≡ sets before at x
   pub behind : end ≡ at + length x
+
+-- x from `at` on where all of it fits, else nothing
+unfoldable pub laid : List ℕ → ℕ → List ℕ → List ℕ
+laid before at x = cond (leb (at + length x) (length before)) (sets before at x) before

@@ -3,12 +3,15 @@
 use Prim.Native.Nat.{ℕ, zero, suc}
 use mathlib.Core.Path.{_≡_, refl}
 use mathlib.Core.Bool.{Bool, true, cond}
-use mathlib.Core.List.{List, [], _∷_}
+use mathlib.Core.List.{List, [], _∷_, _++_, map}
+use Rattle.kernel.specs.Fields.{byte}
 use Rattle.kernel.specs.declared.accepted.Op.{Op}
 use Rattle.kernel.specs.declared.accepted.Op.the-variants.{Set, Load, Store, Skip}
 use Rattle.placement.specs.declared.cookbook.Barrier.the-variants.{LL, SL}
 use Rattle.sheet.specs.Layout.{Instr, op, barrier, aim}
 use Rattle.sheet.specs.Levels.{Level, level2, keeps}
+use Rattle.sheet.specs.Bytes.{joined, laneBytes, levelNumber, headerBy}
+use Rattle.sheet.specs.Read.{readSheet}
 
 -- the operation that barriers stand before; a lane's part ends with an operation
 abbrev pub nextOp : List Instr → Op
@@ -37,6 +40,16 @@ relowerBy l r (i ∷ is) = cond (stays l i is) (aimed r i ∷ relowerBy l r is) 
 
 abbrev pub relower : Level → List Instr → List Instr
 relower l is = relowerBy l (newPosition l is) is
+
+-- ## level 2 from the bytes of a level 1 sheet
+
+abbrev pub relowerLanes : List ℕ → List (List Instr)
+relowerLanes s = map (relower level2) (readSheet s)
+
+unfoldable pub relowerBytes : List ℕ → List ℕ
+relowerBytes s =
+    headerBy (byte s 0) (byte s 1) (byte s 2) (levelNumber level2) 0 (relowerLanes s)
+    ++ joined (map (laneBytes level2) (relowerLanes s))
 
 -- LL goes, SL stays, and the SKIP is aimed at SL, its target's first barrier that is left
 example : relower level2

@@ -22,16 +22,10 @@ use Rattle.sheet.specs.Levels.{Level, level1}
 use Rattle.sheet.specs.Bytes.{instrBytes, laneBytes}
 use Rattle.sheet.specs.Items.{TargetsWithin}
 use Rattle.lowering.specs.Put.{placedBy, StartsTo, stepBytes}
-use Rattle.sheet.proofs.Laws.Rows.{lane-bytes}
+use Rattle.sheet.proofs.Laws.Rows.{lane-bytes, bytes-append}
 use Rattle.sheet.specs.Put.{Puts}
 use Rattle.sheet.proofs.Laws.Put.{puts-on, puts-as}
 use Rattle.sheet.proofs.LoweredLanes.{Stand, start-by}
-
-pub bytes-append : (l : Level) (xs ys : List Instr) → laneBytes l (xs ++ ys) ≡ laneBytes l xs ++ laneBytes l ys
-bytes-append l [] ys = refl
-bytes-append l (x ∷ xs) ys =
-    ap (λ z. instrBytes l x ++ z) (bytes-append l xs ys)
-    ∙ sym (append-assoc (instrBytes l x) (laneBytes l xs) (laneBytes l ys))
 
 cells-append : (r : ℕ → ℕ) (xs ys : List Placed) → cells r (xs ++ ys) ≡ cells r xs ++ cells r ys
 cells-append r [] ys = refl

@@ -7,7 +7,6 @@ use native.Mathlib.Omega.{arith}
 use native.Mathlib.Decide.{decLe}
 use lib.ListN.{length, getD, take, drop, length-append, length-drop, length-map, length-take}
 use lib.Seq.{sets, sets-eq, take-all, drop-drop, drop-length}
-use borrow.Rule.Slice.PartMut.{putMid, postOf, post-is}
 use mir.Val.{Val}
 use denote.Laws.{Is}
 use Rattle.kernel.specs.declared.accepted.Kernel.{Kernel}
@@ -29,26 +28,6 @@ use Rattle.sheet.specs.Put.{Puts}
 use Rattle.sheet.proofs.Laws.Put.{puts-front, puts-length}
 use Rattle.lowering.proofs.Laws.Lane.{first-all, first-length}
 use Rattle.lowering.proofs.Laws.Plan.{placed-is}
-
-pub part-length : (l : List ℕ) (i : ℕ) → i ≤ length l → length (take (length l - i) (drop i l)) ≡ length l - i
-part-length l i h = omega (arith, length-take (length l - i) (drop i l), length-drop i l)
-
--- a part `&mut l[i..]` that comes back with bytes written at its front
-pub part-back : (l xs : List ℕ) (i : ℕ) {ys : List ℕ} {n : ℕ} → i + length xs ≤ length l
-    → Puts (take (length l - i) (drop i l)) 0 xs ys n → Puts l i xs (putMid i (length l - i) l ys) (i + n)
-part-back l xs i {ys} h p =
-    let rest : take (length l - i) (drop i l) ≡ drop i l =
-    take-all (length l - i) (drop i l) (omega (arith, length-drop i l)) in
-    let none : postOf i (length l - i) l ≡ [] = post-is i (length l) l (omega arith) ∙ drop-length l in
-    let front : ys ≡ over xs (drop i l) =
-    puts-front (omega (arith, part-length l i (omega arith))) p ∙ ap (over xs) rest in
-    record {
-      bytes =
-          ap (λ z. take i l ++ (ys ++ z)) none ∙ ap (λ z. take i l ++ z) (append-nil ys ∙ front)
-          ∙ ap (λ z. take i l ++ (xs ++ z)) (drop-drop (length xs) i l)
-          ∙ sym (append-assoc (take i l) xs (drop (i + length xs) l)) ∙ sym (sets-eq xs l i h);
-      behind = omega (arith, p .behind);
-    }
 
 -- what a kernel's type says of its lanes
 pub lanes-room : (k : Kernel) (vs : List Val) → Is T.the-row k vs → length (k .lanes) ≡ 4

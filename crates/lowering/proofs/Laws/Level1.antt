@@ -15,28 +15,16 @@ use Rattle.placement.specs.Sheet.{start as startBy}
 use Rattle.sheet.specs.Layout.{Instr, sheet}
 use Rattle.sheet.specs.Levels.{level1, placed, sheetLanes}
 use Rattle.sheet.specs.Bytes.{word, joined, laneBytes, sheetBytes, writeInto}
-use Rattle.sheet.proofs.Laws.Rows.{total, lane-bytes}
-use Rattle.sheet.proofs.Laws.Written.{written-all}
+use Rattle.sheet.proofs.Laws.Rows.{total-four, lane-bytes}
 use Rattle.sheet.proofs.Sizes.{sheet-size}
 use Rattle.lowering.specs.declared.plan.Plans.{Plans}
 use Rattle.lowering.specs.Put.{standing}
-use Rattle.sheet.specs.Bytes.{over}
 use Rattle.lowering.specs.Plan.{AllPlanned, noPlan, plannedBytes, laneAt1, lanesBytes}
 use Rattle.lowering.specs.Whole.{programIn, Whole, sizeIn, sheet1}
 use Rattle.lowering.proofs.Laws.Lanes.{planned-is, planned-length}
-use Rattle.sheet.proofs.Laws.Put.{sets-on, puts-front}
+use Rattle.sheet.specs.Put.{laid}
+use Rattle.sheet.proofs.Laws.Put.{whole-put}
 use Rattle.lowering.proofs.Laws.Whole.{lanes-back, ops-are, len-is, count-is}
-
--- what four lanes hold
-total-four : (xs : List (List Instr)) → length xs ≤ 4
-    → total xs
-    ≡ length (getD xs 0 []) + (length (getD xs 1 []) + (length (getD xs 2 []) + length (getD xs 3 [])))
-total-four [] h = refl
-total-four (a ∷ []) h = omega arith
-total-four (a ∷ b ∷ []) h = omega arith
-total-four (a ∷ b ∷ c ∷ []) h = omega arith
-total-four (a ∷ b ∷ c ∷ d ∷ []) h = omega arith
-total-four (a ∷ b ∷ c ∷ d ∷ e ∷ xs) h = absurd (omega arith)
 
 joined-append : (xs ys : List (List ℕ)) → joined (xs ++ ys) ≡ joined xs ++ joined ys
 joined-append [] ys = refl
@@ -137,16 +125,11 @@ module _ (k : Kernel) (w : Whole k) where
         room-by = omega (arith, ap length sheet-by)
 
         pub sheet-put : {l₁ l₂ l₃ : List ℕ} (buffer : List ℕ) → length (sheet1 k) ≤ length buffer
-            → l₁ ≡ sets buffer 0 (k .count ∷ k .locations ∷ k .locks ∷ 1 ∷ word (k .mask) ++ 0 ∷ 0 ∷ [])
-            → l₂ ≡ sets l₁ 8 (word a ++ (word b ++ (word c ++ (word d ++ []))))
+            → l₁ ≡ laid buffer 0 (k .count ∷ k .locations ∷ k .locks ∷ 1 ∷ word (k .mask) ++ 0 ∷ 0 ∷ [])
+            → l₂ ≡ laid l₁ 8 (word a ++ (word b ++ (word c ++ (word d ++ []))))
             → l₃ ≡ sets l₂ 16 (lanesBytes (isVolatile (k .mask)) (k .lanes))
             → l₃ ≡ writeInto (sheet1 k) buffer .1
-        sheet-put buffer room e₁ e₂ e₃ =
-            let first : List ℕ = k .count ∷ k .locations ∷ k .locks ∷ 1 ∷ word (k .mask) ++ 0 ∷ 0 ∷ [] in
-            let counts : List ℕ = word a ++ (word b ++ (word c ++ (word d ++ []))) in
-            let lanes = lanesBytes (isVolatile (k .mask)) (k .lanes) in
-            let two = e₂ ∙ ap (λ l. sets l 8 counts) e₁ ∙ sets-on buffer 0 first counts in
-            e₃ ∙ ap (λ l. sets l 16 lanes) two ∙ sets-on buffer 0 (first ++ counts) lanes
-            ∙ ap (sets buffer 0) sheet-by
-            ∙ puts-front {l = buffer} {x = sheet1 k} room (record { bytes = refl; behind = refl })
-            ∙ ap (λ x. x .1) (sym (written-all (sheet1 k) buffer room))
+        sheet-put buffer room =
+            whole-put buffer (k .count ∷ k .locations ∷ k .locks ∷ 1 ∷ word (k .mask) ++ 0 ∷ 0 ∷ [])
+            (word a ++ (word b ++ (word c ++ (word d ++ [])))) (lanesBytes (isVolatile (k .mask)) (k .lanes))
+            (sheet1 k) refl refl sheet-by room

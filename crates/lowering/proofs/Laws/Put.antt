@@ -1,38 +1,23 @@
 -- Laws of the bytes of one operation with its barriers.
-use Prim.Native.Nat.{ℕ, suc, _+_, _≤_}
+use Prim.Native.Nat.{ℕ, _+_, _≤_}
 use mathlib.Core.Path.{_≡_, refl, sym, ap, _∙_}
 use mathlib.Core.Bool.{Bool, true, false}
 use mathlib.Core.List.{List, [], _∷_, _++_, map, append-nil, append-assoc}
 use native.Mathlib.Omega.{arith}
-use lib.ListN.{length, set, length-append}
-use lib.Seq.{sets}
+use lib.ListN.{length, length-append}
 use Rattle.kernel.specs.declared.accepted.Op.{Op}
 use Rattle.kernel.specs.declared.accepted.Op.the-variants.{Set, Add, Load, Store, Lock, Unlock, Skip}
 use Rattle.placement.specs.declared.cookbook.Barrier.{Barrier}
 use Rattle.placement.specs.declared.cookbook.Barrier.the-variants.{LL, LS, SS, SL}
 use Rattle.placement.specs.Cookbook.{codeOf}
 use Rattle.placement.specs.Place.{keep, chosen}
-use Rattle.lowering.specs.declared.rows.Marks.{Marks}
+use Rattle.lowering.specs.declared.steps.Marks.{Marks}
 use Rattle.sheet.specs.Layout.{Instr, op, barrier, aim}
 use Rattle.sheet.specs.Levels.{level1}
 use Rattle.sheet.specs.Bytes.{row, opBytes, laneBytes}
-use Rattle.sheet.specs.Put.{Puts}
+use Rattle.sheet.specs.Put.{Puts, laid}
+use Rattle.sheet.proofs.Laws.Put.{laid-put, puts-on, puts-as, puts-length}
 use Rattle.lowering.specs.Put.{rowIf, marked, stepBytes}
-
--- eight stores one after the other are one row
-pub eight : (l : List ℕ) (i a b c d e f g h : ℕ)
-    → set (set (set (set (set (set (set (set l i a) (i + 1) b) (i + 2) c) (i + 3) d) (i + 4) e) (i + 5) f) (i + 6) g)
-    (i + 7) h
-    ≡ sets l i (a ∷ b ∷ c ∷ d ∷ e ∷ f ∷ g ∷ h ∷ [])
-eight l i a b c d e f g h =
-    let e1 : i + 1 ≡ suc i = omega arith in
-    let e2 : i + 2 ≡ suc (suc i) = omega arith in
-    let e3 : i + 3 ≡ suc (suc (suc i)) = omega arith in
-    let e4 : i + 4 ≡ suc (suc (suc (suc i))) = omega arith in
-    let e5 : i + 5 ≡ suc (suc (suc (suc (suc i)))) = omega arith in
-    let e6 : i + 6 ≡ suc (suc (suc (suc (suc (suc i))))) = omega arith in
-    let e7 : i + 7 ≡ suc (suc (suc (suc (suc (suc (suc i)))))) = omega arith in
-    rw (e1, e2, e3, e4, e5, e6, e7) refl
 
 -- the bytes of a step, barrier by barrier
 keep-bytes : (t : Bool) (b : Barrier) (bs : List Barrier) (is : List Instr)
@@ -49,10 +34,7 @@ op-length (Lock l) = refl
 op-length (Unlock l) = refl
 op-length (Skip a t) = refl
 
-pub op-put : {l m : List ℕ} {i : ℕ} (o : Op) → m ≡ sets l i (opBytes o) → Puts l i (opBytes o) m (i + 8)
-op-put {l} {m} {i} o e = record { bytes = e; behind = ap (λ n. i + n) (sym (op-length o)) }
-
-pub step-bytes : (m : Marks) (o : Op) (t : ℕ)
+step-bytes : (m : Marks) (o : Op) (t : ℕ)
     → stepBytes (chosen (marked m)) o t
     ≡ rowIf (m .ll) 11 ++ (rowIf (m .ls) 12 ++ (rowIf (m .ss) 13 ++ (rowIf (m .sl) 14 ++ opBytes (aim (λ x. t) o))))
 step-bytes m o t =
@@ -75,3 +57,25 @@ step-length m o t =
     (ap (λ n. length (rowIf (m .ll) 11)
     + (length (rowIf (m .ls) 12) + (length (rowIf (m .ss) 13) + (length (rowIf (m .sl) 14) + n))))
     (op-length (aim (λ x. t) o)))
+
+-- barriers and operation, put one behind the other
+pub step-put : (m : Marks) (o : Op) (t : ℕ) {l l₁ l₂ l₃ l₄ l₅ : List ℕ} {i i₁ i₂ i₃ i₄ : ℕ}
+    → i + length (stepBytes (chosen (marked m)) o t) ≤ length l
+    → Puts l i (rowIf (m .ll) 11) l₁ i₁ → Puts l₁ i₁ (rowIf (m .ls) 12) l₂ i₂ → Puts l₂ i₂ (rowIf (m .ss) 13) l₃ i₃
+    → Puts l₃ i₃ (rowIf (m .sl) 14) l₄ i₄ → l₅ ≡ laid l₄ i₄ (opBytes (aim (λ x. t) o))
+    → Puts l i (stepBytes (chosen (marked m)) o t) l₅ (i₄ + 8)
+step-put m o t {l} {l₁} {l₂} {l₃} {l₄} {l₅} {i} {i₁} {i₂} {i₃} {i₄} room p₁ p₂ p₃ p₄ e =
+    let four = puts-on p₁ (puts-on p₂ (puts-on p₃ p₄)) in
+    let size = op-length (aim (λ x. t) o) in
+    let fits : i₄ + length (opBytes (aim (λ x. t) o)) ≤ length l₄ =
+    omega (
+      arith,
+      step-length m o t,
+      puts-length four,
+      p₁ .behind,
+      p₂ .behind,
+      p₃ .behind,
+      p₄ .behind,
+    ) in
+    let last = laid-put l₄ i₄ (opBytes (aim (λ x. t) o)) refl size fits e in
+    puts-as (sym (step-bytes m o t)) (puts-on p₁ (puts-on p₂ (puts-on p₃ (puts-on p₄ last))))

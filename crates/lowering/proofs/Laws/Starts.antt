@@ -15,7 +15,7 @@ use Rattle.placement.specs.declared.place.Placement.{Placement}
 use Rattle.placement.specs.Place.{keep, chosen}
 use Rattle.placement.specs.Sheet.{start as startBy}
 use Rattle.placement.proofs.place.Placement as T
-use Rattle.lowering.specs.declared.rows.Marks.{Marks}
+use Rattle.lowering.specs.declared.steps.Marks.{Marks}
 use Rattle.lowering.specs.Put.{marked, standingMarks, standing, StartsTo}
 use Rattle.sheet.proofs.Laws.Cells.{chosen-length}
 
@@ -53,27 +53,3 @@ marks-count m =
 pub start-small : (r : Placement) (p : ℕ) → startBy (standing r) p ≤ 5 * p
 start-small r zero = omega arith
 start-small r (suc p) = omega (arith, start-small r p, chosen-length (marked (standingMarks r p)))
-
-pub starts-start : (pre : ℕ → List Barrier) → StartsTo pre 0 (replicate 65 0)
-starts-start pre = record { room = refl; each = first }
-  where
-    first : (p : ℕ) → p ≤ 0 → getD (replicate 65 0) p 0 ≡ startBy pre p
-    first zero h = refl
-    first (suc p) h = absurd (omega arith)
-
--- the position of the next operation goes into place
-pub starts-on : (pre : ℕ → List Barrier) (p : ℕ) (at : List ℕ) {v : ℕ} → StartsTo pre p at → p < 64
-    → v ≡ getD at p 0 + suc (length (pre p)) → StartsTo pre (p + 1) (set at (p + 1) v)
-starts-on pre p at {v} s small e =
-    record { room = length-set at (p + 1) v ∙ s .room; each = λ x h. go x h (decLe x p) }
-  where
-    one : suc p ≡ p + 1
-    one = omega arith
-
-    go : (x : ℕ) → x ≤ p + 1 → Dec (x ≤ p) → getD (set at (p + 1) v) x 0 ≡ startBy pre x
-    go x h (yes l) = getD-set-other at (p + 1) x v 0 (λ q. omega arith) ∙ s .each x l
-    go x h (no l) =
-        let here : x ≡ p + 1 = omega arith in
-        rw here
-        (getD-set-same at (p + 1) v 0 (omega (arith, s .room)) ∙ e
-        ∙ ap (λ n. n + suc (length (pre p))) (s .each p (omega arith)) ∙ ap (startBy pre) one)

@@ -1,13 +1,16 @@
 -- Laws of bytes laid into a buffer one after the other.
 use Prim.Native.Nat.{ℕ, suc, _+_, _≤_, _<_}
 use mathlib.Core.Path.{_≡_, refl, sym, ap, ap₂, _∙_}
+use mathlib.Core.Bool.{Bool, true, false, cond}
 use mathlib.Core.List.{List, [], _∷_, _++_}
 use native.Mathlib.Omega.{arith}
 use lib.ListN.{length, getD, take, drop, set, length-append}
+use lib.Dec.{leb}
+use borrow.Author.Tests.{le-leb}
 use lib.Seq.{sets, sets-eq, length-sets, take-suc}
 use Rattle.sheet.specs.declared.Lowered.the-variants.{Wrote, Refuses}
 use Rattle.sheet.specs.Bytes.{over, writeInto}
-use Rattle.sheet.specs.Put.{Puts}
+use Rattle.sheet.specs.Put.{Puts, laid}
 use Rattle.sheet.proofs.Laws.Written.{written-all, short-untouched}
 
 pub sets-on : (l : List ℕ) (i : ℕ) (x y : List ℕ) → sets (sets l i x) (i + length x) y ≡ sets l i (x ++ y)
@@ -21,6 +24,26 @@ pub puts-on : {l m n x y : List ℕ} {i j k : ℕ} → Puts l i x m j → Puts m
 puts-on {l} {m} {n} {x} {y} {i} {j} {k} p q = record {
   bytes = q .bytes ∙ ap₂ (λ a b. sets a b y) (p .bytes) (p .behind) ∙ sets-on l i x y;
   behind = omega (arith, p .behind, q .behind, length-append x y);
+}
+
+-- bytes that fit
+pub laid-fits : (l : List ℕ) (i : ℕ) (x : List ℕ) → i + length x ≤ length l → laid l i x ≡ sets l i x
+unfolding laid
+laid-fits l i x h = rw (le-leb (i + length x) (length l) h)
+
+pub laid-length : (l : List ℕ) (i : ℕ) (x : List ℕ) {m : List ℕ} → m ≡ laid l i x → length m ≡ length l
+unfolding laid
+laid-length l i x e = ap length e ∙ go (leb (i + length x) (length l))
+  where
+    go : (b : Bool) → length (cond b (sets l i x) l) ≡ length l
+    go true = length-sets l i x
+    go false = refl
+
+pub laid-put : (l : List ℕ) (i : ℕ) (y : List ℕ) {x m : List ℕ} {n : ℕ} → x ≡ y → length y ≡ n
+    → i + length y ≤ length l → m ≡ laid l i x → Puts l i y m (i + n)
+laid-put l i y e size h p = record {
+  bytes = p ∙ ap (laid l i) e ∙ laid-fits l i y h;
+  behind = ap (λ k. i + k) (sym size);
 }
 
 pub puts-none : {l : List ℕ} {i : ℕ} → Puts l i [] l i
@@ -63,3 +86,23 @@ module _ {l m x : List ℕ} {size : ℕ} (p : Puts l 0 x m size) where
       let whole : end ≡ length x = omega (arith, q .behind) in
       let laid : after ≡ over x buffer = puts-front fits q in
       (λ i. (Wrote (whole i), laid i)) ∙ sym (written-all x buffer fits)
+
+-- a sheet in three parts: the halves of its header, and its lanes
+pub whole-put : (buffer first counts body bytes : List ℕ) {l₁ l₂ l₃ : List ℕ} → length first ≡ 8 → length counts ≡ 8
+    → first ++ counts ++ body ≡ bytes → length bytes ≤ length buffer
+    → l₁ ≡ laid buffer 0 first → l₂ ≡ laid l₁ 8 counts → l₃ ≡ sets l₂ 16 body → l₃ ≡ writeInto bytes buffer .1
+whole-put buffer first counts body bytes {l₁} {l₂} f c e room e₁ e₂ e₃ =
+    let size : length bytes ≡ 16 + length body =
+    sym (ap length e) ∙ length-append (first ++ counts) body
+    ∙ omega (arith, length-append first counts) in
+    let h₁ = e₁ ∙ laid-fits buffer 0 first (omega arith) in
+    let same : length l₁ ≡ length buffer = ap length h₁ ∙ length-sets buffer 0 first in
+    let h₂ = e₂ ∙ laid-fits l₁ 8 counts (omega arith) in
+    let eight : 8 ≡ 0 + length first = omega arith in
+    let sixteen : 16 ≡ 0 + length (first ++ counts) = omega (arith, length-append first counts) in
+    let two : l₂ ≡ sets buffer 0 (first ++ counts) =
+    h₂ ∙ ap₂ (λ l n. sets l n counts) h₁ eight ∙ sets-on buffer 0 first counts in
+    e₃ ∙ ap₂ (λ l n. sets l n body) two sixteen ∙ sets-on buffer 0 (first ++ counts) body
+    ∙ ap (sets buffer 0) e
+    ∙ puts-front {l = buffer} {x = bytes} room (record { bytes = refl; behind = refl })
+    ∙ ap (λ x. x .1) (sym (written-all bytes buffer room))

@@ -1,9 +1,9 @@
 -- Laws of the bytes of numbers and instructions: how many there are, and the number that two or four of them make.
-use Prim.Native.Nat.{ℕ, _+_, _*_, _/_, _%_, _^_, _<_}
+use Prim.Native.Nat.{ℕ, _+_, _*_, _/_, _%_, _^_, _<_, _≤_}
 use native.Mathlib.Omega.{arith}
-use mathlib.Core.Path.{_≡_, refl}
-use mathlib.Core.List.{List, [], _∷_, map}
-use lib.ListN.{length, length-append}
+use mathlib.Core.Path.{_≡_, refl, sym, ap, _∙_}
+use mathlib.Core.List.{List, [], _∷_, _++_, map, append-assoc}
+use lib.ListN.{length, getD, length-append}
 use Rattle.kernel.specs.declared.accepted.Op.the-variants.{Set, Add, Load, Store, Lock, Unlock, Skip}
 use Rattle.sheet.specs.Layout.{Instr, op, barrier}
 use Rattle.sheet.specs.Levels.{Level}
@@ -40,3 +40,20 @@ pub lanes-bytes : (l : Level) (xs : List (List Instr)) → length (joined (map (
 lanes-bytes l [] = refl
 lanes-bytes l (x ∷ xs) =
     omega (arith, length-append (laneBytes l x) (joined (map (laneBytes l) xs)), lane-bytes l x, lanes-bytes l xs)
+
+pub bytes-append : (l : Level) (xs ys : List Instr) → laneBytes l (xs ++ ys) ≡ laneBytes l xs ++ laneBytes l ys
+bytes-append l [] ys = refl
+bytes-append l (x ∷ xs) ys =
+    ap (λ z. instrBytes l x ++ z) (bytes-append l xs ys)
+    ∙ sym (append-assoc (instrBytes l x) (laneBytes l xs) (laneBytes l ys))
+
+-- what four lanes hold
+pub total-four : (xs : List (List Instr)) → length xs ≤ 4
+    → total xs
+    ≡ length (getD xs 0 []) + (length (getD xs 1 []) + (length (getD xs 2 []) + length (getD xs 3 [])))
+total-four [] h = refl
+total-four (a ∷ []) h = omega arith
+total-four (a ∷ b ∷ []) h = omega arith
+total-four (a ∷ b ∷ c ∷ []) h = omega arith
+total-four (a ∷ b ∷ c ∷ d ∷ []) h = omega arith
+total-four (a ∷ b ∷ c ∷ d ∷ e ∷ xs) h = absurd (omega arith)

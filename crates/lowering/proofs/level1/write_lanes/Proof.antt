@@ -9,8 +9,8 @@ use Rattle.kernel.specs.Stored.{pastLanes}
 use Rattle.sheet.specs.Put.{Puts}
 use Rattle.sheet.proofs.Laws.Put.{puts-none, puts-as, puts-on, puts-length}
 use Rattle.lowering.specs.Plan.{noPlan, plannedBytes, writtenLanes}
-use Rattle.lowering.proofs.Laws.Lanes.{part-back, part-length, written-suc}
-use Rattle.lowering.proofs.Laws.Lanes.{all-written, now-fits}
+use Rattle.sheet.proofs.Laws.Part.{part-back, part-length}
+use Rattle.lowering.proofs.Laws.Lanes.{written-suc, all-written, now-fits}
 use borrow.Author.Needs.{needs}
 use Rattle.lowering.proofs.level1.write_lanes.Statement.{statement}
 use Rattle.lowering.proofs.level1.write_lanes.Tie as tie

@@ -1,11 +1,12 @@
 -- `lowering::starts::starts_of` meets its contract. The positions in place are those of the operations passed.
 use Prim.Native.Nat.{min, _≤_, _-_, suc, _+_}
 use lib.ListN.{length, getD}
-use mathlib.Core.Path.{_≡_, sym, ap, _∙_}
+use mathlib.Core.Path.{_≡_, refl, sym, ap, _∙_}
 use native.Mathlib.Omega.{arith}
 use Rattle.placement.specs.Place.{chosen}
 use Rattle.lowering.specs.Put.{marked, standing, StartsTo}
-use Rattle.lowering.proofs.Laws.Starts.{start-small, starts-start, starts-on}
+use Rattle.lowering.proofs.Laws.Starts.{start-small}
+use Rattle.rows.proofs.Laws.Filled.{filled-start, filled-on}
 use borrow.Author.Needs.{needs}
 use Rattle.lowering.proofs.starts.starts_of.Statement.{statement}
 use Rattle.lowering.proofs.starts.starts_of.Tie as tie
@@ -20,7 +21,7 @@ count-requires : tie.Need-count-requires Inv-loop μ-loop
 count-requires c κs = search needs
 
 loop-holds : tie.Need-loop-holds Inv-loop μ-loop
-loop-holds c = (omega arith, starts-start _)
+loop-holds c = (omega arith, filled-start _ _ refl refl)
 
 mul-here : tie.Need-mul-here Inv-loop μ-loop
 mul-here c = omega arith
@@ -62,9 +63,11 @@ loop-again : tie.Need-loop-again Inv-loop μ-loop
 loop-again c =
     let l = c .before .before .before .loop in (
       omega arith,
-      starts-on _ (l .p) (l .at) (l .inv .1) (omega arith)
+      filled-on _ (l .p) (l .at) (l .inv .1) (omega arith)
           (ap (λ w. getD (l .at) (l .p) 0 + w)
-          (c .width .ensures .0 ∙ ap (λ m. suc (length (chosen (marked m)))) (c .before .marks-at .ensures))),
+          (c .width .ensures .0 ∙ ap (λ m. suc (length (chosen (marked m)))) (c .before .marks-at .ensures))
+          ∙ ap (λ n. n + suc (length (standing (c .before .before .before .before .before .args .placement) (l .p))))
+          (l .inv .1 .each (l .p) (omega arith))),
     )
 
 returns : tie.Need-returns Inv-loop μ-loop

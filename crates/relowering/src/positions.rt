@@ -1,0 +1,61 @@
+// Which rows of a level 1 lane stay at level 2, and where they come to stand.
+ghost use mathlib.Core.Path.{_≡_};
+ghost use mathlib.Core.Bool.{cond};
+ghost use Prim.Native.Nat.{_*_, _≤_};
+ghost use lib.ListN.{length};
+ghost use Rattle.sheet.specs.Levels.{level2};
+ghost use Rattle.sheet.specs.Read.{readRows};
+ghost use Rattle.sheet.specs.Relower.{relower};
+ghost use Rattle.relowering.specs.Rows.{staysBy, PositionsTo};
+
+// The position of each row among those that stay, and behind the last row how many stay.
+pub struct Positions {
+    pub at: [u32; 321],
+}
+
+// Whether a row of this code stays: 11 to 13 are dropped.
+pub(crate) fn stays(code: u8) -> bool
+    ensures { λ r. ⌜ r ≡ staysBy code ⌝ }
+{
+    match code {
+        11 => false,
+        12 => false,
+        13 => false,
+        _ => true,
+    }
+}
+
+fn one(b: bool) -> u32
+    ensures { λ r. ⌜ (r ≡ cond b 1 0) × (r ≤ 1) ⌝ }
+{
+    if b { 1 } else { 0 }
+}
+
+pub(crate) fn positions_of(rows: &[u8], n: usize) -> Positions
+    requires { ⌜ (n ≤ 320) × (8 * n ≤ length (now rows)) ⌝ }
+    ensures { λ r. ⌜ PositionsTo n (now (rows .entry)) n (r .at) ⌝ }
+{
+    let mut at = [0u32; 321];
+    let mut p = 0;
+    while p < n {
+        let here = at[p];
+        let kept = one(stays(rows[8 * p]));
+        p += 1;
+        at[p] = here + kept;
+    }
+    Positions { at }
+}
+
+// How many of n rows stay.
+pub(crate) fn count_kept(rows: &[u8], n: usize) -> usize
+    requires { ⌜ (n ≤ 320) × (8 * n ≤ length (now rows)) ⌝ }
+    ensures { λ r. ⌜ r ≡ length (relower level2 (readRows n (now (rows .entry)))) ⌝ }
+{
+    let mut kept: u32 = 0;
+    let mut p = 0;
+    while p < n {
+        kept += one(stays(rows[8 * p]));
+        p += 1;
+    }
+    kept as usize
+}

@@ -1,0 +1,2 @@
+-- Laws of rows in code.
+pub mod Laws

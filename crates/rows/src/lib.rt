@@ -1,0 +1,4 @@
+// The bytes of a sheet in code: rows read and written, and where the rows of each lane lie.
+pub mod parts;
+pub mod put;
+pub mod read;
