@@ -1,13 +1,12 @@
 -- Every operation of a lane whose records keep their rules keeps its bounds, and every SKIP goes on.
-use Prim.Native.Nat.{ℕ, zero, suc, _+_, _^_, _≤_, _<_}
+use Prim.Native.Nat.{ℕ, zero, suc, _+_, _≤_, _<_}
 use mathlib.Core.Path.{_≡_, ap}
-use mathlib.Core.List.{List, [], _∷_}
+use mathlib.Core.List.{List}
 use lib.ListN.{getD, length, drop, length-drop}
 use native.Mathlib.Omega.{arith}
 use native.Mathlib.Decide.{decLe}
 use borrow.Author.Tests.{ltb-true}
 use Rattle.kernel.specs.declared.accepted.Op.{Op}
-use Rattle.kernel.specs.declared.accepted.Op.the-variants.{Set, Add, Load, Store, Lock, Unlock, Skip}
 use Rattle.kernel.specs.Fields.{locations, locks, recordCount, operation, target, next}
 use Rattle.kernel.specs.Rules.{recordTests, recordRule, badRecord, limitA, limitB, limitConstant}
 use Rattle.kernel.specs.Linkage.{chain}

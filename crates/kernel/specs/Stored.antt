@@ -1,5 +1,5 @@
 -- The accepted kernel as the code holds it: arrays of fixed length, filled up behind what they hold.
-use Prim.Native.Nat.{ℕ, zero, suc, _-_}
+use Prim.Native.Nat.{ℕ, _-_}
 use mathlib.Core.Bool.{Bool, cond}
 use mathlib.Core.List.{List, [], _∷_, _++_, map}
 use lib.ListN.{length, replicate, take, getD}

@@ -2,7 +2,7 @@
 ghost use mathlib.Core.Path.{_≡_};
 ghost use mathlib.Core.Bool.{true, false, not};
 ghost use Prim.Native.Nat.{_<_};
-ghost use lib.ListN.{length, getD, set};
+ghost use lib.ListN.{getD, set};
 ghost use Rattle.kernel.specs.Fields.{recordCount};
 ghost use Rattle.kernel.specs.Search.{lowest};
 ghost use Rattle.kernel.specs.Linkage.{walked, walkOf, badLinkage, chain, chainTooLong};

@@ -16,13 +16,14 @@ use Rattle.verdict.proofs.Lawful.{accepted-lawful}
 use Rattle.sheet.specs.Levels.{Level}
 use Rattle.sheet.specs.declared.Lowered.{Lowered}
 use Rattle.sheet.specs.declared.Lowered.the-variants.{Wrote, Refuses}
-use Rattle.sheet.specs.Bytes.{sheetBytes}
+use Rattle.sheet.specs.Bytes.{sheetBytes, lowerBy}
+use Rattle.sheet.proofs.Answers.{answer-small}
 use Rattle.sheet.proofs.Sizes.{sheet-small}
 use Rattle.machine.specs.Rules.{Machine}
 use Rattle.machine.specs.Run.{Answer, runProgram}
 use Rattle.lanes.specs.Moves.{oddBytes, movesIn}
 use Rattle.lanes.specs.Record.{stateBytes}
-use Rattle.lanes.specs.Interface.{packed, packedLowering, recordSize, stored, runCallBy, lowerCallBy}
+use Rattle.lanes.specs.Interface.{packed, Small, packedLowering, recordSize, stored, runCallBy, lowerCallBy}
 use Rattle.lanes.proofs.Sizes.{state-length}
 
 -- an answer from 2^32 up is a refusal, one below it the number of bytes written
@@ -80,3 +81,12 @@ module _ (buffer : List ℕ) where
       (λ e. cond-by (Kept buffer) (oddBytes moves) (packed 10 0, buffer) (stored answer buffer)
       (λ f. kept-refused (packed 10 0) buffer)
       (λ f. stored-kept answer (ltb-false (length buffer) recordSize e)))
+
+-- every answer of lowering fits 64 bits
+pub answer-fits : (l : Level) (s buffer : List ℕ) {a : Lowered} {after : List ℕ}
+    → (a, after) ≡ lowerBy l (verdict s) buffer → Small a
+answer-fits l s buffer {a} {after} = go a
+  where
+    go : (x : Lowered) → (x, after) ≡ lowerBy l (verdict s) buffer → Small x
+    go (Wrote n) p = tt
+    go (Refuses n r) p = answer-small l s buffer p

@@ -1,5 +1,5 @@
 -- The four calls from C: what each answers, and the output buffer after it.
-use Prim.Native.Nat.{ℕ, _+_, _*_, _^_}
+use Prim.Native.Nat.{ℕ, _+_, _*_, _^_, _≤_}
 use mathlib.Core.Bool.{cond}
 use mathlib.Core.List.{List, _++_}
 use lib.Dec.{eqb, ltb}
@@ -22,6 +22,11 @@ packed n r = n * 2 ^ 32 + r
 abbrev pub packedLowering : Lowered → ℕ
 packedLowering (Wrote n) = n
 packedLowering (Refuses n r) = packed n r
+
+-- an answer that fits 64 bits so
+abbrev pub Small : Lowered → Type 0
+Small (Wrote n) = Unit {0}
+Small (Refuses n r) = (n ≤ 9) × (r ≤ 256)
 
 abbrev pub lowerCallBy : Level → Verdict → List ℕ → ℕ × List ℕ
 lowerCallBy l v buffer = (packedLowering (lowerBy l v buffer .0), lowerBy l v buffer .1)

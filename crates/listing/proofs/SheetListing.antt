@@ -1,5 +1,5 @@
--- The text of the bytes of a lawful kernel's level 2 sheet, with the kernel's mask, is the kernel's listing: theorem
--- `lawful-text`. So it is of every accepted kernel file: `accepted-text`.
+-- The text of a buffer that begins with a lawful kernel's level 2 sheet, with the kernel's mask, is the kernel's
+-- listing: theorem `lawful-text`. So it is of every accepted kernel file: `accepted-text`.
 use Prim.Native.Nat.{ℕ}
 use mathlib.Core.Path.{_≡_, ap}
 use mathlib.Core.List.{List, _++_}
@@ -10,16 +10,17 @@ use Rattle.verdict.specs.Verdict.{accepted, verdict}
 use Rattle.verdict.proofs.Lawful.{accepted-lawful}
 use Rattle.sheet.specs.Levels.{level2}
 use Rattle.sheet.specs.Bytes.{sheetBytes}
-use Rattle.sheet.proofs.ReadBack.{bytes-back}
+use Rattle.sheet.proofs.ReadBack.{lawful-back}
 use Rattle.listing.specs.Line.{firstLine}
 use Rattle.listing.specs.Listing.{ones, sheetLines, listing, sheetText}
 
-pub lawful-text : (k : Program) → Lawful k → sheetText (sheetBytes level2 k) (k .mask) ≡ listing k
+pub lawful-text : (k : Program) (rest : List ℕ) → Lawful k
+    → sheetText (sheetBytes level2 k ++ rest) (k .mask) ≡ listing k
 unfolding sheetText sheetBytes listing
-lawful-text k w =
+lawful-text k rest w =
     ap (λ lanes. firstLine (length (k .lanes)) (k .locations) (ones (k .mask)) (k .locks) ++ sheetLines 0 lanes)
-    (bytes-back level2 k w)
+    (lawful-back level2 k rest w)
 
-pub accepted-text : (s : List ℕ) (k : Program) → verdict s ≡ accepted k
-    → sheetText (sheetBytes level2 k) (k .mask) ≡ listing k
-accepted-text s k e = lawful-text k (accepted-lawful s k e)
+pub accepted-text : (s : List ℕ) (k : Program) (rest : List ℕ) → verdict s ≡ accepted k
+    → sheetText (sheetBytes level2 k ++ rest) (k .mask) ≡ listing k
+accepted-text s k rest e = lawful-text k rest (accepted-lawful s k e)

@@ -1,7 +1,6 @@
 // The text of a level 2 sheet, as bytes.
 mod line;
 mod put;
-mod read;
 mod whole;
 
 pub use whole::list_refusal;

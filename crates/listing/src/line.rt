@@ -2,8 +2,7 @@
 use super::put::put;
 use super::put::put_decimal;
 use super::put::put_text;
-use super::read::byte_at;
-use super::read::quad_at;
+use rows::read::row_at;
 ghost use Prim.Native.Nat.{_+_, _≤_, _^_};
 ghost use mathlib.Core.List.{_++_};
 ghost use lib.ListN.{length, drop};
@@ -69,17 +68,21 @@ pub(crate) fn put_line(
     sheet: &[u8],
     from: usize,
 ) -> usize
-    requires { ⌜ (at + 51 ≤ 2 ^ 62) × (from + 8 ≤ 2 ^ 62) ⌝ }
+    requires { ⌜ at + 51 ≤ 2 ^ 62 ⌝ }
     ensures { λ r. ⌜ (r ≤ at + 51)
         × Puts (now (out .entry)) at (lineOf lane position (readInstr (drop from (now (sheet .entry)))))
         (now (out .exit)) r ⌝ }
 {
-    let o = byte_at(sheet, from);
-    let a = byte_at(sheet, from + 1);
-    let b = byte_at(sheet, from + 2);
-    let c = quad_at(sheet, from + 4);
+    let row = row_at(sheet, from);
     let i = put_pair(out, at, lane, position);
     let j = put(out, i, b' ');
-    let k = put_instr(out, j, o, a, b, c);
+    let k = put_instr(
+        out,
+        j,
+        row.code as u32,
+        row.a as u32,
+        row.b as u32,
+        row.word,
+    );
     put(out, k, b'\n')
 }

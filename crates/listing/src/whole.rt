@@ -2,8 +2,8 @@
 use super::line::put_line;
 use super::line::put_one;
 use super::put::put;
-use super::read::byte_at;
-use super::read::word_at;
+use rows::read::byte_at;
+use rows::read::word_at;
 use sheet::Lowered;
 ghost use mathlib.Core.Path.{_≡_};
 ghost use Prim.Native.Nat.{_+_, _*_, _≤_, _<_, _^_};
@@ -37,7 +37,7 @@ fn put_lane(out: &mut [u8], start: usize, lane: u32, count: u32, sheet: &[u8], f
 fn lanes_of(sheet: &[u8]) -> u32
     ensures { λ r. ⌜ (r ≡ length (counts (now (sheet .entry)))) × (r ≤ 4) ⌝ }
 {
-    let t = byte_at(sheet, 0);
+    let t = byte_at(sheet, 0) as u32;
     if t < 4 { t } else { 4 }
 }
 
@@ -69,10 +69,10 @@ fn put_first(out: &mut [u8], sheet: &[u8], mask: u16) -> usize
         (byte (now (sheet .entry)) 2))
         (now (out .exit)) r ⌝ }
 {
-    let i = put_one(out, 0, b"lanes ", byte_at(sheet, 0));
-    let j = put_one(out, i, b" locations ", byte_at(sheet, 1));
+    let i = put_one(out, 0, b"lanes ", byte_at(sheet, 0) as u32);
+    let j = put_one(out, i, b" locations ", byte_at(sheet, 1) as u32);
     let k = put_one(out, j, b" volatile ", u16::count_ones(mask));
-    let m = put_one(out, k, b" locks ", byte_at(sheet, 2));
+    let m = put_one(out, k, b" locks ", byte_at(sheet, 2) as u32);
     put(out, m, b'\n')
 }
 

@@ -1,9 +1,8 @@
 -- A lane's operations one after the other, as the code writes them.
-use Prim.Native.Nat.{ℕ, suc, _≤_}
-use mathlib.Core.Path.{_≡_}
+use Prim.Native.Nat.{ℕ, suc}
 use mathlib.Core.Bool.{Bool, false, cond}
 use mathlib.Core.List.{List, [], _∷_, _++_, map}
-use lib.ListN.{length, getD}
+use lib.ListN.{getD}
 use Rattle.kernel.specs.declared.accepted.Op.{Op}
 use Rattle.kernel.specs.declared.accepted.Lane.{Lane}
 use Rattle.kernel.specs.Stored.{opsIn}

@@ -1,13 +1,7 @@
 // Writing an operation of a sheet behind the barriers that stand before it.
-ghost use mathlib.Core.Path.{_≡_};
-ghost use mathlib.Core.Bool.{cond};
-ghost use mathlib.Core.List.{[]};
 ghost use Prim.Native.Nat.{_+_, _≤_};
 ghost use lib.ListN.{length};
-ghost use lib.Seq.{sets};
 ghost use Rattle.placement.specs.Place.{chosen};
-ghost use Rattle.sheet.specs.Layout.{aim};
-ghost use Rattle.sheet.specs.Bytes.{row, opBytes};
 ghost use Rattle.sheet.specs.Put.{Puts};
 ghost use Rattle.lowering.specs.Put.{rowIf, marked, stepBytes};
 use kernel::accepted::Op;

@@ -3,9 +3,9 @@ use mathlib.Core.Path.{_≡_, refl, ap}
 use mathlib.Core.Bool.{Bool}
 use mathlib.Core.List.{List, [], _∷_, map}
 use mathlib.Core.Option.{some}
-use Prim.Native.Nat.{ℕ, zero, suc, _≤_}
+use Prim.Native.Nat.{ℕ, zero, suc}
 use native.Mathlib.Omega.{arith}
-use lib.ListN.{length, getD, getElem?, List·getD-map}
+use lib.ListN.{getD, getElem?, List·getD-map}
 use Rattle.kernel.specs.declared.accepted.Op.{Op}
 use Rattle.kernel.specs.declared.accepted.Op.the-variants.{Set, Add, Load, Store, Lock, Unlock, Skip}
 use Rattle.kernel.specs.Accepted.{Program}
@@ -13,11 +13,9 @@ use Rattle.kernel.specs.Lawful.{LawfulLane, Lawful}
 use Rattle.placement.specs.declared.steps.Step.the-variants.{Skip as SkipStep}
 use Rattle.placement.specs.Chain.{at, Forward}
 use Rattle.placement.proofs.Laws.Paths.{forward-of}
-use Rattle.kernel.specs.Accepted.{jump}
 use Rattle.placement.specs.Steps.{stepOf, steps}
 use Rattle.sheet.specs.Layout.{op, operations}
 use Rattle.sheet.specs.Levels.{Level, placed, placedLanes, volatileIn}
-use Rattle.sheet.specs.Items.{TargetsWithin}
 use Rattle.machine.specs.Rules.{Target, source}
 use Rattle.matching.proofs.Fenced.{AllFenced, levelOf, kernelProgram}
 use Rattle.machine.specs.Run.{programFor}

@@ -1,14 +1,13 @@
 // A lane's part of the level 2 sheet, from the rows of its level 1 part.
 ghost use mathlib.Core.Path.{_≡_};
 ghost use mathlib.Core.Bool.{true};
-ghost use mathlib.Core.List.{[], _∷_};
-ghost use Prim.Native.Nat.{min, _*_, _+_, _≤_, _<_};
-ghost use lib.ListN.{length, getD, drop};
+ghost use Prim.Native.Nat.{_*_, _+_, _≤_, _<_};
+ghost use lib.ListN.{length, drop};
 ghost use Rattle.sheet.specs.Levels.{level2};
 ghost use Rattle.sheet.specs.Bytes.{instrBytes, laneBytes};
 ghost use Rattle.sheet.specs.Put.{Puts, laid};
-ghost use Rattle.sheet.specs.Read.{instrBy, readInstr, readRows};
-ghost use Rattle.sheet.specs.Relower.{aimed, relowerBy, relower};
+ghost use Rattle.sheet.specs.Read.{instrBy, readRows};
+ghost use Rattle.sheet.specs.Relower.{aimed, relower};
 ghost use Rattle.relowering.specs.Rows.{staysBy, aims, rowBytes};
 use crate::positions::positions_of;
 use crate::positions::stays;

@@ -7,3 +7,4 @@ pub mod Sizes
 pub mod Relowered
 pub mod RelowerBytes
 pub mod SmallBytes
+pub mod Answers

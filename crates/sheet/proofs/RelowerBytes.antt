@@ -20,7 +20,8 @@ lanes-relowered vol (ops ∷ lanes) = ap₂ (λ x xs. x ∷ xs) (relowered level
 
 module _ (k : Program) (rest : List ℕ) (law : Lawful k) where
   pub relowered-lanes : relowerLanes (sheetBytes level1 k ++ rest) ≡ sheetLanes level2 k
-  relowered-lanes = ap (map (relower level2)) (lawful-back level1 k rest law) ∙ lanes-relowered (volatileIn k) (k .lanes)
+  relowered-lanes = ap (map (relower level2)) (lawful-back level1 k rest law)
+      ∙ lanes-relowered (volatileIn k) (k .lanes)
 
   pub relowered-bytes : relowerBytes (sheetBytes level1 k ++ rest) ≡ sheetBytes level2 k
   unfolding relowerBytes sheetBytes

@@ -1,31 +1,60 @@
--- How long a sheet is: 16 bytes and 8 for each instruction; at most 10,256.
-use Prim.Native.Nat.{ℕ, suc, _+_, _*_, _≤_}
+-- How long a sheet is: 16 bytes and 8 for each instruction; at most 10,256 bytes, and 4,112 at level 2.
+use Prim.Native.Nat.{ℕ, _+_, _*_, _≤_}
 use native.Mathlib.Omega.{arith}
-use mathlib.Core.Path.{_≡_}
-use mathlib.Core.Bool.{Bool}
-use mathlib.Core.List.{List, [], _∷_, map}
-use lib.ListN.{length, getD}
+use mathlib.Core.Path.{_≡_, ap, _∙_}
+use mathlib.Core.List.{List, [], map}
+use lib.ListN.{length, getD, length-map, List·getD-map}
 use Rattle.kernel.specs.declared.accepted.Op.{Op}
 use Rattle.kernel.specs.Accepted.{Program}
-use Rattle.kernel.specs.Lawful.{LawfulLane, Lawful}
+use Rattle.kernel.specs.Lawful.{Lawful}
 use Rattle.sheet.specs.Layout.{sheet}
-use Rattle.sheet.specs.Levels.{Level, placed, sheetLanes, volatileIn}
+use Rattle.sheet.specs.Levels.{Level, level2, placed, sheetLanes, volatileIn}
 use Rattle.sheet.specs.Bytes.{sheetBytes}
-use Rattle.sheet.proofs.Laws.Cells.{lane-length}
-use Rattle.sheet.proofs.Laws.Rows.{total, lanes-bytes}
+use Rattle.sheet.proofs.Laws.Cells.{lane-length, lane2-length}
+use Rattle.sheet.proofs.Laws.Rows.{total, total-four, lanes-bytes}
 
 pub sheet-size : (l : Level) (k : Program) → length (sheetBytes l k) ≡ 16 + 8 * total (sheetLanes l k)
 unfolding sheetBytes
 sheet-size l k = omega (arith, lanes-bytes l (sheetLanes l k))
 
-total-small : (l : Level) (vol : ℕ → Bool) (ls ks : ℕ) (lanes : List (List Op))
-    → ((t : ℕ) → LawfulLane ls ks (getD lanes t [])) → total (map sheet (map (placed l vol) lanes)) ≤ 320 * length lanes
-total-small l vol ls ks [] w = omega arith
-total-small l vol ls ks (os ∷ lanes) w =
-    omega (arith, lane-length l vol os, w 0 .short, total-small l vol ls ks lanes (λ t. w (suc t)))
+module _ (l : Level) (k : Program) (w : Lawful k) where
+  abbrev lane : ℕ → List Op
+  lane t = getD (k .lanes) t []
 
--- a buffer of 10,256 bytes takes every sheet
-pub sheet-small : (l : Level) (k : Program) → Lawful k → length (sheetBytes l k) ≤ 10256
-sheet-small l k w =
-    omega
-    (arith, sheet-size l k, total-small l (volatileIn k) (k .locations) (k .locks) (k .lanes) (w .lane), w .few-lanes)
+  abbrev rows : ℕ → ℕ
+  rows t = length (getD (sheetLanes l k) t [])
+
+  rows-are : (t : ℕ) → rows t ≡ length (sheet (placed l (volatileIn k) (lane t)))
+  rows-are t =
+      ap length (List·getD-map sheet (map (placed l (volatileIn k)) (k .lanes)) t []
+      ∙ ap sheet (List·getD-map (placed l (volatileIn k)) (k .lanes) t []))
+
+  -- a bound for each lane bounds the sheet
+  small-by : (n : ℕ) → ((t : ℕ) → rows t ≤ n) → length (sheetBytes l k) ≤ 16 + 8 * (4 * n)
+  small-by n few =
+      let four : length (sheetLanes l k) ≤ 4 =
+      omega (
+        arith,
+        w .few-lanes,
+        length-map (map (placed l (volatileIn k)) (k .lanes)) sheet,
+        length-map (k .lanes) (placed l (volatileIn k)),
+      ) in
+      omega (arith, sheet-size l k, total-four (sheetLanes l k) four, few 0, few 1, few 2, few 3)
+
+  pub lane-few : (t : ℕ) → rows t ≤ 320
+  lane-few t = omega (arith, rows-are t, lane-length l (volatileIn k) (lane t), w .lane t .short)
+
+  -- a buffer of 10,256 bytes takes every sheet
+  pub sheet-small : length (sheetBytes l k) ≤ 10256
+  sheet-small = small-by 320 lane-few
+
+-- one of 4,112 takes every level 2 sheet
+pub sheet2-small : (k : Program) → Lawful k → length (sheetBytes level2 k) ≤ 4112
+sheet2-small k w =
+    small-by level2 k w 128
+    (λ t. omega (
+      arith,
+      rows-are level2 k w t,
+      lane2-length (volatileIn k) (getD (k .lanes) t []),
+      w .lane t .short,
+    ))

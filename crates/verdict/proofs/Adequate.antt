@@ -4,7 +4,7 @@ use mathlib.Core.Path.{_≡_, refl, sym, ap, _∙_}
 use mathlib.Core.List.{List, [], _∷_}
 use mathlib.Core.Bool.{Bool, true, false, not, cond, true≢false, false≢true}
 use mathlib.Core.Logic.{_⊎_, inl, inr}
-use lib.ListN.{getD, set, length, drop, replicate, length-set}
+use lib.ListN.{getD, set, length, drop, length-set}
 use lib.Seq.{getD-set-other, getD-drop}
 use lib.Dec.{eqb}
 use native.Mathlib.Omega.{arith}

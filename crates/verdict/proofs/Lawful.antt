@@ -1,8 +1,7 @@
 -- Every accepted kernel is lawful: theorem `accepted-lawful`, which the layers above use.
-use Prim.Native.Nat.{ℕ, zero, suc, _+_, _≤_, _<_}
+use Prim.Native.Nat.{ℕ, zero, suc, _≤_, _<_}
 use mathlib.Core.Path.{_≡_, refl, sym, ap, _∙_, subst}
-use mathlib.Core.List.{List, [], _∷_, map}
-use mathlib.Core.Bool.{true}
+use mathlib.Core.List.{List, [], map}
 use mathlib.Core.Option.{some}
 use lib.ListN.{getD, getElem?, length, take, length-take, length-map, List·getD-eq-default}
 use lib.Seq.{getD-take}
@@ -12,11 +11,10 @@ use Rattle.kernel.specs.declared.accepted.Op.{Op}
 use Rattle.kernel.specs.declared.accepted.Op.the-variants.{Set}
 use Rattle.verdict.specs.declared.Refusal.the-variants.{Accepted}
 use Rattle.kernel.specs.Fields.{laneCount, locations, locks, recordCount, head, heads}
-use Rattle.kernel.specs.Linkage.{chain}
-use Rattle.kernel.specs.Accepted.{Program, opsFrom, opsOf, recordsAt, opsAt, programOf}
+use Rattle.kernel.specs.Accepted.{Program, recordsAt, opsAt, programOf}
 use Rattle.kernel.specs.Held.{heldFrom, same, laneFault, lockFault}
 use Rattle.verdict.specs.Verdict.{accepted, verdict, refusalOf}
-use Rattle.kernel.specs.Lawful.{Bounded, Keeps, LawfulLane, Lawful}
+use Rattle.kernel.specs.Lawful.{Bounded, LawfulLane, Lawful}
 use Rattle.kernel.proofs.Laws.Lists.{some-at, map-at}
 use Rattle.kernel.proofs.Laws.Search.{nothing-named}
 use Rattle.kernel.proofs.Laws.Rules.{some-lanes, four-lanes, some-locations, few-locations, few-locks}

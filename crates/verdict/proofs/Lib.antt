@@ -2,3 +2,4 @@
 pub mod Laws
 pub mod Lawful
 pub mod Adequate
+pub mod Named

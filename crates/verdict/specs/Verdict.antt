@@ -1,7 +1,7 @@
 -- The verdict on a kernel file of whatever bytes: refused, or the accepted kernel.
 use Prim.Native.Nat.{ℕ, _+_, _*_}
 use mathlib.Core.List.{List}
-use mathlib.Core.Bool.{Bool, not, cond}
+use mathlib.Core.Bool.{not, cond}
 use lib.ListN.{length}
 use lib.Dec.{ltb, eqb}
 use Rattle.verdict.specs.declared.Refusal.{Refusal}

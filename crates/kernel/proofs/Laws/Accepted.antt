@@ -1,9 +1,8 @@
 -- Laws of the operations of a chain, and of the loop that collects its records.
 use Prim.Native.Nat.{ℕ, zero, suc, _+_, _-_, _≤_, _<_}
-use mathlib.Core.Path.{_≡_, refl, ap, sym, _∙_}
+use mathlib.Core.Path.{_≡_, ap, sym, _∙_}
 use mathlib.Core.List.{List, [], _∷_}
 use native.Mathlib.Omega.{arith}
-use native.Mathlib.Numerals.{add-one}
 use lib.ListN.{getD, length, drop, take, set, length-drop}
 use lib.Seq.{take-all, getD-drop, drop-drop}
 use Rattle.kernel.specs.declared.accepted.Op.{Op}

@@ -11,7 +11,7 @@ use lib.ListN.{getD, set, length, length-set}
 use lib.Dec.{eqb}
 use Rattle.kernel.specs.Fields.{recordCount, next}
 use Rattle.kernel.specs.Search.{lowest}
-use Rattle.kernel.specs.Linkage.{chain, Walked, walked, walkOf, walkLane, linkageFrom}
+use Rattle.kernel.specs.Linkage.{chain, walked, walkOf, walkLane, linkageFrom}
 
 pub chain-suc : (s : List ℕ) (k r : ℕ) → (r ≡ 0 → ⊥) → chain s (suc k) r ≡ r ∷ chain s k (next s r)
 unfolding chain

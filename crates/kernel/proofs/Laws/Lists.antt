@@ -1,12 +1,11 @@
 -- Laws of lists that the kit does not have.
-use Prim.Native.Nat.{ℕ, zero, suc, _+_, _-_, _≤_, _<_}
-use mathlib.Core.Path.{_≡_, refl, ap, sym, _∙_}
-use mathlib.Core.List.{List, [], _∷_, _++_, map}
+use Prim.Native.Nat.{ℕ, zero, suc, _+_, _-_, _<_}
+use mathlib.Core.Path.{_≡_, refl, sym}
+use mathlib.Core.List.{List, [], _∷_, map}
 use mathlib.Core.Option.{none, some}
 use native.Mathlib.Omega.{arith}
-use lib.ListN.{length, getD, getElem?, take, drop, set, replicate, length-drop, length-take, length-append}
-use lib.ListN.{length-replicate}
-use lib.Seq.{take-all, take-suc, set-at, take-length, append-snoc}
+use lib.ListN.{length, getD, getElem?, take, drop, set, replicate, length-drop, length-take}
+use lib.Seq.{take-all, take-suc, set-at, append-snoc}
 use Rattle.kernel.specs.Stored.{filled}
 
 -- the part of a list from n on, as `&xs[n..]` has it

@@ -10,7 +10,7 @@ use borrow.Author.Tests.{eq-eqb, ne-eqb, eqb-true, eqb-false}
 use lib.Dec.{eqb}
 use lib.ListN.{length, getD, getElem?, take, set, length-map, length-take, length-set}
 use lib.ListN.{replicate, getD-replicate}
-use lib.Seq.{getD-set-same, getD-set-other, getD-take, take-length}
+use lib.Seq.{getD-set-same, getD-set-other, getD-take}
 use mir.Val.{Val}
 use denote.Laws.{Is}
 use Rattle.kernel.specs.declared.accepted.Op.{Op}

@@ -1,17 +1,15 @@
 -- Laws of lines: the text of an instruction by its code, and how long it is at most.
 use Prim.Native.Nat.{ℕ, suc, _+_, _^_, _≤_, _<_}
-use mathlib.Core.Path.{_≡_, refl, sym, ap, _∙_}
+use mathlib.Core.Path.{_≡_, sym, ap, _∙_}
 use mathlib.Core.Bool.{Bool, true, false, cond}
 use mathlib.Core.List.{List, [], _∷_, _++_}
 use native.Mathlib.Omega.{arith}
 use lib.Dec.{eqb}
-use lib.ListN.{length, getD, drop, length-append}
-use lib.Seq.{getD-drop}
+use lib.ListN.{length, length-append}
 use borrow.Author.Tests.{ne-eqb}
-use Rattle.kernel.specs.Fields.{byte, quad}
 use Rattle.placement.specs.declared.cookbook.Barrier.the-variants.{SL}
 use Rattle.sheet.specs.Layout.{Instr, barrier}
-use Rattle.sheet.specs.Read.{instrBy, readInstr}
+use Rattle.sheet.specs.Read.{instrBy}
 use Rattle.listing.specs.Decimal.{decimal}
 use Rattle.listing.specs.Line.{pair, instrText, lineOf, firstLine}
 use Rattle.listing.proofs.Laws.Decimal.{decimal-few}
@@ -64,27 +62,6 @@ instr-few o a b c ha hb hc =
     (either (eqb o 11) _ _ (omega arith)
     (either (eqb o 12) _ _ (omega arith)
     (either (eqb o 13) _ _ (omega arith) (omega arith))))))))))
-
-same-four : (f : ℕ → ℕ → ℕ → ℕ → Instr) {o p a x b y c z : ℕ} → o ≡ p → a ≡ x → b ≡ y → c ≡ z → f o a b c ≡ f p x y z
-same-four f e1 e2 e3 e4 = cc
-
-shifted : (s : List ℕ) (k i j : ℕ) → j ≡ k + i → getD s j 0 ≡ getD (drop k s) i 0
-shifted s k i j e = ap (λ n. getD s n 0) e ∙ sym (getD-drop k s i 0)
-
-quad-at : (s : List ℕ) (k : ℕ) → quad s (k + 4) ≡ quad (drop k s) 4
-quad-at s k =
-    let e4 = shifted s k 4 (k + 4) refl in
-    let e5 = shifted s k 5 (k + 4 + 1) (omega arith) in
-    let e6 = shifted s k 6 (k + 4 + 2) (omega arith) in
-    let e7 = shifted s k 7 (k + 4 + 2 + 1) (omega arith) in
-    omega (arith, e4, e5, e6, e7)
-
--- the instruction whose bytes begin at k
-pub row-at : (s : List ℕ) (k : ℕ) {o a b c : ℕ} → o ≡ byte s k → a ≡ byte s (k + 1) → b ≡ byte s (k + 2)
-    → c ≡ quad s (k + 4) → instrBy o a b c ≡ readInstr (drop k s)
-row-at s k eo ea eb ec =
-    same-four instrBy (eo ∙ shifted s k 0 k (omega arith)) (ea ∙ shifted s k 1 (k + 1) refl)
-    (eb ∙ shifted s k 2 (k + 2) refl) (ec ∙ quad-at s k)
 
 -- a line of operands of 32 bits
 pub line-few : (lane p o a b c : ℕ) → lane < 2 ^ 32 → p < 2 ^ 32 → a < 2 ^ 32 → b < 2 ^ 32 → c < 2 ^ 32

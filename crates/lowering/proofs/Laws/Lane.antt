@@ -1,11 +1,11 @@
 -- Laws of writing a lane's operations one after the other.
 use Prim.Native.Nat.{ℕ, zero, suc, _+_, _*_, _≤_, _<_}
 use mathlib.Core.Path.{_≡_, refl, sym, ap, _∙_}
-use mathlib.Core.List.{List, [], _∷_, _++_, map, append-assoc, append-nil}
+use mathlib.Core.List.{List, [], _∷_, _++_, map, append-assoc}
 use mathlib.Core.Option.{some}
 use native.Mathlib.Omega.{arith}
 use native.Mathlib.Decide.{decLe}
-use lib.ListN.{length, getD, getElem?, take, drop, length-append, length-map}
+use lib.ListN.{length, getD, take, length-append, length-map}
 use lib.Seq.{take-suc, take-all}
 use Rattle.kernel.specs.declared.accepted.Op.{Op}
 use Rattle.kernel.specs.declared.accepted.Op.the-variants.{Set, Add, Load, Store, Lock, Unlock, Skip}
@@ -18,8 +18,8 @@ use Rattle.placement.specs.declared.cookbook.Barrier.{Barrier}
 use Rattle.kernel.specs.Accepted.{jump}
 use Rattle.placement.specs.Sheet.{start as startBy}
 use Rattle.sheet.specs.Layout.{Instr, op, barrier, Placed, start, aim, cells, sheet}
-use Rattle.sheet.specs.Levels.{Level, level1}
-use Rattle.sheet.specs.Bytes.{instrBytes, laneBytes}
+use Rattle.sheet.specs.Levels.{level1}
+use Rattle.sheet.specs.Bytes.{laneBytes}
 use Rattle.sheet.specs.Items.{TargetsWithin}
 use Rattle.lowering.specs.Put.{placedBy, StartsTo, stepBytes}
 use Rattle.sheet.proofs.Laws.Rows.{lane-bytes, bytes-append}

@@ -1,12 +1,11 @@
 -- Laws of writing the lanes of a kernel one after the other.
-use Prim.Native.Nat.{ℕ, zero, suc, min, _+_, _*_, _-_, _≤_, _<_}
+use Prim.Native.Nat.{ℕ, zero, suc, _+_, _*_, _≤_, _<_}
 use mathlib.Core.Path.{_≡_, refl, sym, ap, _∙_}
 use mathlib.Core.Bool.{Bool}
-use mathlib.Core.List.{List, [], _∷_, _++_, map, append-assoc, append-nil}
+use mathlib.Core.List.{List, [], _∷_, _++_, append-assoc, append-nil}
 use native.Mathlib.Omega.{arith}
 use native.Mathlib.Decide.{decLe}
-use lib.ListN.{length, getD, take, drop, length-append, length-drop, length-map, length-take}
-use lib.Seq.{sets, sets-eq, take-all, drop-drop, drop-length}
+use lib.ListN.{length, getD, length-append, length-map}
 use mir.Val.{Val}
 use denote.Laws.{Is}
 use Rattle.kernel.specs.declared.accepted.Kernel.{Kernel}
@@ -17,15 +16,14 @@ use Rattle.kernel.specs.Stored.{opsIn, pastLanes}
 use Rattle.placement.specs.Steps.{steps}
 use Rattle.placement.specs.Sheet.{start as startBy}
 use Rattle.sheet.specs.Layout.{sheet}
-use Rattle.sheet.specs.Levels.{level1, placed}
-use Rattle.sheet.specs.Bytes.{joined, laneBytes}
+use Rattle.sheet.specs.Levels.{level1}
+use Rattle.sheet.specs.Bytes.{laneBytes}
 use Rattle.lowering.specs.declared.plan.Plan.{Plan}
 use Rattle.lowering.specs.declared.plan.Plans.{Plans}
-use Rattle.lowering.specs.Put.{standing, placedBy}
-use Rattle.sheet.specs.Bytes.{over}
+use Rattle.lowering.specs.Put.{standing}
 use Rattle.lowering.specs.Plan.{Planned, AllPlanned, noPlan, plannedBytes, writtenLanes, laneAt1, lanesBytes}
 use Rattle.sheet.specs.Put.{Puts}
-use Rattle.sheet.proofs.Laws.Put.{puts-front, puts-length}
+use Rattle.sheet.proofs.Laws.Put.{puts-length}
 use Rattle.lowering.proofs.Laws.Lane.{first-all, first-length}
 use Rattle.lowering.proofs.Laws.Plan.{placed-is}
 

@@ -1,25 +1,24 @@
 -- Laws of a level 1 sheet: its size from the plans, and header and lanes put one after the other.
-use Prim.Native.Nat.{ℕ, zero, suc, min, _+_, _*_, _-_, _%_, _≤_, _<_}
+use Prim.Native.Nat.{ℕ, zero, suc, min, _+_, _*_, _-_, _≤_, _<_}
 use mathlib.Core.Path.{_≡_, refl, sym, ap, _∙_}
 use mathlib.Core.Bool.{Bool}
 use mathlib.Core.List.{List, [], _∷_, _++_, map, append-assoc, append-nil, map-append}
 use native.Mathlib.Omega.{arith}
 use lib.ListN.{length, getD, replicate, length-map, List·getD-map}
 use lib.Seq.{sets}
-use Rattle.kernel.specs.declared.accepted.Op.{Op}
 use Rattle.kernel.specs.declared.accepted.Lane.{Lane}
 use Rattle.kernel.specs.declared.accepted.Kernel.{Kernel}
 use Rattle.kernel.specs.Accepted.{isVolatile}
-use Rattle.kernel.specs.Stored.{opsIn, noLane, storedLane, storedLanes, stored, pastLanes, filled}
+use Rattle.kernel.specs.Stored.{opsIn, noLane, storedLanes, stored, pastLanes}
 use Rattle.placement.specs.Sheet.{start as startBy}
-use Rattle.sheet.specs.Layout.{Instr, sheet}
+use Rattle.sheet.specs.Layout.{sheet}
 use Rattle.sheet.specs.Levels.{level1, placed, sheetLanes}
 use Rattle.sheet.specs.Bytes.{word, joined, laneBytes, sheetBytes, writeInto}
 use Rattle.sheet.proofs.Laws.Rows.{total-four, lane-bytes}
 use Rattle.sheet.proofs.Sizes.{sheet-size}
 use Rattle.lowering.specs.declared.plan.Plans.{Plans}
 use Rattle.lowering.specs.Put.{standing}
-use Rattle.lowering.specs.Plan.{AllPlanned, noPlan, plannedBytes, laneAt1, lanesBytes}
+use Rattle.lowering.specs.Plan.{AllPlanned, noPlan, laneAt1, lanesBytes}
 use Rattle.lowering.specs.Whole.{programIn, Whole, sizeIn, sheet1}
 use Rattle.lowering.proofs.Laws.Lanes.{planned-is, planned-length}
 use Rattle.sheet.specs.Put.{laid}

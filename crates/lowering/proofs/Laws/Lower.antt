@@ -1,6 +1,6 @@
 -- Laws of lowering a file: what a refusal answers, and what is held of an accepted kernel.
 use Prim.Native.Nat.{ℕ}
-use mathlib.Core.Path.{_≡_, refl, sym, ap, _∙_, subst}
+use mathlib.Core.Path.{_≡_, sym, ap, _∙_, subst}
 use mathlib.Core.List.{List}
 use borrow.Author.Tests.{ne-eqb}
 use Rattle.verdict.specs.declared.Loaded.{Loaded}
@@ -12,7 +12,7 @@ use Rattle.verdict.proofs.Lawful.{accepted-lawful}
 use Rattle.sheet.specs.declared.Lowered.the-variants.{Refuses}
 use Rattle.sheet.specs.Levels.{Level, level1}
 use Rattle.sheet.specs.Bytes.{sheetBytes, writeInto, lowerBy}
-use Rattle.lowering.specs.Whole.{programIn, Whole, sheet1}
+use Rattle.lowering.specs.Whole.{Whole, sheet1}
 use Rattle.lowering.proofs.Laws.Whole.{program-stored, whole-stored}
 
 module _ (s : List ℕ) where

@@ -1,10 +1,10 @@
 -- Laws of the plans of lanes: a planned lane is the lane of the level 1 sheet.
 use Prim.Native.Nat.{ℕ, zero, suc, _<_}
-use mathlib.Core.Path.{_≡_, refl, sym, ap, _∙_}
+use mathlib.Core.Path.{_≡_, refl}
 use mathlib.Core.Bool.{Bool, false}
 use mathlib.Core.List.{List, [], _∷_}
 use native.Mathlib.Omega.{arith}
-use lib.ListN.{getD, length}
+use lib.ListN.{getD}
 use Rattle.kernel.specs.declared.accepted.Op.{Op}
 use Rattle.kernel.specs.declared.accepted.Lane.{Lane}
 use Rattle.kernel.specs.Stored.{pastLanes}
@@ -12,11 +12,10 @@ use Rattle.placement.specs.declared.cookbook.Barrier.{Barrier}
 use Rattle.placement.specs.declared.cookbook.Barrier.the-variants.{LL, LS, SS, SL}
 use Rattle.placement.specs.declared.place.Placement.{Placement}
 use Rattle.placement.specs.Chain.{Chain}
-use Rattle.placement.specs.Steps.{steps}
 use Rattle.placement.specs.Place.{keep, stands, before}
 use Rattle.placement.specs.Placed.{flags}
 use Rattle.lowering.specs.declared.plan.Plan.{Plan}
-use Rattle.sheet.specs.Levels.{level1, placeFrom, placed}
+use Rattle.sheet.specs.Levels.{level1, placeFrom}
 use Rattle.lowering.specs.Put.{standing, placedBy}
 use Rattle.lowering.specs.Plan.{Planned, noPlan}
 

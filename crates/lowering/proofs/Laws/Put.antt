@@ -2,7 +2,7 @@
 use Prim.Native.Nat.{ℕ, _+_, _≤_}
 use mathlib.Core.Path.{_≡_, refl, sym, ap, _∙_}
 use mathlib.Core.Bool.{Bool, true, false}
-use mathlib.Core.List.{List, [], _∷_, _++_, map, append-nil, append-assoc}
+use mathlib.Core.List.{List, [], _∷_, _++_, map, append-nil}
 use native.Mathlib.Omega.{arith}
 use lib.ListN.{length, length-append}
 use Rattle.kernel.specs.declared.accepted.Op.{Op}
@@ -14,7 +14,7 @@ use Rattle.placement.specs.Place.{keep, chosen}
 use Rattle.lowering.specs.declared.steps.Marks.{Marks}
 use Rattle.sheet.specs.Layout.{Instr, op, barrier, aim}
 use Rattle.sheet.specs.Levels.{level1}
-use Rattle.sheet.specs.Bytes.{row, opBytes, laneBytes}
+use Rattle.sheet.specs.Bytes.{opBytes, laneBytes}
 use Rattle.sheet.specs.Put.{Puts, laid}
 use Rattle.sheet.proofs.Laws.Put.{laid-put, puts-on, puts-as, puts-length}
 use Rattle.lowering.specs.Put.{rowIf, marked, stepBytes}

@@ -1,12 +1,10 @@
 -- Laws of the positions at which the operations of a lane begin, as the code computes them.
-use Prim.Native.Nat.{ℕ, zero, suc, _+_, _*_, _≤_, _<_}
-use mathlib.Core.Path.{_≡_, refl, sym, ap, _∙_}
+use Prim.Native.Nat.{ℕ, zero, suc, _+_, _*_, _≤_}
+use mathlib.Core.Path.{_≡_, sym, _∙_}
 use mathlib.Core.Bool.{Bool, true, false, cond}
 use mathlib.Core.List.{List, []}
 use native.Mathlib.Omega.{arith}
-use native.Mathlib.Decide.{decLe}
-use lib.ListN.{length, getD, set, length-set, length-map, replicate, List·getD-eq-default}
-use lib.Seq.{getD-set-same, getD-set-other}
+use lib.ListN.{length, length-map, List·getD-eq-default}
 use mir.Val.{Val}
 use denote.Laws.{Is}
 use Rattle.placement.specs.declared.cookbook.Barrier.{Barrier}
@@ -16,7 +14,7 @@ use Rattle.placement.specs.Place.{keep, chosen}
 use Rattle.placement.specs.Sheet.{start as startBy}
 use Rattle.placement.proofs.place.Placement as T
 use Rattle.lowering.specs.declared.steps.Marks.{Marks}
-use Rattle.lowering.specs.Put.{marked, standingMarks, standing, StartsTo}
+use Rattle.lowering.specs.Put.{marked, standingMarks, standing}
 use Rattle.sheet.proofs.Laws.Cells.{chosen-length}
 
 -- behind the arrays of a placement nothing stands

@@ -1,11 +1,11 @@
 -- Laws of a lane's level 2 bytes: the bytes of a row, one row more, and the room for it.
 use Prim.Native.Nat.{ℕ, suc, min, _+_, _*_, _≤_, _<_}
 use mathlib.Core.Path.{_≡_, refl, sym, ap, _∙_, subst}
-use mathlib.Core.Bool.{Bool, true, false, cond}
+use mathlib.Core.Bool.{true, false, cond}
 use mathlib.Core.List.{List, [], _∷_, _++_, append-nil}
 use native.Mathlib.Omega.{arith}
 use lib.Dec.{eqb}
-use lib.ListN.{length, getD, drop, length-append}
+use lib.ListN.{length, drop, length-append}
 use borrow.Author.Tests.{ne-eqb}
 use Rattle.kernel.specs.Fields.{byte, quad}
 use Rattle.placement.specs.declared.cookbook.Barrier.the-variants.{SL}
@@ -16,7 +16,7 @@ use Rattle.sheet.specs.Levels.{level2}
 use Rattle.sheet.specs.Bytes.{instrBytes, laneBytes}
 use Rattle.sheet.specs.Put.{Puts}
 use Rattle.sheet.specs.Read.{instrBy, readInstr, readRows}
-use Rattle.sheet.specs.Relower.{newPosition, aimed, relowerBy, relower}
+use Rattle.sheet.specs.Relower.{newPosition, aimed, relowerBy}
 use Rattle.sheet.proofs.Laws.Put.{puts-on, puts-as}
 use Rattle.sheet.proofs.Laws.Rows.{lane-bytes, bytes-append}
 use Rattle.relowering.specs.Rows.{staysBy, PositionsTo, aims, rowBytes}
@@ -66,7 +66,8 @@ module _ (r : ℕ → ℕ) (s : List ℕ) where
 
   pub row-dropped : {x : Row} → x ≡ rowIn s → staysBy (x .code) ≡ false → [] ≡ rowBytes r s
   row-dropped e h =
-      let no = stays-code (byte s 0) (byte s 1) (byte s 2) (quad s 4) ∙ ap (λ (x : Row). staysBy (x .code)) (sym e) ∙ h in
+      let no = stays-code (byte s 0) (byte s 1) (byte s 2) (quad s 4) ∙ ap (λ (x : Row). staysBy (x .code)) (sym e)
+      ∙ h in
       rw no refl
 
 module _ (r : ℕ → ℕ) (s : List ℕ) where

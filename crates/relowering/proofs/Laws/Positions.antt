@@ -1,12 +1,12 @@
 -- Laws of the rows that stay: which do, where they come to stand, and one row more.
 use Prim.Native.Nat.{ℕ, zero, suc, min, _+_, _*_, _≤_, _<_}
-use mathlib.Core.Path.{_≡_, refl, sym, ap, ap₂, _∙_}
+use mathlib.Core.Path.{_≡_, refl, sym, ap, _∙_}
 use mathlib.Core.Bool.{Bool, true, false, cond}
 use mathlib.Core.List.{List, [], _∷_, _++_}
 use native.Mathlib.Omega.{arith}
 use native.Mathlib.Decide.{decLe}
 use lib.Dec.{eqb}
-use lib.ListN.{length, getD, take, drop, length-append}
+use lib.ListN.{length, take, drop, length-append}
 use lib.Seq.{take-all}
 use borrow.Author.Tests.{eqb-true}
 use Rattle.kernel.specs.Fields.{byte, quad}
@@ -14,7 +14,7 @@ use Rattle.placement.specs.declared.cookbook.Barrier.the-variants.{LL, LS, SS, 
 use Rattle.sheet.specs.Layout.{Instr, op, barrier}
 use Rattle.sheet.specs.Levels.{level2}
 use Rattle.sheet.specs.Read.{instrBy, readInstr, readRows}
-use Rattle.sheet.specs.Relower.{stays, newPosition, aimed, relowerBy, relower}
+use Rattle.sheet.specs.Relower.{stays, newPosition, aimed, relowerBy}
 use Rattle.rows.proofs.Laws.Read.{shifted, rows-length, rows-on, rows-take}
 use Rattle.relowering.specs.Rows.{staysBy}
 

@@ -4,14 +4,14 @@ use mathlib.Core.Path.{_≡_, refl, sym, ap, _∙_, subst}
 use mathlib.Core.List.{List, [], _∷_, _++_, map, append-assoc, append-nil}
 use native.Mathlib.Omega.{arith}
 use native.Mathlib.Decide.{decLe}
-use lib.ListN.{length, getD, take, drop, length-append, length-map, List·getD-map}
+use lib.ListN.{length, getD, take, drop, length-append, List·getD-map}
 use Rattle.kernel.specs.Fields.{byte}
 use Rattle.kernel.proofs.Laws.Lists.{part-from}
 use Rattle.rows.specs.declared.parts.Parts.{Parts}
 use Rattle.rows.specs.Rows.{partsIn}
 use Rattle.rows.proofs.Laws.Parts.{lane-rows, sheet-few}
 use Rattle.sheet.specs.Layout.{Instr}
-use Rattle.sheet.specs.Levels.{Level, level2}
+use Rattle.sheet.specs.Levels.{level2}
 use Rattle.sheet.specs.Bytes.{word, joined, laneBytes}
 use Rattle.sheet.specs.Read.{readRows, readSheet}
 use Rattle.sheet.specs.Relower.{relower, relowerLanes, relowerBytes}
@@ -47,7 +47,8 @@ module _ (s : List ℕ) where
   body-grows t zero h = let z : t ≡ 0 = omega arith in rw z (omega arith)
   body-grows t (suc n) h = go (decLe t n) (body-grows t n)
     where
-      go : Dec (t ≤ n) → (t ≤ n → length (bodyOf s t) ≤ length (bodyOf s n)) → length (bodyOf s t) ≤ length (bodyOf s (suc n))
+      go : Dec (t ≤ n) → (t ≤ n → length (bodyOf s t) ≤ length (bodyOf s n)) → length (bodyOf s t) ≤ length
+          (bodyOf s (suc n))
       go (yes l) ih = omega (arith, ih l, body-suc n)
       go (no l) ih = let e : t ≡ suc n = omega arith in rw e (omega arith)
 

@@ -1,12 +1,11 @@
 -- Laws of the parts of a sheet: each lane's rows lie where its part says.
-use Prim.Native.Nat.{ℕ, zero, suc, min, _+_, _*_, _<_, _≤_}
+use Prim.Native.Nat.{ℕ, zero, suc, _+_, _*_, _<_, _≤_}
 use mathlib.Core.Path.{_≡_, refl, sym, ap, ap₂, _∙_}
 use mathlib.Core.List.{List, [], _∷_}
 use native.Mathlib.Omega.{arith}
-use lib.ListN.{length, getD, take, drop, length-take, List·getD-eq-default}
+use lib.ListN.{length, getD, drop, length-take, List·getD-eq-default}
 use lib.Seq.{drop-drop, getD-take}
 use Rattle.kernel.specs.Fields.{word}
-use Rattle.sheet.specs.Layout.{Instr}
 use Rattle.sheet.specs.Read.{readRows, pastRows, readLanes, counts, readSheet}
 use Rattle.rows.specs.Rows.{countAt, partsIn}
 

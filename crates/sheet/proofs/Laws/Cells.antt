@@ -1,5 +1,6 @@
 -- Laws of a lane's part of a sheet: how long it is, and what holds of each of its instructions.
 use Prim.Native.Nat.{ℕ, zero, suc, _*_, _≤_}
+use native.Mathlib.Nat.{mul-suc}
 use native.Mathlib.Omega.{arith}
 use mathlib.Core.Path.{_≡_, refl}
 use mathlib.Core.Bool.{Bool, true, false, _&&_}
@@ -13,7 +14,7 @@ use Rattle.placement.specs.Chain.{Chain}
 use Rattle.placement.specs.Steps.{steps}
 use Rattle.placement.specs.Place.{stands, keep, chosen}
 use Rattle.sheet.specs.Layout.{Instr, op, barrier, start, aim, cells, sheet}
-use Rattle.sheet.specs.Levels.{Level, keeps, placeFrom, placed}
+use Rattle.sheet.specs.Levels.{Level, level2, keeps, placeFrom, placed}
 
 -- P holds of each element
 abbrev pub Each : {A : Type 0} → (A → Type 0) → List A → Type 0
@@ -46,14 +47,17 @@ module _ (l : Level) (s : Chain) where
       omega (arith, start-small os (suc p) i, chosen-length (λ b. keeps l o b && stands s b p))
 
   module _ (r : ℕ → ℕ) where
-    cells-length : (os : List Op) (p : ℕ) → length (cells r (placeFrom l s p os)) ≤ 5 * length os
-    cells-length [] p = omega arith
-    cells-length (o ∷ os) p =
+    -- n instructions at most for each operation, with its barriers
+    cells-length : (n : ℕ) → ((o : Op) (p : ℕ) → suc (length (chosen (λ b. keeps l o b && stands s b p))) ≤ n)
+        → (os : List Op) (p : ℕ) → length (cells r (placeFrom l s p os)) ≤ n * length os
+    cells-length n few [] p = omega arith
+    cells-length n few (o ∷ os) p =
         let bs = chosen (λ b. keeps l o b && stands s b p) in
         omega (
           arith,
-          cells-length os (suc p),
-          chosen-length (λ b. keeps l o b && stands s b p),
+          mul-suc n (length os),
+          cells-length n few os (suc p),
+          few o p,
           length-append (map barrier bs) (op (aim r o) ∷ cells r (placeFrom l s (suc p) os)),
           length-map bs barrier,
         )
@@ -67,4 +71,17 @@ module _ (l : Level) (s : Chain) where
         (h 0 o refl, cells-each P bars os (suc p) (λ i. h (suc i)))
 
 pub lane-length : (l : Level) (vol : ℕ → Bool) (os : List Op) → length (sheet (placed l vol os)) ≤ 5 * length os
-lane-length l vol os = cells-length l (steps vol os) (start (placed l vol os)) os 0
+lane-length l vol os =
+    let s : Chain = steps vol os in
+    cells-length l s (start (placed l vol os)) 5
+    (λ o p. omega (arith, chosen-length (λ b. keeps l o b && stands s b p))) os 0
+
+-- level 2 keeps at most one barrier
+pub lane2-length : (vol : ℕ → Bool) (os : List Op) → length (sheet (placed level2 vol os)) ≤ 2 * length os
+lane2-length vol os =
+    let s : Chain = steps vol os in
+    cells-length level2 s (start (placed level2 vol os)) 2 (λ o p. omega (
+      arith,
+      keep-length (stands s SL p) SL
+          [],
+    )) os 0

@@ -1,5 +1,5 @@
 -- Laws of the verdict: what each check that did not refuse leaves.
-use Prim.Native.Nat.{ℕ, _+_, _*_, _≤_, _<_}
+use Prim.Native.Nat.{ℕ, _+_, _*_, _<_}
 use mathlib.Core.Path.{_≡_, refl, ap, sym, _∙_}
 use mathlib.Core.List.{List, [], _∷_}
 use mathlib.Core.Bool.{Bool, true, false, not, cond}
@@ -14,7 +14,6 @@ use Rattle.verdict.specs.declared.Refusal.{Refusal}
 use Rattle.verdict.specs.declared.Refusal.the-variants.{Accepted, TruncatedHeader, BadHeader, BadLength}
 use Rattle.verdict.specs.declared.Refusal.the-variants.{BadRecord, BadLinkage, ChainTooLong, BadTarget}
 use Rattle.verdict.specs.declared.Refusal.the-variants.{LockFault}
-use Rattle.verdict.specs.declared.Loaded.{Loaded}
 use Rattle.verdict.proofs.Refusal as T
 use Rattle.kernel.specs.Fields.{recordCount}
 use Rattle.kernel.specs.Rules.{headerRule, badRecord}
@@ -22,7 +21,7 @@ use Rattle.kernel.specs.Linkage.{badLinkage, chainTooLong}
 use Rattle.kernel.specs.Targets.{badTarget}
 use Rattle.kernel.specs.Accepted.{Program, programOf}
 use Rattle.kernel.specs.Held.{lockFault}
-use Rattle.verdict.specs.Verdict.{unless, structureThen, refusalOf, numberOf, recordOf, Verdict, accepted}
+use Rattle.verdict.specs.Verdict.{unless, structureThen, refusalOf, numberOf, accepted}
 use Rattle.verdict.specs.Verdict.{verdict, verdictFrom}
 use Rattle.kernel.specs.Stored.{stored, noProgram}
 use Rattle.verdict.specs.Loaded.{kernelBy, loadedOf}

@@ -6,7 +6,6 @@ use Rattle.kernel.specs.Accepted.{programOf}
 use Rattle.kernel.specs.Held.{lockFault}
 use Rattle.kernel.specs.Stored.{stored, kernelIf, lockFaultIn}
 use Rattle.kernel.proofs.Laws.Stored.{lock-fault-stored, lanes-paired, lane-paired}
-use Rattle.verdict.specs.declared.Refusal.{Refusal}
 use Rattle.verdict.specs.declared.Refusal.the-variants.{Accepted, LockFault}
 use Rattle.verdict.specs.Verdict.{unless, refusalOf, numberOf}
 use Rattle.verdict.proofs.Laws.Verdict.{structured, structure-passed, structure-stopped}

@@ -1,6 +1,6 @@
 -- `kernel::accepted::filled_kernel` meets its contract.
 use mathlib.Core.List.{[], _∷_}
-use mathlib.Core.Path.{_≡_, _∙_, ap}
+use mathlib.Core.Path.{_∙_, ap}
 use Rattle.kernel.proofs.Laws.Stored.{laneFrom, stored-by}
 use borrow.Author.Needs.{needs}
 use Rattle.kernel.proofs.accepted.filled_kernel.Statement.{statement}

@@ -1,7 +1,6 @@
 -- `kernel::accepted::no_kernel` meets its contract.
 use mathlib.Core.Path.{refl}
 use Rattle.kernel.specs.Stored.{stored, storedLanes, slotsOf}
-use borrow.Author.Needs.{needs}
 use Rattle.kernel.proofs.accepted.no_kernel.Statement.{statement}
 use Rattle.kernel.proofs.accepted.no_kernel.Tie as tie
 

@@ -1,6 +1,5 @@
 -- `kernel::accepted::op_at` meets its contract.
 use Prim.Native.Nat.{_+_}
-use mathlib.Core.Path.{_≡_, sym, _∙_, ap}
 use Rattle.kernel.proofs.Laws.Lists.{part-from}
 use Rattle.kernel.proofs.Laws.Accepted.{opsOf-at}
 use borrow.Author.Needs.{needs}

@@ -1,11 +1,11 @@
 -- `kernel::held::held_sets` meets its contract. The sets in place are those of the positions passed.
 use Prim.Native.Nat.{_<_, _≤_, _-_}
-use lib.ListN.{length, getD, take}
+use lib.ListN.{length, take}
 use mathlib.Core.List.{map}
-use mathlib.Core.Path.{_≡_, refl, sym, ap, _∙_, subst}
+use mathlib.Core.Path.{_≡_, sym, ap, _∙_}
 use native.Mathlib.Omega.{arith}
-use Rattle.kernel.specs.Held.{after, heldFrom}
-use Rattle.kernel.specs.Stored.{noOp, noSlot, opsIn}
+use Rattle.kernel.specs.Held.{after}
+use Rattle.kernel.specs.Stored.{noOp, opsIn}
 use Rattle.kernel.specs.Sets.{SetsTo}
 use Rattle.kernel.proofs.Laws.Sets.{slots-room, slots-cut, cut-length, cut-at, sets-start, sets-on}
 use borrow.Author.Needs.{needs}

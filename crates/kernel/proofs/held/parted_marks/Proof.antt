@@ -1,8 +1,8 @@
 -- `kernel::held::parted_marks` meets its contract. The marks are those of the SKIPs passed.
 use Prim.Native.Nat.{_<_, _≤_, _-_}
-use lib.ListN.{length, getD, take}
+use lib.ListN.{length, take}
 use mathlib.Core.List.{map}
-use mathlib.Core.Path.{_≡_, refl, sym, ap, _∙_, subst}
+use mathlib.Core.Path.{_≡_, sym, ap, _∙_}
 use native.Mathlib.Omega.{arith}
 use mathlib.Core.Bool.{cond, not, true}
 use mathlib.Core.Logic.{⊎-elim}

@@ -2,7 +2,7 @@
 use Prim.Native.Nat.{_<_}
 use borrow.Author.Needs.{needs}
 use lib.ListN.{length, length-set}
-use mathlib.Core.Path.{_≡_, _∙_, refl, sym, ap}
+use mathlib.Core.Path.{_≡_, _∙_, refl, sym}
 use native.Mathlib.Omega.{arith}
 use Rattle.kernel.specs.Linkage.{chain, walkOf}
 use Rattle.kernel.proofs.Laws.Linkage.{walkOf-here, walkOf-on, walk-stop, walk-on, walk-end}

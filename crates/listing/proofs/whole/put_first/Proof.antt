@@ -14,6 +14,9 @@ slice-aggregate-put-one c = search needs
 byte-at-requires : tie.Need-byte-at-requires
 byte-at-requires c κs = search needs
 
+cast-put-one : tie.Need-cast-put-one
+cast-put-one c = search needs
+
 put-one-requires : tie.Need-put-one-requires
 put-one-requires c κs = search needs
 
@@ -22,6 +25,9 @@ slice-aggregate-put-one-2 c = search needs
 
 byte-at-requires-2 : tie.Need-byte-at-requires-2
 byte-at-requires-2 c κs = search needs
+
+cast-put-one-2 : tie.Need-cast-put-one-2
+cast-put-one-2 c = search needs
 
 put-one-requires-2 : tie.Need-put-one-requires-2
 put-one-requires-2 c κs = search needs
@@ -37,6 +43,9 @@ slice-aggregate-put-one-4 c = search needs
 
 byte-at-requires-3 : tie.Need-byte-at-requires-3
 byte-at-requires-3 c κs = search needs
+
+cast-put-one-3 : tie.Need-cast-put-one-3
+cast-put-one-3 c = search needs
 
 put-one-requires-4 : tie.Need-put-one-requires-4
 put-one-requires-4 c κs = search needs
@@ -62,9 +71,9 @@ returns c =
     (k .put-one4 .ensures .1))
     (c .before .before .put .ensures) in
     let same =
-    first-same (t .before .byte-at .ensures .0) (l .before .byte-at2 .ensures .0)
+    first-same (t .before .byte-at .ensures) (l .before .byte-at2 .ensures)
     (ones-16 (s .args .mask) (omega arith))
-    (k .before .byte-at3 .ensures .0) in (
+    (k .before .byte-at3 .ensures) in (
       omega (
         arith,
         c .before .before .put .ensures .behind,
@@ -82,14 +91,17 @@ put-first-spec =
     (tie.spec
     slice-aggregate-put-one
     byte-at-requires
+    cast-put-one
     put-one-requires
     slice-aggregate-put-one-2
     byte-at-requires-2
+    cast-put-one-2
     put-one-requires-2
     slice-aggregate-put-one-3
     put-one-requires-3
     slice-aggregate-put-one-4
     byte-at-requires-3
+    cast-put-one-3
     put-one-requires-4
     put-requires
     same-length

@@ -28,7 +28,7 @@ put-line-requires : tie.Need-put-line-requires Inv-loop μ-loop
 put-line-requires c κs =
     let inv = c .before .before .loop .inv in
     let pre = c .before .before .before .before .before .pre in
-    (omega arith, omega arith)
+    omega arith
 
 add-row : tie.Need-add-row Inv-loop μ-loop
 add-row c = omega arith

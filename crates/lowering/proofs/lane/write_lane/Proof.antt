@@ -1,8 +1,8 @@
 -- `lowering::lane::write_lane` meets its contract. What is written is the bytes of the operations passed.
-use Prim.Native.Nat.{min, suc, _≤_, _<_, _-_, _+_, _*_}
+use Prim.Native.Nat.{_≤_, _<_, _-_, _*_}
 use lib.ListN.{length, getD, take}
-use mathlib.Core.List.{map, _++_}
-use mathlib.Core.Path.{_≡_, refl, sym, ap, _∙_, subst}
+use mathlib.Core.List.{map}
+use mathlib.Core.Path.{_≡_, sym, ap, _∙_, subst}
 use native.Mathlib.Omega.{arith}
 use Rattle.kernel.specs.Stored.{noOp, noSlot, opsIn}
 use Rattle.kernel.proofs.Laws.Sets.{slots-room, slots-cut, cut-length, cut-at}

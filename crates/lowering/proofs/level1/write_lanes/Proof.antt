@@ -1,9 +1,8 @@
 -- `lowering::level1::write_lanes` meets its contract. What is written is the bytes of the lanes passed.
-use Prim.Native.Nat.{_≤_, _<_, _-_, _+_, _*_}
+use Prim.Native.Nat.{_≤_, _-_}
 use lib.ListN.{length, getD}
 use lib.Seq.{sets}
-use mathlib.Core.List.{_++_}
-use mathlib.Core.Path.{_≡_, refl, sym, ap, _∙_}
+use mathlib.Core.Path.{_≡_, sym, ap, _∙_}
 use native.Mathlib.Omega.{arith}
 use Rattle.kernel.specs.Stored.{pastLanes}
 use Rattle.sheet.specs.Put.{Puts}
@@ -11,7 +10,6 @@ use Rattle.sheet.proofs.Laws.Put.{puts-none, puts-as, puts-on, puts-length}
 use Rattle.lowering.specs.Plan.{noPlan, plannedBytes, writtenLanes}
 use Rattle.sheet.proofs.Laws.Part.{part-back, part-length}
 use Rattle.lowering.proofs.Laws.Lanes.{written-suc, all-written, now-fits}
-use borrow.Author.Needs.{needs}
 use Rattle.lowering.proofs.level1.write_lanes.Statement.{statement}
 use Rattle.lowering.proofs.level1.write_lanes.Tie as tie
 

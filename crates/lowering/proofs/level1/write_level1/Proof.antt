@@ -1,6 +1,5 @@
 -- `lowering::level1::write_level1` meets its contract: the plans give the size, and header and lanes make the sheet.
-use Prim.Native.Nat.{_+_, _*_, _≤_, _<_}
-use mathlib.Core.Path.{_≡_, sym, ap}
+use mathlib.Core.Path.{sym, ap}
 use native.Mathlib.Omega.{arith}
 use Rattle.sheet.specs.Levels.{level1}
 use Rattle.sheet.proofs.Sizes.{sheet-small}

@@ -1,15 +1,11 @@
 -- `lowering::lower::lower1` meets its contract.
-use Prim.Native.Nat.{ℕ, _≤_, _<_}
-use mathlib.Core.Path.{_≡_, refl, sym, ap, _∙_, subst}
-use mathlib.Core.List.{List}
+use mathlib.Core.Path.{sym, ap, _∙_, subst}
 use native.Mathlib.Omega.{arith}
 use lib.ListN.{length}
 use Rattle.verdict.specs.declared.Loaded.{Loaded}
 use Rattle.verdict.specs.Verdict.{numberOf, recordOf}
-use Rattle.sheet.specs.declared.Lowered.{Lowered}
-use Rattle.sheet.specs.declared.Lowered.the-variants.{Wrote, Refuses}
+use Rattle.sheet.specs.declared.Lowered.the-variants.{Refuses}
 use Rattle.sheet.specs.Levels.{level1}
-use Rattle.sheet.specs.Bytes.{writeInto}
 use Rattle.sheet.proofs.Laws.Written.{written-length, answer-short, answer-full}
 use Rattle.lowering.specs.Whole.{Whole, sheet1}
 use Rattle.lowering.proofs.Laws.Lower.{refused-by, whole-loaded, lowered-by}

@@ -1,7 +1,7 @@
 -- `lowering::starts::starts_of` meets its contract. The positions in place are those of the operations passed.
 use Prim.Native.Nat.{min, _≤_, _-_, suc, _+_}
 use lib.ListN.{length, getD}
-use mathlib.Core.Path.{_≡_, refl, sym, ap, _∙_}
+use mathlib.Core.Path.{_≡_, refl, ap, _∙_}
 use native.Mathlib.Omega.{arith}
 use Rattle.placement.specs.Place.{chosen}
 use Rattle.lowering.specs.Put.{marked, standing, StartsTo}

@@ -1,8 +1,7 @@
 -- `relowering::lane::put_row_if_kept` meets its contract.
-use Prim.Native.Nat.{_*_, _+_}
+use Prim.Native.Nat.{_*_}
 use mathlib.Core.Path.{sym, ap, _∙_}
 use lib.ListN.{length, drop}
-use native.Mathlib.Omega.{arith}
 use Rattle.sheet.specs.Levels.{level2}
 use Rattle.sheet.specs.Bytes.{instrBytes}
 use Rattle.sheet.specs.Read.{instrBy}
@@ -48,7 +47,8 @@ returns c =
     let kept = row-kept r s (x .ensures) (sym (c4 .before .before .stays .ensures) ∙ c4 .before .if1 .taken) in
     let same = ap (λ v. instrBytes level2 (aimed (λ t. v) i)) (c .before .before .before .target-of .ensures) ∙ kept in
     let size = ap length (sym kept) ∙ instr-length level2 (aimed (λ t. r (w .word)) i) in
-    laid-put (a .args .out .now) (a .args .at) (rowBytes r s) same size (a .pre .1) (c .before .before .put-kept .ensures)
+    laid-put (a .args .out .now) (a .args .at) (rowBytes r s) same size (a .pre .1)
+    (c .before .before .put-kept .ensures)
 
 returns-2 : tie.Need-returns-2
 returns-2 c =

@@ -1,13 +1,13 @@
 -- `relowering::lane::relower_lane` meets its contract.
 use Prim.Native.Nat.{ℕ, _≤_, _-_}
-use mathlib.Core.Path.{_≡_, sym, ap, _∙_, subst}
+use mathlib.Core.Path.{_≡_, ap, _∙_}
 use lib.ListN.{length}
 use native.Mathlib.Omega.{arith}
 use Rattle.sheet.specs.Levels.{level2}
 use Rattle.sheet.specs.Bytes.{laneBytes}
 use Rattle.sheet.specs.Put.{Puts}
 use Rattle.sheet.specs.Read.{readRows}
-use Rattle.sheet.specs.Relower.{newPosition, relowerBy}
+use Rattle.sheet.specs.Relower.{relowerBy}
 use Rattle.sheet.proofs.Laws.Put.{puts-none, puts-as, puts-length}
 use Rattle.relowering.specs.Rows.{aims}
 use Rattle.relowering.proofs.Laws.Lane.{laneTo, lane-on, lane-room, aims-are}
@@ -37,7 +37,8 @@ put-row-if-kept-requires c κs =
     let a = c .before .before .before .before .before .before .before .before in
     let r = aims (p .result .at) (a .args .n) in
     let e = aims-are (a .args .n) (a .args .rows .now) (p .result .at) (p .ensures) in
-    let whole = ap (λ (f : ℕ → ℕ). length (laneBytes level2 (relowerBy level2 f (readRows (a .args .n) (a .args .rows .now))))) e in
+    let whole = ap (λ (f : ℕ → ℕ). length (laneBytes level2 (relowerBy level2 f (readRows (a .args .n)
+    (a .args .rows .now))))) e in
     let room = lane-room r (a .args .rows .now) (l .p) (a .args .n) (omega arith) in (
       (omega arith, omega arith, omega (arith, p .ensures .room)),
       omega (arith, room, whole, a .pre .1, l .inv .1 .behind, puts-length (l .inv .1)),
@@ -69,7 +70,8 @@ returns c =
     let e = aims-are (a .args .n) (a .args .rows .now) (p .result .at) (p .ensures) in
     let last : l .p ≡ a .args .n = omega arith in
     puts-as (ap (laneTo r (a .args .rows .now)) last
-    ∙ ap (λ (f : ℕ → ℕ). laneBytes level2 (relowerBy level2 f (readRows (a .args .n) (a .args .rows .now)))) e) (l .inv .1)
+    ∙ ap (λ (f : ℕ → ℕ). laneBytes level2 (relowerBy level2 f (readRows (a .args .n) (a .args .rows .now)))) e)
+    (l .inv .1)
 
 pub relower-lane-spec : {M : Type 1} → statement M
 relower-lane-spec =

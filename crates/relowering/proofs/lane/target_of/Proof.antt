@@ -1,6 +1,6 @@
 -- `relowering::lane::target_of` meets its contract.
 use Prim.Native.Nat.{min}
-use mathlib.Core.Path.{_≡_, sym, ap}
+use mathlib.Core.Path.{_≡_, ap}
 use lib.ListN.{getD}
 use native.Mathlib.Omega.{arith}
 use borrow.Author.Needs.{needs}

@@ -1,8 +1,7 @@
 -- `relowering::lower::lower2` meets its contract.
-use Prim.Native.Nat.{ℕ}
-use mathlib.Core.Path.{_≡_, refl, sym, ap, _∙_}
+use mathlib.Core.Path.{sym, _∙_}
 use native.Mathlib.Omega.{arith}
-use Rattle.relowering.proofs.Laws.Lower.{first-refused, first-written}
+use Rattle.relowering.proofs.Laws.Lower.{first-refused, first-readable, first-written}
 use borrow.Author.Needs.{needs}
 use Rattle.relowering.proofs.lower.lower2.Statement.{statement}
 use Rattle.relowering.proofs.lower.lower2.Tie as tie
@@ -27,13 +26,18 @@ relower-requires c κs =
     let m = c .before .before .before in
     let l = m .before .before .lower1 in
     let s = m .before .before .before .before .before .before .args in
-    first-written (s .file .now) _ (omega arith) ((λ i. (sym (c .before .before .enum-told .given .1) i, l .last .1 .0)) ∙ l .ensures) .0
+    first-readable (s .file .now) _ (omega arith) ((λ i. (
+      sym
+          (c .before .before .enum-told .given .1) i,
+      l .last .1 .0,
+    )) ∙ l .ensures)
 
 returns : tie.Need-returns
 returns c =
     let l = c .before .before .before .before .lower1 in
     let s = c .before .before .before .before .before .before .before .before .args in
-    first-refused (s .file .now) _ (omega arith) ((λ i. (sym (c .before .answer .given .1) i, l .last .1 .0)) ∙ l .ensures) (s .out .now)
+    first-refused (s .file .now) _ (omega arith) ((λ i. (sym (c .before .answer .given .1) i, l .last .1 .0))
+    ∙ l .ensures) (s .out .now)
 
 same-length : tie.Need-same-length
 same-length c = search needs
@@ -43,7 +47,8 @@ returns-2 c =
     let r = c .before .before in
     let l = r .before .before .before .before .before .before .lower1 in
     let s = r .before .before .before .before .before .before .before .before .before .before .args in
-    r .relower .ensures ∙ first-written (s .file .now) _ (omega arith) ((λ i. (sym (r .before .before .before .enum-told .given .1) i, l .last .1 .0)) ∙ l .ensures) .1 (s .out .now)
+    r .relower .ensures ∙ first-written (s .file .now) _ (omega arith)
+    ((λ i. (sym (r .before .before .before .enum-told .given .1) i, l .last .1 .0)) ∙ l .ensures) (s .out .now)
 
 pub lower2-spec : {M : Type 1} → statement M
 lower2-spec =

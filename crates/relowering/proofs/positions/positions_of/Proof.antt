@@ -2,11 +2,8 @@
 use Prim.Native.Nat.{_≤_, _-_, _+_}
 use mathlib.Core.Path.{_≡_, refl, sym, ap, ap₂, _∙_, subst}
 use mathlib.Core.Bool.{cond}
-use lib.ListN.{length, getD}
 use native.Mathlib.Omega.{arith}
-use Rattle.sheet.specs.Levels.{level2}
 use Rattle.sheet.specs.Read.{readRows}
-use Rattle.sheet.specs.Relower.{newPosition}
 use Rattle.rows.proofs.Laws.Filled.{filled-start, filled-on}
 use Rattle.relowering.specs.Rows.{PositionsTo}
 use Rattle.relowering.proofs.Laws.Positions.{position-zero, position-suc, position-small}

@@ -1,7 +1,6 @@
 -- `relowering::positions::stays` meets its contract.
 use mathlib.Core.Path.{refl}
 use borrow.Author.Tests.{ne-eqb}
-use borrow.Author.Needs.{needs}
 use Rattle.relowering.proofs.positions.stays.Statement.{statement}
 use Rattle.relowering.proofs.positions.stays.Tie as tie
 

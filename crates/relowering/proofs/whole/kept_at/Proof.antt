@@ -58,8 +58,11 @@ returns c =
     let n = getD (a .args .parts .count) (a .args .t) 0 in
     let first = getD (a .args .parts .from) (a .args .t) 0 in
     let part = take (length s - first) (drop first s) in
-    let kept = kept-few (newPosition level2 (readRows n part)) part n in
-    (c .count-kept .ensures ∙ ap (λ x. length (relower level2 x)) rows, omega (arith, c .count-kept .ensures, few, kept))
+    let kept = kept-few (newPosition level2 (readRows n part)) part n in (
+      c .count-kept .ensures ∙ ap (λ x. length (relower level2 x)) rows,
+      omega
+          (arith, c .count-kept .ensures, few, kept),
+    )
 
 pub kept-at-spec : {M : Type 1} → statement M
 kept-at-spec =

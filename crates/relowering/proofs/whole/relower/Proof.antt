@@ -1,7 +1,6 @@
 -- `relowering::whole::relower` meets its contract.
-use mathlib.Core.Path.{refl, sym, ap, _∙_}
+use mathlib.Core.Path.{refl, sym, _∙_}
 use mathlib.Core.List.{[], _∷_, _++_}
-use lib.ListN.{length}
 use native.Mathlib.Omega.{arith}
 use Rattle.sheet.specs.Bytes.{word}
 use Rattle.sheet.specs.Put.{laid}
@@ -48,7 +47,8 @@ returns : tie.Need-returns
 returns c =
     let k = c .before in
     let a = k .before .before .before .before .before .before .before .args in
-    let size = parts-size (a .sheet .now) _ _ _ _ (k .before .before .before .kept-at .ensures .0) (k .before .before .kept-at2 .ensures .0) (k .before .kept-at3 .ensures .0)
+    let size = parts-size (a .sheet .now) _ _ _ _ (k .before .before .before .kept-at .ensures .0)
+    (k .before .before .kept-at2 .ensures .0) (k .before .kept-at3 .ensures .0)
     (k .kept-at4 .ensures .0) in
     sym (short-untouched (relowerBytes (a .sheet .now)) (a .out .now) (omega (arith, size, c .if1 .taken)))
 
@@ -73,32 +73,41 @@ relower-lanes-requires c κs =
     let k = i .before in
     let a = k .before .before .before .before .before .before .before in
     let s = a .args .sheet .now in
-    let size = parts-size s _ _ _ _ (k .before .before .before .kept-at .ensures .0) (k .before .before .kept-at2 .ensures .0) (k .before .kept-at3 .ensures .0)
+    let size = parts-size s _ _ _ _ (k .before .before .before .kept-at .ensures .0)
+    (k .before .before .kept-at2 .ensures .0) (k .before .kept-at3 .ensures .0)
     (k .kept-at4 .ensures .0) in
-    let body = body-size s _ _ _ _ (k .before .before .before .kept-at .ensures .0) (k .before .before .kept-at2 .ensures .0) (k .before .kept-at3 .ensures .0)
+    let body = body-size s _ _ _ _ (k .before .before .before .kept-at .ensures .0)
+    (k .before .before .kept-at2 .ensures .0) (k .before .kept-at3 .ensures .0)
     (k .kept-at4 .ensures .0) in
     let c7 = c .before .before .before .before .before .before .before in
     let first = laid-length _ _ _ (c7 .put-first .ensures) in
-    let counts = laid-length _ _ _ (c .before .before .before .put-counts .ensures) in
-    ((a .pre, k .before .before .before .before .parts-of .ensures), omega (arith, size, body, i .if1 .left, first, counts))
+    let counts = laid-length _ _ _ (c .before .before .before .put-counts .ensures) in (
+      (a .pre, k .before .before .before .before .parts-of .ensures),
+      omega
+          (arith, size, body, i .if1 .left, first, counts),
+    )
 
 same-length : tie.Need-same-length
 same-length c = search needs
 
 returns-2 : tie.Need-returns-2
 returns-2 c =
-    let i = c .before .before .before .before .before .before .before .before .before .before .before .before .before .before .before in
+    let i = c .before .before .before .before .before .before .before .before .before .before .before .before .before
+    .before .before in
     let k = i .before in
     let a = k .before .before .before .before .before .before .before in
     let s = a .args .sheet .now in
     let out = a .args .out .now in
-    let size = parts-size s _ _ _ _ (k .before .before .before .kept-at .ensures .0) (k .before .before .kept-at2 .ensures .0) (k .before .kept-at3 .ensures .0)
+    let size = parts-size s _ _ _ _ (k .before .before .before .kept-at .ensures .0)
+    (k .before .before .kept-at2 .ensures .0) (k .before .kept-at3 .ensures .0)
     (k .kept-at4 .ensures .0) in
     let c6 = c .before .before .before .before .before .before in
     let z = c6 .before .before .before .before in
     let first = z .put-first .ensures
-    ∙ (λ j. laid out 0 (z .before .before .before .byte-at .ensures j ∷ z .before .before .byte-at2 .ensures j ∷ z .before .byte-at3 .ensures j ∷ 2 ∷ word 0 ++ 0 ∷ 0 ∷ [])) in
-    let whole = sheet-parts s _ _ _ _ (k .before .before .before .kept-at .ensures .0) (k .before .before .kept-at2 .ensures .0) (k .before .kept-at3 .ensures .0)
+    ∙ (λ j. laid out 0 (z .before .before .before .byte-at .ensures j ∷ z .before .before .byte-at2 .ensures j ∷ z
+    .before .byte-at3 .ensures j ∷ 2 ∷ word 0 ++ 0 ∷ 0 ∷ [])) in
+    let whole = sheet-parts s _ _ _ _ (k .before .before .before .kept-at .ensures .0)
+    (k .before .before .kept-at2 .ensures .0) (k .before .kept-at3 .ensures .0)
     (k .kept-at4 .ensures .0) in
     answer-full (relowerBytes s) out
     (whole-put out _ _ (bodyOf s 4) (relowerBytes s) refl refl whole (omega (arith, size, i .if1 .left)) first

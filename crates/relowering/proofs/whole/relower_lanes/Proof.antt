@@ -1,6 +1,6 @@
 -- `relowering::whole::relower_lanes` meets its contract.
 use Prim.Native.Nat.{suc, _≤_, _-_, _+_}
-use mathlib.Core.Path.{_≡_, sym, ap, _∙_}
+use mathlib.Core.Path.{_≡_, ap, _∙_}
 use lib.ListN.{length, getD}
 use lib.Seq.{sets}
 use native.Mathlib.Omega.{arith}

@@ -1,8 +1,6 @@
 -- `rows::parts::count_of` meets its contract.
-use mathlib.Core.Path.{_≡_, sym, _∙_}
-use Prim.Native.Nat.{_<_, _≤_}
+use mathlib.Core.Path.{_∙_}
 use native.Mathlib.Omega.{arith}
-use lib.ListN.{getD}
 use Rattle.rows.proofs.Laws.Parts.{count-in, count-none}
 use borrow.Author.Needs.{needs}
 use Rattle.rows.proofs.parts.count_of.Statement.{statement}

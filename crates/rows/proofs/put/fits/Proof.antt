@@ -4,7 +4,6 @@ use Prim.Native.Nat.{_+_}
 use native.Mathlib.Omega.{arith}
 use borrow.Author.Tests.{lt-leb}
 use Rattle.rows.proofs.Laws.Put.{fits-is}
-use borrow.Author.Needs.{needs}
 use Rattle.rows.proofs.put.fits.Statement.{statement}
 use Rattle.rows.proofs.put.fits.Tie as tie
 

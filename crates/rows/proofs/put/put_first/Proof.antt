@@ -1,5 +1,4 @@
 -- `rows::put::put_first` meets its contract.
-use Prim.Native.Nat.{_%_, _/_}
 use mathlib.Core.Path.{_∙_}
 use mathlib.Core.List.{[], _∷_}
 use Rattle.sheet.specs.Put.{laid}
@@ -23,7 +22,9 @@ returns : tie.Need-returns
 returns c =
     let a = c .before .before .before .before .before .before .before .args in
     c .before .before .put-eight .ensures
-    ∙ (λ i. laid (a .out .now) 0 (a .t ∷ a .ls ∷ a .ks ∷ a .level ∷ c .before .before .before .before .low .ensures i ∷ c .before .before .before .low2 .ensures i ∷ 0 ∷ 0 ∷ []))
+    ∙ (λ i. laid (a .out .now) 0
+    (a .t ∷ a .ls ∷ a .ks ∷ a .level ∷ c .before .before .before .before .low .ensures i ∷ c .before .before .before
+    .low2 .ensures i ∷ 0 ∷ 0 ∷ []))
 
 pub put-first-spec : {M : Type 1} → statement M
 put-first-spec =

@@ -31,7 +31,11 @@ returns : tie.Need-returns
 returns c = search needs
 
 returns-2 : tie.Need-returns-2
-returns-2 c = (sym (word-past (c .before .before .args .s .now) (c .before .before .args .i) (c .if1 .left)), omega arith)
+returns-2 c = (
+  sym (word-past (c .before .before .args .s .now) (c .before .before .args .i)
+      (c .if1 .left)),
+  omega arith,
+)
 
 pub word-at-spec : {M : Type 1} → statement M
 word-at-spec =

@@ -1,0 +1,2 @@
+-- Laws of printing a kernel file.
+pub mod Laws

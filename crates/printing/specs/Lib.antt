@@ -1,0 +1,1 @@
+-- Nothing of its own: what is printed is `printed` of listing.

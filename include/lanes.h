@@ -1,0 +1,44 @@
+/* The lane translator, called from C. Link with liblanes.a.
+ *
+ * A kernel file and an output buffer are each a pointer and a length in bytes. A pointer is never NULL, also where the
+ * length is 0. The buffers of one call do not overlap. A call keeps no pointer and needs no memory but stack.
+ *
+ * Answer: a success is the number of bytes written, below 2^32. A refusal is number * 2^32 + record, the record being
+ * 0 where none is named. After a refusal the output buffer is as it was; after a success the bytes behind the result
+ * are as they were.
+ *
+ *   1 file under 16 bytes                   6 a chain of more than 64 records
+ *   2 bad header                            7 a SKIP that leads nowhere behind it
+ *   3 bad length                            8 a lock taken or released against the rule
+ *   4 bad record                            9 the output buffer is shorter than the result
+ *   5 a record in no lane, or met twice
+ *
+ * Checks are made in this order. docs/FORMATS.md has the layouts. */
+#ifndef LANES_H
+#define LANES_H
+
+#include <stddef.h>
+#include <stdint.h>
+
+#ifdef __cplusplus
+extern "C" {
+#endif
+
+/* What every sheet of a level fits in: 16 bytes and 8 for each instruction, of which a lane has at most five for each
+ * of its 64 records at level 1, and at most two at level 2. */
+#define LANES_SHEET1_MAX 10256
+#define LANES_SHEET2_MAX 4112
+
+/* The number of a refusal, 0 for a success; and the record that it names. */
+#define LANES_NUMBER(answer) ((uint32_t)((answer) >> 32))
+#define LANES_RECORD(answer) ((uint32_t)(answer))
+
+/* The barrier sheet (level 1), and the x86 sheet with MFENCE (level 2), of a kernel file. */
+uint64_t lanes_lower1(const uint8_t *kernel, size_t kernel_len, uint8_t *sheet, size_t sheet_len);
+uint64_t lanes_lower2(const uint8_t *kernel, size_t kernel_len, uint8_t *sheet, size_t sheet_len);
+
+#ifdef __cplusplus
+}
+#endif
+
+#endif

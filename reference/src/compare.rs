@@ -1,0 +1,167 @@
+//! Holds calls of the C interface to the slow implementation: answers, output buffers, and the bytes around them.
+
+use crate::random::{self, Random};
+use crate::slow::{self, STATE, machines::Machine};
+use crate::{Lower, Run};
+use std::collections::BTreeMap;
+use std::fmt;
+use std::process::ExitCode;
+
+/// The calls under test; the two runs may be left out.
+pub struct Calls {
+    pub lower1: Lower,
+    pub lower2: Lower,
+    pub runs: Option<[Run; 2]>,
+}
+
+/// Cases and seed from the command line.
+pub struct Arguments {
+    pub cases: u64,
+    pub seed: u64,
+}
+
+impl Arguments {
+    pub fn read(cases: u64) -> Self {
+        let numbers: Vec<u64> = std::env::args().skip(1).filter_map(|word| word.parse().ok()).collect();
+        Arguments { cases: numbers.first().copied().unwrap_or(cases), seed: numbers.get(1).copied().unwrap_or(1) }
+    }
+}
+
+/// How many calls were compared, by their answer: 0 for success, else the refusal.
+#[derive(Default)]
+pub struct Tally {
+    cases: u64,
+    answers: BTreeMap<u64, u64>,
+}
+
+impl fmt::Display for Tally {
+    fn fmt(&self, out: &mut fmt::Formatter) -> fmt::Result {
+        let calls: u64 = self.answers.values().sum();
+        write!(out, "{} cases, {calls} calls alike; by answer:", self.cases)?;
+        self.answers.iter().try_for_each(|(number, count)| write!(out, " {number}:{count}"))
+    }
+}
+
+/// Tries random cases from a seed and says what was compared, or the first difference.
+pub fn compare(arguments: &Arguments, calls: &Calls) -> Result<Tally, String> {
+    let mut tally = Tally::default();
+    for case in 0..arguments.cases {
+        let mut random = Random::new(arguments.seed.wrapping_mul(1_000_003).wrapping_add(case));
+        let file = random::kernel(&mut random);
+        let told = |difference| format!("case {case}: {difference}\nkernel {}", hex(&file));
+        tally.try_lowering(&mut random, calls, &file).map_err(told)?;
+        tally.try_runs(&mut random, calls, &file).map_err(told)?;
+        tally.cases += 1;
+    }
+    Ok(tally)
+}
+
+/// Prints one line, or the first difference with its case.
+pub fn report(who: &str, compared: Result<Tally, String>) -> ExitCode {
+    match &compared {
+        Ok(tally) => println!("{who}: {tally}"),
+        Err(difference) => println!("{who}: DIFFERENCE in {difference}"),
+    }
+    if compared.is_ok() { ExitCode::SUCCESS } else { ExitCode::FAILURE }
+}
+
+impl Tally {
+    fn try_lowering(&mut self, random: &mut Random, calls: &Calls, file: &[u8]) -> Result<(), String> {
+        let mut lent_file = Lent::holding(file);
+        for (level, lower) in [(1, calls.lower1), (2, calls.lower2)] {
+            let result = slow::lowered(level, file);
+            let length = result.as_ref().map_or(40, Vec::len);
+            for room in [0, length - 1, length, length + 1, length + 1 + random.below(6400)] {
+                let expected = |out: &mut [u8]| slow::answer(slow::put_into(out, &result));
+                let given = |out: &mut [u8]| lower(lent_file.buffer(), out);
+                self.alike(random.byte(), room, expected, given)
+                    .and_then(|()| lent_file.still(file))
+                    .map_err(|difference| format!("lower{level}, {room} bytes of room: {difference}"))?;
+            }
+        }
+        Ok(())
+    }
+
+    fn try_runs(&mut self, random: &mut Random, calls: &Calls, file: &[u8]) -> Result<(), String> {
+        let mut lent_file = Lent::holding(file);
+        let lanes = file.first().map_or(1, |lanes| usize::from(*lanes).clamp(1, 4));
+        let machines = [Machine::House, Machine::Chip].into_iter().zip(calls.runs.iter().flatten());
+        // an accepted kernel gets several schedules
+        let schedules = if slow::kernel::check(file).is_ok() { 3 } else { 1 };
+        for (machine, run) in machines.flat_map(|pair| vec![pair; schedules]) {
+            let moves = random::schedule(random, lanes, file.len() / 12, machine.highest_choice());
+            let mut lent_moves = Lent::holding(&moves);
+            for room in [0, STATE - 1, STATE, STATE + 1 + random.below(100)] {
+                let expected = |out: &mut [u8]| slow::run(machine, file, &moves, out);
+                let given = |out: &mut [u8]| run(lent_file.buffer(), lent_moves.buffer(), out);
+                self.alike(random.byte(), room, expected, given)
+                    .and_then(|()| lent_file.still(file))
+                    .and_then(|()| lent_moves.still(&moves))
+                    .map_err(|difference| {
+                        format!("run {machine:?}, {room} bytes of room: {difference}\nmoves {}", hex(&moves))
+                    })?;
+            }
+        }
+        Ok(())
+    }
+
+    /// Makes both calls on like buffers; everything afterwards has to be alike.
+    fn alike(
+        &mut self,
+        fill: u8,
+        room: usize,
+        expected: impl FnOnce(&mut [u8]) -> u64,
+        given: impl FnOnce(&mut [u8]) -> u64,
+    ) -> Result<(), String> {
+        let before: Vec<u8> = (0..room).map(|at| (at as u8).wrapping_mul(31).wrapping_add(fill)).collect();
+        let (mut own, mut other) = (before.clone(), Lent::holding(&before));
+        let (asked, got) = (expected(&mut own), given(other.buffer()));
+        *self.answers.entry(asked >> 32).or_default() += 1;
+        if asked != got {
+            return Err(format!("answer {} instead of {}", told(got), told(asked)));
+        }
+        other.still(&own)
+    }
+}
+
+fn told(answer: u64) -> String {
+    match answer >> 32 {
+        0 => format!("{answer}"),
+        number => format!("refused {number} record {}", answer as u32),
+    }
+}
+
+const GUARD: usize = 64;
+const GUARD_BYTE: u8 = 0xa5;
+
+/// A buffer to put_into, with bytes around it that nobody may write.
+struct Lent {
+    bytes: Vec<u8>,
+}
+
+impl Lent {
+    fn holding(content: &[u8]) -> Self {
+        Lent { bytes: [&[GUARD_BYTE; GUARD], content, &[GUARD_BYTE; GUARD]].concat() }
+    }
+
+    fn buffer(&mut self) -> &mut [u8] {
+        let end = self.bytes.len() - GUARD;
+        &mut self.bytes[GUARD..end]
+    }
+
+    /// Whether it holds this, and nothing around it was written.
+    fn still(&self, content: &[u8]) -> Result<(), String> {
+        let wanted = Lent::holding(content).bytes;
+        match self.bytes.iter().zip(&wanted).position(|(have, want)| have != want) {
+            Some(at) => {
+                let place = at as i64 - GUARD as i64;
+                Err(format!("byte {place} of the buffer is {} instead of {}", self.bytes[at], wanted[at]))
+            }
+            None => Ok(()),
+        }
+    }
+}
+
+fn hex(bytes: &[u8]) -> String {
+    bytes.iter().map(|byte| format!("{byte:02x}")).collect()
+}

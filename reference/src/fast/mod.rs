@@ -1,0 +1,62 @@
+//! Fast implementation of paper 01, the yardstick of the benchmarks: no allocation, one forward pass, state in place.
+
+mod check;
+mod flow;
+mod machine;
+mod sheet;
+
+use check::Kernel;
+use flow::Plan;
+
+pub const SET: u8 = 1;
+pub const ADD: u8 = 2;
+pub const LOAD: u8 = 3;
+pub const STORE: u8 = 4;
+pub const LOCK: u8 = 5;
+pub const UNLOCK: u8 = 6;
+pub const SKIP: u8 = 7;
+pub const MFENCE: u8 = 15;
+
+/// A refusal as C gets it: number × 2^32 + record.
+pub struct Refusal(u64);
+
+impl Refusal {
+    const fn new(number: u64, record: usize) -> Self {
+        Refusal(number << 32 | record as u64)
+    }
+}
+
+/// Lowers a kernel file to the barrier sheet.
+pub fn lower1(file: &[u8], sheet: &mut [u8]) -> u64 {
+    answer(lower::<1>(file, sheet))
+}
+
+/// Lowers a kernel file to the x86 sheet.
+pub fn lower2(file: &[u8], sheet: &mut [u8]) -> u64 {
+    answer(lower::<2>(file, sheet))
+}
+
+/// Runs the house machine over the kernel's chains.
+pub fn run_source(file: &[u8], moves: &[u8], state: &mut [u8]) -> u64 {
+    answer(machine::run::<0, 256, false>(file, moves, state))
+}
+
+/// Runs the chip machine over the level 2 sheet: at most 63 of a lane's 64 records have an MFENCE before them.
+pub fn run_tso(file: &[u8], moves: &[u8], state: &mut [u8]) -> u64 {
+    answer(machine::run::<2, 508, true>(file, moves, state))
+}
+
+fn lower<const LEVEL: usize>(file: &[u8], sheet: &mut [u8]) -> Result<usize, Refusal> {
+    let mut kernel = Kernel::blank();
+    let mut plan = Plan::blank();
+    kernel.check(file)?;
+    plan.lay::<LEVEL>(&kernel)?;
+    sheet::write::<LEVEL>(&kernel, &plan, sheet)
+}
+
+fn answer(result: Result<usize, Refusal>) -> u64 {
+    match result {
+        Ok(written) => written as u64,
+        Err(Refusal(refused)) => refused,
+    }
+}
