@@ -21,10 +21,10 @@ use Rattle.sheet.proofs.Answers.{answer-small}
 use Rattle.sheet.proofs.Sizes.{sheet-small}
 use Rattle.machine.specs.Rules.{Machine}
 use Rattle.machine.specs.Run.{Answer, runProgram}
-use Rattle.lanes.specs.Moves.{oddBytes, movesIn}
-use Rattle.lanes.specs.Record.{stateBytes}
+use Rattle.machine.specs.Moves.{oddBytes, movesIn}
+use Rattle.recording.specs.Record.{stateBytes}
+use Rattle.recording.proofs.Sizes.{record-length}
 use Rattle.lanes.specs.Interface.{packed, Small, packedLowering, recordSize, stored, runCallBy, lowerCallBy}
-use Rattle.lanes.proofs.Sizes.{state-length}
 
 -- an answer from 2^32 up is a refusal, one below it the number of bytes written
 pub record Kept (buffer : List ℕ) (r : ℕ × List ℕ) : Type 0 where
@@ -68,7 +68,8 @@ module _ (buffer : List ℕ) where
   stored-kept a h =
       cond-by (Kept buffer) (eqb (a .number) 0) (recordSize, stateBytes a ++ drop recordSize buffer)
       (packed (a .number) (a .blames), buffer)
-      (λ e. kept-written recordSize (stateBytes a) buffer (state-length a) h (omega arith))
+      (λ e. kept-written recordSize (stateBytes a) buffer
+      (record-length (a .finished) (a .done) (a .waited) (a .state)) h (omega arith))
       (λ e. kept-refused (packed (a .number) (a .blames)) buffer)
 
   pub run-kept : (m : Machine) (v : Verdict) (moves : List ℕ) → Kept buffer (runCallBy m v moves buffer)

@@ -1,5 +1,3 @@
--- What is proved of the C interface: laws of schedule bytes, the length of the state record, what a call leaves.
-pub mod Laws
-pub mod Sizes
+-- What is proved of the C interface: what a call leaves, and that the bytes of the state record are small.
 pub mod Calls
 pub mod SmallBytes

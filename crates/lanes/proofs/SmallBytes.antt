@@ -3,7 +3,7 @@ use Prim.Native.Nat.{ℕ, zero, suc, _/_, _^_, _≤_, _<_}
 use native.Mathlib.Omega.{arith}
 use mathlib.Core.Bool.{Bool, true, false}
 use mathlib.Core.List.{List, [], _∷_}
-use lib.ListN.{length, getD, replicate, List·getD-map}
+use lib.ListN.{length, getD, getElem?, replicate, List·getD-map}
 use Rattle.kernel.specs.Accepted.{Program}
 use Rattle.kernel.specs.Lawful.{Lawful}
 use Rattle.sheet.specs.Bytes.{quad}
@@ -12,7 +12,8 @@ use Rattle.machine.specs.Entries.{Entry, write, release}
 use Rattle.machine.specs.State.{Lane, idle, laneAt}
 use Rattle.machine.specs.Run.{Answer, shown}
 use Rattle.machine.specs.Shape.{EntrySmall, AllSmall, Shaped}
-use Rattle.lanes.specs.Record.{tableFrom, double, entryBytes, entriesBytes, stateLane, flag, stateBytes}
+use Rattle.recording.specs.Record.{tableFrom, double, entryBytes, placeBytes, entriesBytes, stateLane, flag, headBytes}
+use Rattle.recording.specs.Record.{recordOf, stateBytes}
 
 double-small : (n : ℕ) → Small (double n)
 double-small n = small-append (quad-small n) (quad-small (n / 2 ^ 32))
@@ -38,12 +39,14 @@ module _ (ls ks : ℕ) (wl : ls ≤ 256) (wk : ks ≤ 256) where
   entry-small (write x v) h = fields-small 1 x v (omega arith) (omega (arith, h .0))
   entry-small (release l) h = fields-small 2 l 0 (omega arith) (omega arith)
 
+  place-small : (es : List Entry) → AllSmall ls ks es → (i : ℕ) → Small (placeBytes (getElem? es i))
+  place-small [] h i = zeros-small 8
+  place-small (e ∷ es) h zero = entry-small e (h .0)
+  place-small (e ∷ es) h (suc i) = place-small es (h .1) i
+
   entries-small : (n : ℕ) (es : List Entry) → AllSmall ls ks es → Small (entriesBytes n es)
   unfolding entriesBytes
-  entries-small zero [] h = none
-  entries-small zero (e ∷ es) h = none
-  entries-small (suc n) [] h = small-append (zeros-small 8) (entries-small n [] tt)
-  entries-small (suc n) (e ∷ es) h = small-append (entry-small e (h .0)) (entries-small n es (h .1))
+  entries-small n es h = table-small (λ i. placeBytes (getElem? es i)) (place-small es h) 0 n
 
   lane-small : (l : Lane) → AllSmall ls ks (l .pending) → Small (stateLane l)
   unfolding stateLane
@@ -64,18 +67,18 @@ module _ (k : Program) (a : Answer) (w : Lawful k) (shaped : Shaped k (shown a))
   lock-small i =
       let h : getD (a .state .locks) i 0 < 256 = omega (arith, shaped .locks-small i, w .few-lanes) in h ▸ none
 
-  all-small : Small (stateBytes a)
-  unfolding stateBytes
-  all-small =
+  head-small : Small (headBytes (a .finished) (a .done) (a .waited) (a .state .memory) (a .state .locks))
+  unfolding headBytes
+  head-small =
       small-append (flag-small (a .finished) ▸ zeros-small 3)
       (small-append (table-small (λ i. getD (a .state .locks) i 0 ∷ []) lock-small 0 4)
       (small-append (double-small (a .done))
       (small-append (double-small (a .waited))
-      (small-append (table-small (λ i. quad (getD (a .state .memory) i 0)) memory-small 0 16)
-      (table-small (λ t. stateLane (laneAt (a .state) t)) lanes-small 0 4)))))
-    where
-      memory-small : (i : ℕ) → Small (quad (getD (a .state .memory) i 0))
-      memory-small i = quad-small (getD (a .state .memory) i 0)
+      (table-small (λ i. quad (getD (a .state .memory) i 0)) (λ i. quad-small (getD (a .state .memory) i 0)) 0 16))))
+
+  all-small : Small (stateBytes a)
+  unfolding recordOf
+  all-small = small-append head-small (table-small (λ t. stateLane (laneAt (a .state) t)) lanes-small 0 4)
 
   pub state-bytes-small : (i : ℕ) → getD (stateBytes a) i 0 < 256
   state-bytes-small = small-at all-small

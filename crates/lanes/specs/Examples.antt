@@ -14,15 +14,9 @@ use Rattle.verdict.specs.Verdict.{structureThen, refusalOf}
 use Rattle.placement.specs.Place.{stands, due, rowsTo}
 use Rattle.sheet.specs.Bytes.{sheetBytes}
 use Rattle.sheet.specs.Read.{readSheet}
-use Rattle.machine.specs.Schedule.{move}
-use Rattle.lanes.specs.Moves.{movesIn}
-use Rattle.lanes.specs.Record.{entriesBytes, stateLane, stateBytes}
+use Rattle.machine.specs.Moves.{movesIn}
+use Rattle.recording.specs.Record.{entriesBytes, stateLane, headBytes, recordOf}
 use Rattle.lanes.specs.Interface.{callLower1, callLower2, callRunSource, callRunTso}
-
--- lane first; a byte without a partner makes no move
-moves-hold : movesIn (0 ∷ 64 ∷ 3 ∷ 1 ∷ 2 ∷ []) ≡ move 0 64 ∷ move 3 1 ∷ []
-unfolding movesIn
-moves-hold = refl
 
 -- one lane, two locations of which location 1 is volatile, and one lock:
 -- SET 2 to 258, STORE 2 to location 1, LOCK 0, UNLOCK 0
@@ -125,5 +119,5 @@ unfolding refusalOf structureThen headerRule headRule badRecord recordRule limit
     lowest firstOf badLinkage linkageFrom chain member walkOf chainTooLong badTarget unreachableTarget lockFault
     position
     opOf opsFrom recordAt faultPosition faultAt partedBy heldFrom same stands due rowsTo sheetBytes readSheet
-    movesIn entriesBytes stateLane stateBytes kernel output calls
+    movesIn entriesBytes stateLane headBytes recordOf kernel output calls
 calls-hold = refl

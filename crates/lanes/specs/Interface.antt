@@ -12,8 +12,8 @@ use Rattle.sheet.specs.declared.Lowered.the-variants.{Wrote, Refuses}
 use Rattle.sheet.specs.Bytes.{lowerBy}
 use Rattle.machine.specs.Rules.{Machine, source, target, tso}
 use Rattle.machine.specs.Run.{Answer, runProgram}
-use Rattle.lanes.specs.Moves.{oddBytes, movesIn}
-use Rattle.lanes.specs.Record.{stateBytes}
+use Rattle.machine.specs.Moves.{oddBytes, movesIn}
+use Rattle.recording.specs.Record.{stateBytes}
 
 -- a success is the number of bytes written, a refusal number × 2^32 + record
 abbrev pub packed : ℕ → ℕ → ℕ

@@ -1,5 +1,3 @@
--- The C interface. Moves: a schedule read from bytes; Record: the bytes of the state record; Interface: the four calls.
-pub mod Moves
-pub mod Record
+-- The C interface. Interface: the four calls; Examples: a kernel through each of them.
 pub mod Interface
 pub mod Examples

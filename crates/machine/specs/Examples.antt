@@ -17,6 +17,7 @@ use Rattle.machine.specs.Entries.{Entry, write, release}
 use Rattle.machine.specs.Rules.{Machine, source, target, tso}
 use Rattle.machine.specs.Step.{Core, Turn, waits, refuses, passes, does, valueOf, turn}
 use Rattle.machine.specs.Schedule.{Move, move}
+use Rattle.machine.specs.Moves.{oddBytes, movesIn}
 use Rattle.machine.specs.State.{Loaded, atStart}
 use Rattle.machine.specs.View.{drained}
 use Rattle.machine.specs.Run.{Answer, runProgram}
@@ -229,3 +230,13 @@ runs =
 runs-hold : map (λ (e : Ran × Ran). e .0) runs ≡ map (λ (e : Ran × Ran). e .1) runs
 unfolding runs readSheet sheetBytes stands due rowsTo
 runs-hold = refl
+
+-- ## schedules as bytes
+
+-- lane first; a byte without a partner makes no move
+moves-hold : movesIn (0 ∷ 64 ∷ 3 ∷ 1 ∷ 2 ∷ []) ≡ move 0 64 ∷ move 3 1 ∷ []
+unfolding movesIn
+moves-hold = refl
+
+odd-hold : map oddBytes ([] ∷ (0 ∷ []) ∷ (0 ∷ 0 ∷ []) ∷ []) ≡ false ∷ true ∷ false ∷ []
+odd-hold = refl

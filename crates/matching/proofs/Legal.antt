@@ -14,7 +14,7 @@ use Rattle.machine.specs.State.{Outcome, ran, refused, advance, run, moveTurn}
 use Rattle.matching.specs.Schedules.{keep, keepMove, sourceSchedule, expand, expandAt, targetSchedule}
 use Rattle.placement.proofs.Laws.Bools.{and-true}
 
-legal-append : (n k : ℕ) (a b : List Move) → legal n k a ≡ true → legal n k b ≡ true → legal n k (a ++ b) ≡ true
+pub legal-append : (n k : ℕ) (a b : List Move) → legal n k a ≡ true → legal n k b ≡ true → legal n k (a ++ b) ≡ true
 legal-append n k [] b p q = q
 legal-append n k (mv ∷ a) b p q =
     let h = and-true (ltb (mv .lane) n && leb (mv .choice) k) (legal n k a) p in

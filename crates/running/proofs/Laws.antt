@@ -1,8 +1,5 @@
--- Laws: Entries rows of cells and values, Lanes what a lane's type says, Searches the loops over a pending list, Rules
--- what the machines permit, States rows of lanes, Turns what a turn makes of them.
-pub mod Entries
-pub mod Lanes
-pub mod Searches
-pub mod Rules
-pub mod States
-pub mod Turns
+-- Laws: Codes the instruction of an operation code, Programs a lane's program in the bytes of a sheet, Runs a
+-- schedule's moves.
+pub mod Codes
+pub mod Programs
+pub mod Runs

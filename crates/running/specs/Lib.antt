@@ -1,4 +1,3 @@
--- Lanes, Machines and States: the lane, the machine and the state of the text that those of the code are.
-pub mod Lanes
-pub mod Machines
-pub mod States
+-- Codes: barriers by their codes. Runs: schedules that the code can run, and its answer.
+pub mod Codes
+pub mod Runs

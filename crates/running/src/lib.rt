@@ -1,5 +1,4 @@
-// The code of the two machines: a lane with its pending stores, what the machines permit, one move of a lane.
-pub mod lane;
-pub mod rows;
-pub mod rules;
-pub mod step;
+// The code of the two machines: a lane's choice by its program in the bytes of a sheet, and a run over a schedule.
+pub mod carry;
+pub mod moves;
+pub mod run;

@@ -1,0 +1,2 @@
+-- Small laws of the machines by subject.
+pub mod Laws

@@ -1,0 +1,2 @@
+-- Laws of moves on borrowed rows.
+pub mod Laws

@@ -1,0 +1,5 @@
+-- Laws by subject.
+pub mod Entries
+pub mod Lanes
+pub mod Searches
+pub mod Rules

@@ -1,0 +1,2 @@
+-- Laws of lanes and rules in code.
+pub mod Laws

@@ -1,0 +1,72 @@
+-- `recording::state::write_head` meets its contract: its fields one after the other.
+use mathlib.Core.List.{[], _∷_}
+use Rattle.sheet.proofs.Laws.Put.{puts-on, puts-as}
+use Rattle.recording.specs.Record.{headBytes}
+use borrow.Author.Needs.{needs}
+use Rattle.recording.proofs.state.write_head.Statement.{statement}
+use Rattle.recording.proofs.state.write_head.Tie as tie
+
+flag-requires : tie.Need-flag-requires
+flag-requires c κs = search needs
+
+put-four-requires : tie.Need-put-four-requires
+put-four-requires c κs = search needs
+
+lock-at-requires : tie.Need-lock-at-requires
+lock-at-requires c κs = search needs
+
+lock-at-requires-2 : tie.Need-lock-at-requires-2
+lock-at-requires-2 c κs = search needs
+
+lock-at-requires-3 : tie.Need-lock-at-requires-3
+lock-at-requires-3 c κs = search needs
+
+lock-at-requires-4 : tie.Need-lock-at-requires-4
+lock-at-requires-4 c κs = search needs
+
+put-four-requires-2 : tie.Need-put-four-requires-2
+put-four-requires-2 c κs = search needs
+
+put-double-requires : tie.Need-put-double-requires
+put-double-requires c κs = search needs
+
+put-double-requires-2 : tie.Need-put-double-requires-2
+put-double-requires-2 c κs = search needs
+
+put-table-requires : tie.Need-put-table-requires
+put-table-requires c κs = search needs
+
+same-length : tie.Need-same-length
+same-length c = search needs
+
+returns : tie.Need-returns
+unfolding headBytes
+returns c =
+    let c6 = c .before .before .before .before .before .before in
+    let c14 = c6 .before .before .before .before .before .before .before .before in
+    let l = c14 .before .before in
+    let c22 = l .before .before .before .before .before .before in
+    let first = puts-as (λ i. c22 .before .flag .ensures i ∷ 0 ∷ 0 ∷ 0 ∷ []) (c22 .put-four .ensures) in
+    let locks =
+    puts-as
+    (λ i. l .before .before .before .lock-at .ensures i ∷ l .before .before .lock-at2 .ensures i
+    ∷ l .before .lock-at3 .ensures i ∷ l .lock-at4 .ensures i ∷ []) (c14 .put-four2 .ensures) in
+    puts-on (puts-on (puts-on (puts-on first locks) (c6 .before .before .before .before .put-double .ensures))
+    (c6 .put-double2 .ensures)) (c .before .before .put-table .ensures)
+
+pub write-head-spec : {M : Type 1} → statement M
+write-head-spec =
+    tie.close
+    (tie.spec
+    flag-requires
+    put-four-requires
+    lock-at-requires
+    lock-at-requires-2
+    lock-at-requires-3
+    lock-at-requires-4
+    put-four-requires-2
+    put-double-requires
+    put-double-requires-2
+    put-table-requires
+    same-length
+    returns)
