@@ -90,4 +90,4 @@ answer-fits l s buffer {a} {after} = go a
   where
     go : (x : Lowered) → (x, after) ≡ lowerBy l (verdict s) buffer → Small x
     go (Wrote n) p = tt
-    go (Refuses n r) p = answer-small l s buffer p
+    go (Refuses n r) p = answer-small (sheetBytes l) s buffer p

@@ -4,6 +4,4 @@ pub mod Starts
 pub mod Lane
 pub mod Plan
 pub mod Lanes
-pub mod Whole
 pub mod Level1
-pub mod Lower

@@ -1,9 +1,10 @@
 -- What the code knows of a lane before it writes it.
-use Prim.Native.Nat.{ℕ, zero, suc, min, _<_}
+use Prim.Native.Nat.{ℕ, min, _<_}
 use mathlib.Core.Path.{_≡_}
 use mathlib.Core.Bool.{Bool}
-use mathlib.Core.List.{List, [], _++_, map}
+use mathlib.Core.List.{List, []}
 use lib.ListN.{length, getD}
+use Rattle.kernel.specs.declared.accepted.Op.{Op}
 use Rattle.kernel.specs.declared.accepted.Lane.{Lane}
 use Rattle.kernel.specs.declared.accepted.Kernel.{Kernel}
 use Rattle.kernel.specs.Accepted.{isVolatile}
@@ -13,7 +14,7 @@ use Rattle.placement.specs.Place.{before}
 use Rattle.sheet.specs.Layout.{sheet}
 use Rattle.sheet.specs.Items.{TargetsWithin}
 use Rattle.sheet.specs.Levels.{level1, placed}
-use Rattle.sheet.specs.Bytes.{joined, laneBytes}
+use Rattle.sheet.specs.Bytes.{laneBytes}
 use Rattle.lowering.specs.declared.plan.Plan.{Plan}
 use Rattle.lowering.specs.declared.plan.Plans.{Plans}
 use Rattle.lowering.specs.Put.{standing, StartsTo, laneWith}
@@ -36,18 +37,13 @@ AllPlanned k r =
 abbrev pub Aimed : Lane → Type 0
 Aimed lane = TargetsWithin (length (opsIn lane)) (opsIn lane)
 
--- the bytes of a lane with its plan, and of the first t lanes
+-- the bytes of a lane with its plan, and of lane t
 abbrev pub plannedBytes : Lane → Plan → List ℕ
 plannedBytes lane r = laneWith (r .placement) lane
 
-unfoldable pub writtenLanes : List Lane → List Plan → ℕ → List ℕ
-writtenLanes lanes plans zero = []
-writtenLanes lanes plans (suc t) =
-    writtenLanes lanes plans t ++ plannedBytes (getD lanes t pastLanes) (getD plans t noPlan)
+abbrev pub plannedAt : Kernel → Plans → ℕ → List ℕ
+plannedAt k r t = plannedBytes (getD (k .lanes) t pastLanes) (getD (r .lanes) t noPlan)
 
--- the bytes of a lane at level 1, and of several
-abbrev pub laneAt1 : (ℕ → Bool) → Lane → List ℕ
-laneAt1 vol lane = laneBytes level1 (sheet (placed level1 vol (opsIn lane)))
-
-abbrev pub lanesBytes : (ℕ → Bool) → List Lane → List ℕ
-lanesBytes vol lanes = joined (map (laneAt1 vol) lanes)
+-- the bytes of a lane's operations at level 1
+abbrev pub opsAt1 : (ℕ → Bool) → List Op → List ℕ
+opsAt1 vol ops = laneBytes level1 (sheet (placed level1 vol ops))

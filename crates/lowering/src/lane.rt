@@ -7,12 +7,12 @@ ghost use Rattle.lowering.specs.Put.{standing, StartsTo, laneWith};
 ghost use Rattle.sheet.specs.Put.{Puts};
 ghost use Rattle.lowering.specs.Plan.{Aimed};
 use crate::starts::Starts;
-use crate::starts::count;
 use crate::starts::marks_at;
 use crate::steps::put_step;
 use kernel::accepted::Lane;
 use kernel::accepted::Op;
 use placement::place::Placement;
+use placement::steps::count;
 
 // The sheet position that a SKIP leads to; 0 for another operation.
 fn target_of(op: Op, at: [u32; 65]) -> u32

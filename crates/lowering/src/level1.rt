@@ -2,12 +2,13 @@
 ghost use mathlib.Core.Path.{_≡_};
 ghost use Prim.Native.Nat.{ℕ, _+_, _<_, _≤_};
 ghost use lib.ListN.{length, getD};
-ghost use Rattle.kernel.specs.Accepted.{isVolatile};
 ghost use Rattle.kernel.specs.Stored.{pastLanes};
 ghost use Rattle.sheet.specs.Bytes.{writeInto};
 ghost use lib.Seq.{sets};
-ghost use Rattle.lowering.specs.Plan.{AllPlanned, Aimed, lanesBytes};
-ghost use Rattle.lowering.specs.Whole.{Whole, sizeIn, sheet1};
+ghost use Rattle.sheet.specs.Put.{inTurn};
+ghost use Rattle.lowering.specs.Plan.{AllPlanned, Aimed, plannedAt};
+ghost use Rattle.sheet.specs.Whole.{Whole};
+ghost use Rattle.lowering.specs.Whole.{sizeIn, sheet1};
 use crate::lane::write_lane;
 use crate::plan::Plans;
 use crate::plan::plans_of;
@@ -20,10 +21,8 @@ use rows::put::put_first;
 pub(crate) fn write_lanes(out: &mut [u8], kernel: Kernel, plans: Plans)
     requires planned { ⌜ AllPlanned kernel plans ⌝ }
     requires targets { ⌜ ((t : ℕ) → t < 4 → Aimed (getD (kernel .lanes) t pastLanes)) ⌝ }
-    requires room { ⌜ 16 + length (lanesBytes (isVolatile (kernel .mask)) (kernel .lanes)) ≤ length (now out) ⌝ }
-    ensures { λ r. ⌜
-        now (out .exit) ≡ sets (now (out .entry)) 16 (lanesBytes (isVolatile (kernel .mask)) (kernel .lanes))
-        ⌝ }
+    requires room { ⌜ 16 + length (inTurn (plannedAt kernel plans) 4) ≤ length (now out) ⌝ }
+    ensures { λ r. ⌜ now (out .exit) ≡ sets (now (out .entry)) 16 (inTurn (plannedAt kernel plans) 4) ⌝ }
 {
     let lanes = kernel.lanes;
     let all = plans.lanes;

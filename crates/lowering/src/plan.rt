@@ -5,12 +5,12 @@ ghost use lib.ListN.{getD};
 ghost use Rattle.kernel.specs.Accepted.{isVolatile};
 ghost use Rattle.lowering.specs.Plan.{Planned, AllPlanned};
 use crate::starts::Starts;
-use crate::starts::count;
 use crate::starts::starts_of;
 use kernel::accepted::Kernel;
 use kernel::accepted::Lane;
 use placement::place::Placement;
 use placement::place::place_lane;
+use placement::steps::count;
 
 pub struct Plan {
     pub placement: Placement,

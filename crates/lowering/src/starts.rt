@@ -7,16 +7,11 @@ ghost use Rattle.placement.specs.Place.{chosen};
 ghost use Rattle.lowering.specs.Put.{marked, standingMarks, standing, StartsTo};
 use crate::steps::Marks;
 use placement::place::Placement;
+use placement::steps::count;
 
 // The position of each operation's first barrier, and behind the last operation the count of instructions.
 pub struct Starts {
     pub at: [u32; 65],
-}
-
-pub(crate) fn count(len: usize) -> usize
-    ensures { λ r. ⌜ r ≡ min len 64 ⌝ }
-{
-    if len < 64 { len } else { 64 }
 }
 
 // Which barriers stand before position p.

@@ -46,7 +46,7 @@ pub(crate) fn step_of(op: Op, mask: u16) -> Step
 }
 
 // How many operations the lane has.
-pub(crate) fn count(len: usize) -> usize
+pub fn count(len: usize) -> usize
     ensures { λ r. ⌜ r ≡ min len 64 ⌝ }
 {
     if len < 64 { len } else { 64 }

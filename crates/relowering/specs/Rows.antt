@@ -1,7 +1,7 @@
 -- The rows of a level 1 sheet that stay at level 2, and the sheets that the code makes into level 2.
-use Prim.Native.Nat.{ℕ, zero, suc, min, _+_, _*_, _≤_, _<_}
+use Prim.Native.Nat.{ℕ, min, _+_, _*_, _≤_, _<_}
 use mathlib.Core.Bool.{Bool, true, false, cond}
-use mathlib.Core.List.{List, [], _∷_, _++_}
+use mathlib.Core.List.{List, [], _∷_}
 use lib.Dec.{eqb}
 use lib.ListN.{length, getD}
 use Rattle.rows.specs.Rows.{partsIn}
@@ -37,7 +37,6 @@ pub record Readable (sheet : List ℕ) : Type 0 where
 abbrev pub laneAt2 : List ℕ → ℕ → List Instr
 laneAt2 sheet t = relower level2 (getD (readSheet sheet) t [])
 
--- the level 2 bytes of the first n lanes
-abbrev pub bodyOf : List ℕ → ℕ → List ℕ
-bodyOf sheet zero = []
-bodyOf sheet (suc n) = bodyOf sheet n ++ laneBytes level2 (laneAt2 sheet n)
+-- its bytes
+abbrev pub rowsAt2 : List ℕ → ℕ → List ℕ
+rowsAt2 sheet t = laneBytes level2 (laneAt2 sheet t)

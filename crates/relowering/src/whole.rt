@@ -5,8 +5,9 @@ ghost use lib.ListN.{length};
 ghost use lib.Seq.{sets};
 ghost use Rattle.rows.specs.Rows.{partsIn};
 ghost use Rattle.sheet.specs.Bytes.{writeInto};
+ghost use Rattle.sheet.specs.Put.{inTurn};
 ghost use Rattle.sheet.specs.Relower.{relowerBytes};
-ghost use Rattle.relowering.specs.Rows.{Readable, laneAt2, bodyOf};
+ghost use Rattle.relowering.specs.Rows.{Readable, laneAt2, rowsAt2};
 use crate::lane::relower_lane;
 use crate::positions::count_kept;
 use rows::parts::Parts;
@@ -30,8 +31,8 @@ fn kept_at(sheet: &[u8], parts: Parts, t: usize) -> usize
 // Writes the four lanes behind the header.
 fn relower_lanes(out: &mut [u8], sheet: &[u8], parts: Parts)
     requires { ⌜ Readable (now sheet) × (parts ≡ partsIn (now sheet)) ⌝ }
-    requires { ⌜ 16 + length (bodyOf (now sheet) 4) ≤ length (now out) ⌝ }
-    ensures { λ r. ⌜ now (out .exit) ≡ sets (now (out .entry)) 16 (bodyOf (now (sheet .entry)) 4) ⌝ }
+    requires { ⌜ 16 + length (inTurn (rowsAt2 (now sheet)) 4) ≤ length (now out) ⌝ }
+    ensures { λ r. ⌜ now (out .exit) ≡ sets (now (out .entry)) 16 (inTurn (rowsAt2 (now (sheet .entry))) 4) ⌝ }
 {
     let from = parts.from;
     let count = parts.count;

@@ -1,4 +1,4 @@
--- What an answer of lowering tells of the file, where the buffer takes every sheet, and how small a refusal is.
+-- What an answer tells of the file, where the buffer takes the bytes of every kernel, and how small a refusal is.
 use Prim.Native.Nat.{ℕ, _≤_}
 use mathlib.Core.Path.{_≡_, refl, sym, ap, ap₂, _∙_, subst}
 use mathlib.Core.Bool.{Bool, true, false, cond}
@@ -7,13 +7,14 @@ use native.Mathlib.Omega.{arith}
 use lib.Dec.{eqb, ltb}
 use lib.ListN.{length}
 use Rattle.kernel.specs.Accepted.{Program, programOf}
+use Rattle.kernel.specs.Lawful.{Lawful}
 use Rattle.verdict.specs.Verdict.{Verdict, refused, accepted, verdict, refusalOf, numberOf, recordOf}
 use Rattle.verdict.proofs.Lawful.{accepted-lawful}
 use Rattle.verdict.proofs.Named.{number-small, record-named}
 use Rattle.sheet.specs.declared.Lowered.{Lowered}
 use Rattle.sheet.specs.declared.Lowered.the-variants.{Wrote, Refuses}
 use Rattle.sheet.specs.Levels.{Level}
-use Rattle.sheet.specs.Bytes.{sheetBytes, over, lowerBy}
+use Rattle.sheet.specs.Bytes.{sheetBytes, over, answerBy, lowerBy}
 use Rattle.sheet.proofs.Laws.Written.{written-all}
 use Rattle.sheet.proofs.Sizes.{sheet-small}
 
@@ -30,22 +31,24 @@ abbrev kindOf : Lowered → ℕ
 kindOf (Wrote n) = 0
 kindOf (Refuses n r) = 1
 
--- the file is accepted, and its sheet stands at the front of the buffer
-pub record SheetIn (l : Level) (s own after : List ℕ) : Type 0 where
+-- the file is accepted, and its kernel's bytes stand at the front of the buffer
+pub record BytesIn (bytes : Program → List ℕ) (s own after : List ℕ) : Type 0 where
   pub kernel : Program
   pub accepts : verdict s ≡ accepted kernel
-  pub bytes : after ≡ over (sheetBytes l kernel) own
+  pub front : after ≡ over (bytes kernel) own
 
-module _ (l : Level) (s own : List ℕ) (big : 10256 ≤ length own) where
+module _
+    (bytes : Program → List ℕ) (size : ℕ) (small : (k : Program) → Lawful k → length (bytes k) ≤ size)
+    (s own : List ℕ) (big : size ≤ length own) where
   written-by : (k : Program) → verdict s ≡ accepted k
-      → lowerBy l (accepted k) own ≡ (Wrote (length (sheetBytes l k)), over (sheetBytes l k) own)
-  written-by k e = written-all (sheetBytes l k) own (omega (arith, sheet-small l k (accepted-lawful s k e)))
+      → answerBy bytes (accepted k) own ≡ (Wrote (length (bytes k)), over (bytes k) own)
+  written-by k e = written-all (bytes k) own (omega (arith, small k (accepted-lawful s k e)))
 
-  pub refuses-as : {n r : ℕ} {after : List ℕ} → (Refuses n r, after) ≡ lowerBy l (verdict s) own
+  pub refuses-by : {n r : ℕ} {after : List ℕ} → (Refuses n r, after) ≡ answerBy bytes (verdict s) own
       → verdict s ≡ refused n r
-  refuses-as {n} {r} {after} p = go (verdict s) refl p
+  refuses-by {n} {r} {after} p = go (verdict s) refl p
     where
-      go : (v : Verdict) → verdict s ≡ v → (Refuses n r, after) ≡ lowerBy l v own → verdict s ≡ refused n r
+      go : (v : Verdict) → verdict s ≡ v → (Refuses n r, after) ≡ answerBy bytes v own → verdict s ≡ refused n r
       go (refused m q) e x =
           e
           ∙ ap₂ refused (ap (λ (z : Lowered × List ℕ). numberIn (z .0)) (sym x))
@@ -54,18 +57,29 @@ module _ (l : Level) (s own : List ℕ) (big : 10256 ≤ length own) where
           let clash : _≡_ {A = ℕ} 1 0 = ap (λ (z : Lowered × List ℕ). kindOf (z .0)) (x ∙ written-by k e) in
           absurd (omega arith)
 
-  pub wrote-as : {n : ℕ} {after : List ℕ} → (Wrote n, after) ≡ lowerBy l (verdict s) own → SheetIn l s own after
-  wrote-as {n} {after} p = go (verdict s) refl p
+  pub wrote-by : {n : ℕ} {after : List ℕ} → (Wrote n, after) ≡ answerBy bytes (verdict s) own
+      → BytesIn bytes s own after
+  wrote-by {n} {after} p = go (verdict s) refl p
     where
-      go : (v : Verdict) → verdict s ≡ v → (Wrote n, after) ≡ lowerBy l v own → SheetIn l s own after
+      go : (v : Verdict) → verdict s ≡ v → (Wrote n, after) ≡ answerBy bytes v own → BytesIn bytes s own after
       go (refused m q) e x =
           let clash : _≡_ {A = ℕ} 0 1 = ap (λ (z : Lowered × List ℕ). kindOf (z .0)) x in
           absurd (omega arith)
       go (accepted k) e x = record {
         kernel = k;
         accepts = e;
-        bytes = ap (λ (z : Lowered × List ℕ). z .1) (x ∙ written-by k e);
+        front = ap (λ (z : Lowered × List ℕ). z .1) (x ∙ written-by k e);
       }
+
+-- a buffer of 10,256 bytes takes every sheet
+module _ (l : Level) (s own : List ℕ) (big : 10256 ≤ length own) where
+  pub refuses-as : {n r : ℕ} {after : List ℕ} → (Refuses n r, after) ≡ lowerBy l (verdict s) own
+      → verdict s ≡ refused n r
+  refuses-as = refuses-by (sheetBytes l) 10256 (sheet-small l) s own big
+
+  pub wrote-as : {n : ℕ} {after : List ℕ} → (Wrote n, after) ≡ lowerBy l (verdict s) own
+      → BytesIn (sheetBytes l) s own after
+  wrote-as = wrote-by (sheetBytes l) 10256 (sheet-small l) s own big
 
 -- ## the number and the record of a refusal are small
 
@@ -87,20 +101,20 @@ refused-small s = go (eqb (numberOf (refusalOf s)) 0)
     go true = (omega arith, omega arith)
     go false = (number-small s, record-named s)
 
-module _ (l : Level) (s buffer : List ℕ) where
+module _ (bytes : Program → List ℕ) (s buffer : List ℕ) where
   answer-by : (v : Verdict) → numberBy v ≤ 8 → recordBy v ≤ 256
-      → (numberIn (lowerBy l v buffer .0) ≤ 9) × (recordIn (lowerBy l v buffer .0) ≤ 256)
+      → (numberIn (answerBy bytes v buffer .0) ≤ 9) × (recordIn (answerBy bytes v buffer .0) ≤ 256)
   answer-by (refused n r) hn hr = (omega arith, hr)
-  answer-by (accepted k) hn hr = go (ltb (length buffer) (length (sheetBytes l k)))
+  answer-by (accepted k) hn hr = go (ltb (length buffer) (length (bytes k)))
     where
       by : Bool → Lowered × List ℕ
-      by b = cond b (Refuses 9 0, buffer) (Wrote (length (sheetBytes l k)), over (sheetBytes l k) buffer)
+      by b = cond b (Refuses 9 0, buffer) (Wrote (length (bytes k)), over (bytes k) buffer)
 
       go : (b : Bool) → (numberIn (by b .0) ≤ 9) × (recordIn (by b .0) ≤ 256)
       go true = (omega arith, omega arith)
       go false = (omega arith, omega arith)
 
-  pub answer-small : {n r : ℕ} {after : List ℕ} → (Refuses n r, after) ≡ lowerBy l (verdict s) buffer
+  pub answer-small : {n r : ℕ} {after : List ℕ} → (Refuses n r, after) ≡ answerBy bytes (verdict s) buffer
       → (n ≤ 9) × (r ≤ 256)
   answer-small {n} {r} {after} p =
       let v = refused-small s in

@@ -1,12 +1,14 @@
 -- Every instruction of a lawful kernel's sheet fits its bytes: theorem `lanes-fit`.
 use Prim.Native.Nat.{ℕ, suc, _^_, _≤_, _<_}
 use native.Mathlib.Omega.{arith}
+use mathlib.Core.Path.{_≡_, refl}
 use mathlib.Core.Bool.{Bool}
 use mathlib.Core.List.{List, [], _∷_, map}
+use mathlib.Core.Option.{some}
 use lib.ListN.{length, getD}
 use Rattle.kernel.specs.declared.accepted.Op.{Op}
 use Rattle.kernel.specs.declared.accepted.Op.the-variants.{Set, Add, Load, Store, Lock, Unlock, Skip}
-use Rattle.kernel.specs.Accepted.{Program}
+use Rattle.kernel.specs.Accepted.{Program, jump}
 use Rattle.kernel.specs.Lawful.{Bounded, LawfulLane, Lawful}
 use Rattle.placement.specs.Steps.{steps}
 use Rattle.sheet.specs.Layout.{Instr, op, barrier, start, aim, sheet}
@@ -28,21 +30,21 @@ Fits (barrier b) = Unit {0}
 abbrev pub LaneFits : List Instr → Type 0
 LaneFits is = Each Fits is × (length is < 65536)
 
-fits-op : (r : ℕ → ℕ) (ls ks n p : ℕ) (o : Op) → ls ≤ 256 → ks ≤ 256 → Bounded ls ks n p o
-    → ((t : ℕ) → r t < 2 ^ 32) → Fits (op (aim r o))
+pub fits-op : (r : ℕ → ℕ) (ls ks n p : ℕ) (o : Op) → ls ≤ 256 → ks ≤ 256 → Bounded ls ks n p o
+    → ((t : ℕ) → jump o ≡ some t → r t < 2 ^ 32) → Fits (op (aim r o))
 fits-op r ls ks n p (Set a c) wl wk h f = (omega (arith, h .0), h .1)
 fits-op r ls ks n p (Add a b) wl wk h f = (omega (arith, h .0), omega (arith, h .1))
 fits-op r ls ks n p (Load a x) wl wk h f = (omega (arith, h .0), omega (arith, h .1))
 fits-op r ls ks n p (Store a x) wl wk h f = (omega (arith, h .0), omega (arith, h .1))
 fits-op r ls ks n p (Lock l) wl wk h f = omega arith
 fits-op r ls ks n p (Unlock l) wl wk h f = omega arith
-fits-op r ls ks n p (Skip a t) wl wk h f = (omega (arith, h .0), f t)
+fits-op r ls ks n p (Skip a t) wl wk h f = (omega (arith, h .0), f t refl)
 
 module _ (l : Level) (vol : ℕ → Bool) (ls ks : ℕ) (wl : ls ≤ 256) (wk : ks ≤ 256) where
   lane-fits : (os : List Op) → LawfulLane ls ks os → LaneFits (sheet (placed l vol os))
   lane-fits os w = (
     cells-each l (steps vol os) at Fits (λ b. tt) os 0
-        (λ i o e. fits-op at ls ks (length os) i o wl wk (w .bounded i o e) near),
+        (λ i o e. fits-op at ls ks (length os) i o wl wk (w .bounded i o e) (λ t j. near t)),
     omega (arith, lane-length l vol os, w .short),
   )
     where

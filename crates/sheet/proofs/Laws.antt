@@ -5,3 +5,7 @@ pub mod Written
 pub mod Put
 pub mod Part
 pub mod Targets
+pub mod Turn
+pub mod Aim
+pub mod Whole
+pub mod Loaded

@@ -10,8 +10,8 @@ use Rattle.kernel.specs.Lawful.{Lawful}
 use Rattle.placement.specs.declared.cookbook.Barrier.the-variants.{LL, LS, SS, SL}
 use Rattle.sheet.specs.Layout.{Instr, op, barrier, sheet}
 use Rattle.sheet.specs.Levels.{Level, level1, level2, placed, placedLanes, sheetLanes, volatileIn}
-use Rattle.sheet.specs.Bytes.{instrBytes, joined, laneBytes, header, sheetBytes}
-use Rattle.sheet.specs.Read.{readInstr, readRows, pastRows, readLanes, counts, readSheet}
+use Rattle.sheet.specs.Bytes.{instrBytes, joined, laneBytes, levelNumber, maskAt, headerBy, sheetBytes}
+use Rattle.sheet.specs.Read.{readInstr, readRows, pastRows, readLanes, readSheet}
 use Rattle.sheet.proofs.Laws.Cells.{Each}
 use Rattle.sheet.proofs.Laws.Rows.{word-back, quad-back}
 use Rattle.sheet.proofs.Fitting.{Fits, LaneFits, lanes-fit}
@@ -76,24 +76,25 @@ taken (x ∷ y ∷ z ∷ u ∷ []) few h =
     cc (count-back x (h .0), count-back y (h .1 .0), count-back z (h .1 .1 .0), count-back u (h .1 .1 .1 .0))
 taken (x ∷ y ∷ z ∷ u ∷ v ∷ xs) few h = absurd (omega arith)
 
--- the counts that the header has
-header-counts : (l : Level) (k : Program) (xs : List (List Instr)) (rest : List ℕ) → length (k .lanes) ≡ length xs
+-- what is read of a buffer that begins with a header and the bytes of its lanes are those lanes
+pub header-back : (l : Level) (t ls ks level mask : ℕ) (xs : List (List Instr)) (rest : List ℕ) → t ≡ length xs
     → length xs ≤ 4 → Each LaneFits xs
-    → (counts (header l k xs ++ rest) ≡ map length xs) × (drop 16 (header l k xs ++ rest) ≡ rest)
-header-counts l k xs rest e few h = (ap (λ n. take n (fourCounts xs)) e ∙ taken xs few h, refl)
+    → readSheet (headerBy t ls ks level mask xs ++ joined (map (laneBytes l) xs) ++ rest) ≡ xs
+unfolding readSheet
+header-back l t ls ks level mask xs rest e few h =
+    let body : List ℕ = joined (map (laneBytes l) xs) in
+    ap readSheet (append-assoc (headerBy t ls ks level mask xs) body rest)
+    ∙ ap (λ ns. readLanes ns (body ++ rest)) (ap (λ n. take n (fourCounts xs)) e ∙ taken xs few h)
+    ∙ lanes-back l xs rest h
 
--- what is read of a buffer that begins with the bytes of a sheet are its lanes
 pub sheet-back : (l : Level) (k : Program) (rest : List ℕ) → length (k .lanes) ≤ 4 → Each LaneFits (sheetLanes l k)
     → readSheet (sheetBytes l k ++ rest) ≡ sheetLanes l k
-unfolding readSheet sheetBytes
+unfolding sheetBytes
 sheet-back l k rest few h =
     let same : length (k .lanes) ≡ length (sheetLanes l k) =
     sym (length-map (placedLanes l k) sheet ∙ length-map (k .lanes) (placed l (volatileIn k))) in
-    let body : List ℕ = joined (map (laneBytes l) (sheetLanes l k)) in
-    let c = header-counts l k (sheetLanes l k) (body ++ rest) same (omega arith) h in
-    ap readSheet (append-assoc (header l k (sheetLanes l k)) body rest)
-    ∙ ap₂ readLanes (c .0) (c .1)
-    ∙ lanes-back l (sheetLanes l k) rest h
+    header-back l (length (k .lanes)) (k .locations) (k .locks) (levelNumber l) (maskAt l k) (sheetLanes l k) rest same
+    (omega arith) h
 
 pub lawful-back : (l : Level) (k : Program) (rest : List ℕ) → Lawful k
     → readSheet (sheetBytes l k ++ rest) ≡ sheetLanes l k

@@ -89,9 +89,13 @@ writeInto bytes buffer =
     cond (ltb (length buffer) (length bytes)) (Refuses 9 0, buffer)
     (Wrote (length bytes), over bytes buffer)
 
+-- a refused file's number and record, or the bytes of an accepted kernel
+abbrev pub answerBy : (Program → List ℕ) → Verdict → List ℕ → Lowered × List ℕ
+answerBy bytes (refused n r) buffer = (Refuses n r, buffer)
+answerBy bytes (accepted k) buffer = writeInto (bytes k) buffer
+
 abbrev pub lowerBy : Level → Verdict → List ℕ → Lowered × List ℕ
-lowerBy l (refused n r) buffer = (Refuses n r, buffer)
-lowerBy l (accepted k) buffer = writeInto (sheetBytes l k) buffer
+lowerBy l = answerBy (sheetBytes l)
 
 abbrev pub lower1 : List ℕ → List ℕ → Lowered × List ℕ
 lower1 s = lowerBy level1 (verdict s)

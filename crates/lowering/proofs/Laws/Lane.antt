@@ -2,26 +2,21 @@
 use Prim.Native.Nat.{ℕ, zero, suc, _+_, _*_, _≤_, _<_}
 use mathlib.Core.Path.{_≡_, refl, sym, ap, _∙_}
 use mathlib.Core.List.{List, [], _∷_, _++_, map, append-assoc}
-use mathlib.Core.Option.{some}
 use native.Mathlib.Omega.{arith}
 use native.Mathlib.Decide.{decLe}
 use lib.ListN.{length, getD, take, length-append, length-map}
 use lib.Seq.{take-suc, take-all}
 use Rattle.kernel.specs.declared.accepted.Op.{Op}
-use Rattle.kernel.specs.declared.accepted.Op.the-variants.{Set, Add, Load, Store, Lock, Unlock, Skip}
 use Rattle.kernel.specs.Stored.{noOp}
-use Rattle.kernel.proofs.accepted.Op as T
-use types.Run.{OneOf, miss}
-use denote.Enum.Declared.{tagOf}
 use Rattle.kernel.proofs.Laws.Lists.{at-some}
 use Rattle.placement.specs.declared.cookbook.Barrier.{Barrier}
-use Rattle.kernel.specs.Accepted.{jump}
 use Rattle.placement.specs.Sheet.{start as startBy}
 use Rattle.sheet.specs.Layout.{Instr, op, barrier, Placed, start, aim, cells, sheet}
 use Rattle.sheet.specs.Levels.{level1}
 use Rattle.sheet.specs.Bytes.{laneBytes}
 use Rattle.sheet.specs.Items.{TargetsWithin}
 use Rattle.lowering.specs.Put.{placedBy, StartsTo, stepBytes}
+use Rattle.sheet.proofs.Laws.Aim.{aim-agrees}
 use Rattle.sheet.proofs.Laws.Rows.{lane-bytes, bytes-append}
 use Rattle.sheet.specs.Put.{Puts}
 use Rattle.sheet.proofs.Laws.Put.{puts-on, puts-as}
@@ -32,26 +27,6 @@ cells-append r [] ys = refl
 cells-append r (x ∷ xs) ys =
     ap (λ z. map barrier (x .before) ++ op (aim r (x .oper)) ∷ z) (cells-append r xs ys)
     ∙ sym (append-assoc (map barrier (x .before)) (op (aim r (x .oper)) ∷ cells r xs) (cells r ys))
-
--- an operation is aimed alike by two functions that agree at its target
-pub aim-agrees : (f g : ℕ → ℕ) (o : Op) → ((t : ℕ) → jump o ≡ some t → f t ≡ g t) → aim f o ≡ aim g o
-aim-agrees f g (Set a c) h = refl
-aim-agrees f g (Add a b) h = refl
-aim-agrees f g (Load a x) h = refl
-aim-agrees f g (Store a x) h = refl
-aim-agrees f g (Lock l) h = refl
-aim-agrees f g (Unlock l) h = refl
-aim-agrees f g (Skip a t) h = ap (Skip a) (h t refl)
-
--- what a `match` tells its last arm: the operation is no SKIP
-pub aim-other : (f g : ℕ → ℕ) (o : Op) → OneOf (0 ∷ 1 ∷ 2 ∷ 3 ∷ 4 ∷ 5 ∷ []) (tagOf T.the-type o) → aim f o ≡ aim g o
-aim-other f g (Set a c) k = refl
-aim-other f g (Add a b) k = refl
-aim-other f g (Load a x) k = refl
-aim-other f g (Store a x) k = refl
-aim-other f g (Lock l) k = refl
-aim-other f g (Unlock l) k = refl
-aim-other f g (Skip a t) k = absurd (miss (0 ∷ 1 ∷ 2 ∷ 3 ∷ 4 ∷ 5 ∷ []) 6 tt k)
 
 module _ (pre : ℕ → List Barrier) where
   pub placed-length : (p : ℕ) (ops : List Op) → length (placedBy pre p ops) ≡ length ops

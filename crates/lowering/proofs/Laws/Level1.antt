@@ -1,15 +1,13 @@
 -- Laws of a level 1 sheet: its size from the plans, and header and lanes put one after the other.
-use Prim.Native.Nat.{ℕ, zero, suc, min, _+_, _*_, _-_, _≤_, _<_}
-use mathlib.Core.Path.{_≡_, refl, sym, ap, _∙_}
-use mathlib.Core.Bool.{Bool}
-use mathlib.Core.List.{List, [], _∷_, _++_, map, append-assoc, append-nil, map-append}
+use Prim.Native.Nat.{ℕ, min, _+_, _*_, _≤_, _<_}
+use mathlib.Core.Path.{_≡_, refl, sym, ap, _∙_, subst}
+use mathlib.Core.List.{List, [], _∷_, _++_, map, map-map}
 use native.Mathlib.Omega.{arith}
-use lib.ListN.{length, getD, replicate, length-map, List·getD-map}
+use lib.ListN.{length, getD, length-map, List·getD-map}
 use lib.Seq.{sets}
-use Rattle.kernel.specs.declared.accepted.Lane.{Lane}
 use Rattle.kernel.specs.declared.accepted.Kernel.{Kernel}
 use Rattle.kernel.specs.Accepted.{isVolatile}
-use Rattle.kernel.specs.Stored.{opsIn, noLane, storedLanes, stored, pastLanes}
+use Rattle.kernel.specs.Stored.{opsIn, pastLanes}
 use Rattle.placement.specs.Sheet.{start as startBy}
 use Rattle.sheet.specs.Layout.{sheet}
 use Rattle.sheet.specs.Levels.{level1, placed, sheetLanes}
@@ -18,47 +16,35 @@ use Rattle.sheet.proofs.Laws.Rows.{total-four, lane-bytes}
 use Rattle.sheet.proofs.Sizes.{sheet-size}
 use Rattle.lowering.specs.declared.plan.Plans.{Plans}
 use Rattle.lowering.specs.Put.{standing}
-use Rattle.lowering.specs.Plan.{AllPlanned, noPlan, laneAt1, lanesBytes}
-use Rattle.lowering.specs.Whole.{programIn, Whole, sizeIn, sheet1}
+use Rattle.lowering.specs.Plan.{AllPlanned, Aimed, noPlan, plannedAt, opsAt1}
+use Rattle.sheet.specs.Whole.{programIn, Whole}
+use Rattle.lowering.specs.Whole.{sizeIn, sheet1}
 use Rattle.lowering.proofs.Laws.Lanes.{planned-is, planned-length}
-use Rattle.sheet.specs.Put.{laid}
+use Rattle.sheet.specs.Put.{laid, inTurn}
 use Rattle.sheet.proofs.Laws.Put.{whole-put}
-use Rattle.lowering.proofs.Laws.Whole.{lanes-back, ops-are, len-is, count-is}
-
-joined-append : (xs ys : List (List ℕ)) → joined (xs ++ ys) ≡ joined xs ++ joined ys
-joined-append [] ys = refl
-joined-append (x ∷ xs) ys = ap (λ z. x ++ z) (joined-append xs ys) ∙ sym (append-assoc x (joined xs) (joined ys))
-
--- lanes that are not there add nothing
-none-added : (vol : ℕ → Bool) (n : ℕ) → joined (map (laneAt1 vol) (replicate n noLane)) ≡ []
-none-added vol zero = refl
-none-added vol (suc n) = none-added vol n
-
--- the lanes of a sheet, from operations that are held in lanes
-lanes-held : (vol : ℕ → Bool) (lanes : List Lane)
-    → lanesBytes vol lanes ≡ joined (map (laneBytes level1) (map sheet (map (placed level1 vol) (map opsIn lanes))))
-lanes-held vol [] = refl
-lanes-held vol (x ∷ lanes) = ap (λ z. laneAt1 vol x ++ z) (lanes-held vol lanes)
+use Rattle.sheet.proofs.Laws.Turn.{turn-same, turn-all}
+use Rattle.sheet.proofs.Laws.Whole.{ops-are, len-is, count-is}
+use Rattle.sheet.specs.Items.{TargetsWithin}
+use Rattle.sheet.proofs.Laws.Targets.{targets-within}
 
 module _ (k : Kernel) (w : Whole k) where
-  pub lanes-bytes-are : lanesBytes (isVolatile (k .mask)) (k .lanes)
-      ≡ joined (map (laneBytes level1) (sheetLanes level1 (programIn k)))
-  unfolding stored
-  lanes-bytes-are =
-      let vol = isVolatile (k .mask) in
-      let os = programIn k .lanes in
-      let rs = programIn k .records in
-      let held = storedLanes os rs in
-      ap (λ x. lanesBytes vol (x .lanes)) (w .same)
-      ∙ ap joined (map-append (laneAt1 vol) held (replicate (4 - length held) noLane))
-      ∙ joined-append (map (laneAt1 vol) held) (map (laneAt1 vol) (replicate (4 - length held) noLane))
-      ∙ ap (λ z. lanesBytes vol held ++ z) (none-added vol (4 - length held))
-      ∙ append-nil (lanesBytes vol held)
-      ∙ lanes-held vol held
-      ∙ ap (λ z. joined (map (laneBytes level1) (map sheet (map (placed level1 vol) z))))
-      (lanes-back os rs (sym (w .lawful .same-lanes)) (λ t. sym (w .lawful .same-length t)) .0)
+  pub targets-aimed : (t : ℕ) → t < 4 → Aimed (getD (k .lanes) t pastLanes)
+  targets-aimed t h =
+      subst (λ ops. TargetsWithin (length ops) ops) (sym (ops-are k w t h)) (targets-within (w .lawful .lane t))
 
   module _ (r : Plans) (planned : AllPlanned k r) where
+    -- the planned lanes one behind the other
+    lanes-bytes-are : inTurn (plannedAt k r) 4 ≡ joined (map (laneBytes level1) (sheetLanes level1 (programIn k)))
+    lanes-bytes-are =
+        let vol = isVolatile (k .mask) in
+        let os = programIn k .lanes in
+        turn-same (plannedAt k r) (λ t. opsAt1 vol (getD os t [])) 4
+        (λ t h. planned-is vol (getD (k .lanes) t pastLanes) (getD (r .lanes) t noPlan) (planned t h)
+        ∙ ap (opsAt1 vol) (ops-are k w t h))
+        ∙ turn-all (opsAt1 vol) [] refl os 4 (w .lawful .few-lanes)
+        ∙ sym (ap joined (map-map (laneBytes level1) sheet (map (placed level1 vol) os)
+        ∙ map-map (λ ps. laneBytes level1 (sheet ps)) (placed level1 vol) os))
+
     -- the plan knows the size of each lane
     pub size-is : (t : ℕ) → t < 4 → sizeIn k r t ≡ length (getD (sheetLanes level1 (programIn k)) t [])
     size-is t h =
@@ -109,7 +95,7 @@ module _ (k : Kernel) (w : Whole k) where
         size-by = omega (arith, size-all)
 
         sheet-by : (k .count ∷ k .locations ∷ k .locks ∷ 1 ∷ word (k .mask) ++ 0 ∷ 0 ∷ [])
-            ++ (word a ++ (word b ++ (word c ++ (word d ++ [])))) ++ lanesBytes (isVolatile (k .mask)) (k .lanes)
+            ++ (word a ++ (word b ++ (word c ++ (word d ++ [])))) ++ inTurn (plannedAt k r) 4
             ≡ sheet1 k
         unfolding sheetBytes
         sheet-by =
@@ -120,15 +106,15 @@ module _ (k : Kernel) (w : Whole k) where
             λ i. (count-is k w i ∷ k .locations ∷ k .locks ∷ 1 ∷ word (k .mask) ++ 0 ∷ 0 ∷ [])
             ++ (word (na i) ++ (word (nb i) ++ (word (nc i) ++ (word (nd i) ++ [])))) ++ lanes-bytes-are i
 
-        pub room-by : 16 + length (lanesBytes (isVolatile (k .mask)) (k .lanes)) ≡ length (sheet1 k)
+        pub room-by : 16 + length (inTurn (plannedAt k r) 4) ≡ length (sheet1 k)
         room-by = omega (arith, ap length sheet-by)
 
         pub sheet-put : {l₁ l₂ l₃ : List ℕ} (buffer : List ℕ) → length (sheet1 k) ≤ length buffer
             → l₁ ≡ laid buffer 0 (k .count ∷ k .locations ∷ k .locks ∷ 1 ∷ word (k .mask) ++ 0 ∷ 0 ∷ [])
             → l₂ ≡ laid l₁ 8 (word a ++ (word b ++ (word c ++ (word d ++ []))))
-            → l₃ ≡ sets l₂ 16 (lanesBytes (isVolatile (k .mask)) (k .lanes))
+            → l₃ ≡ sets l₂ 16 (inTurn (plannedAt k r) 4)
             → l₃ ≡ writeInto (sheet1 k) buffer .1
         sheet-put buffer room =
             whole-put buffer (k .count ∷ k .locations ∷ k .locks ∷ 1 ∷ word (k .mask) ++ 0 ∷ 0 ∷ [])
-            (word a ++ (word b ++ (word c ++ (word d ++ [])))) (lanesBytes (isVolatile (k .mask)) (k .lanes))
+            (word a ++ (word b ++ (word c ++ (word d ++ [])))) (inTurn (plannedAt k r) 4)
             (sheet1 k) refl refl sheet-by room

@@ -6,7 +6,6 @@ use mathlib.Core.List.{List, [], _∷_, _++_, map, append-nil}
 use native.Mathlib.Omega.{arith}
 use lib.ListN.{length, length-append}
 use Rattle.kernel.specs.declared.accepted.Op.{Op}
-use Rattle.kernel.specs.declared.accepted.Op.the-variants.{Set, Add, Load, Store, Lock, Unlock, Skip}
 use Rattle.placement.specs.declared.cookbook.Barrier.{Barrier}
 use Rattle.placement.specs.declared.cookbook.Barrier.the-variants.{LL, LS, SS, SL}
 use Rattle.placement.specs.Cookbook.{codeOf}
@@ -16,6 +15,7 @@ use Rattle.sheet.specs.Layout.{Instr, op, barrier, aim}
 use Rattle.sheet.specs.Levels.{level1}
 use Rattle.sheet.specs.Bytes.{opBytes, laneBytes}
 use Rattle.sheet.specs.Put.{Puts, laid}
+use Rattle.sheet.proofs.Laws.Rows.{instr-length}
 use Rattle.sheet.proofs.Laws.Put.{laid-put, puts-on, puts-as, puts-length}
 use Rattle.lowering.specs.Put.{rowIf, marked, stepBytes}
 
@@ -24,15 +24,6 @@ keep-bytes : (t : Bool) (b : Barrier) (bs : List Barrier) (is : List Instr)
     → laneBytes level1 (map barrier (keep t b bs) ++ is) ≡ rowIf t (codeOf b) ++ laneBytes level1 (map barrier bs ++ is)
 keep-bytes true b bs is = refl
 keep-bytes false b bs is = refl
-
-pub op-length : (o : Op) → length (opBytes o) ≡ 8
-op-length (Set a c) = refl
-op-length (Add a b) = refl
-op-length (Load a x) = refl
-op-length (Store a x) = refl
-op-length (Lock l) = refl
-op-length (Unlock l) = refl
-op-length (Skip a t) = refl
 
 step-bytes : (m : Marks) (o : Op) (t : ℕ)
     → stepBytes (chosen (marked m)) o t
@@ -56,7 +47,7 @@ step-length m o t =
     ∙ simp length-append
     (ap (λ n. length (rowIf (m .ll) 11)
     + (length (rowIf (m .ls) 12) + (length (rowIf (m .ss) 13) + (length (rowIf (m .sl) 14) + n))))
-    (op-length (aim (λ x. t) o)))
+    (instr-length level1 (op (aim (λ x. t) o))))
 
 -- barriers and operation, put one behind the other
 pub step-put : (m : Marks) (o : Op) (t : ℕ) {l l₁ l₂ l₃ l₄ l₅ : List ℕ} {i i₁ i₂ i₃ i₄ : ℕ}
@@ -66,7 +57,7 @@ pub step-put : (m : Marks) (o : Op) (t : ℕ) {l l₁ l₂ l₃ l₄ l₅ : List
     → Puts l i (stepBytes (chosen (marked m)) o t) l₅ (i₄ + 8)
 step-put m o t {l} {l₁} {l₂} {l₃} {l₄} {l₅} {i} {i₁} {i₂} {i₃} {i₄} room p₁ p₂ p₃ p₄ e =
     let four = puts-on p₁ (puts-on p₂ (puts-on p₃ p₄)) in
-    let size = op-length (aim (λ x. t) o) in
+    let size = instr-length level1 (op (aim (λ x. t) o)) in
     let fits : i₄ + length (opBytes (aim (λ x. t) o)) ≤ length l₄ =
     omega (
       arith,

@@ -23,6 +23,6 @@ module _ (s own : List ℕ) (big : 10256 ≤ length own) where
       let w = wrote-as level2 s own big p in
       let rest = drop (length (sheetBytes level2 (w .kernel))) own in
       let same = ap (λ (k : Program). k .mask) (accepted-as s (w .kernel) (w .accepts) .1) in
-      ap₂ sheetText (w .bytes) same
+      ap₂ sheetText (w .front) same
       ∙ accepted-text s (w .kernel) rest (w .accepts)
       ∙ ap printedBy (sym (w .accepts))

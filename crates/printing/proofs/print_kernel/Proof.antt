@@ -2,7 +2,7 @@
 use mathlib.Core.Path.{sym, ap, _∙_}
 use native.Mathlib.Omega.{arith}
 use Rattle.sheet.specs.Levels.{level2}
-use Rattle.sheet.specs.Bytes.{writeInto}
+use Rattle.sheet.specs.Bytes.{sheetBytes, writeInto}
 use Rattle.sheet.proofs.Answers.{answer-small}
 use Rattle.listing.specs.Listing.{sheetText}
 use Rattle.printing.proofs.Laws.Printed.{refusal-printed, sheet-printed}
@@ -23,16 +23,16 @@ cast-list-refusal : tie.Need-cast-list-refusal
 cast-list-refusal c =
     let l = c .before .before .before .before .lower2 in
     let s = c .before .before .before .before .before .before .before .before .args in
-    let small = answer-small level2 (s .file .now) _ ((λ i. (sym (c .before .answer .given .1) i, l .last .1 .0))
-    ∙ l .ensures) in
+    let small = answer-small (sheetBytes level2) (s .file .now) _
+    ((λ i. (sym (c .before .answer .given .1) i, l .last .1 .0)) ∙ l .ensures) in
     omega (arith, small)
 
 cast-list-refusal-2 : tie.Need-cast-list-refusal-2
 cast-list-refusal-2 c =
     let l = c .before .before .before .before .lower2 in
     let s = c .before .before .before .before .before .before .before .before .args in
-    let small = answer-small level2 (s .file .now) _ ((λ i. (sym (c .before .answer .given .1) i, l .last .1 .0))
-    ∙ l .ensures) in
+    let small = answer-small (sheetBytes level2) (s .file .now) _
+    ((λ i. (sym (c .before .answer .given .1) i, l .last .1 .0)) ∙ l .ensures) in
     omega (arith, small)
 
 list-refusal-requires : tie.Need-list-refusal-requires

@@ -73,13 +73,13 @@ module _ (s own : List ℕ) (big : 10256 ≤ length own) where
   first-readable p =
       let w = wrote-as level1 s own big p in
       let rest = drop (length (sheetBytes level1 (w .kernel))) own in
-      subst Readable (sym (w .bytes)) (readable (w .kernel) rest (accepted-lawful s (w .kernel) (w .accepts)))
+      subst Readable (sym (w .front)) (readable (w .kernel) rest (accepted-lawful s (w .kernel) (w .accepts)))
 
   pub first-written : {n : ℕ} {after : List ℕ} → (Wrote n, after) ≡ lower1 s own → (out : List ℕ)
       → writeInto (relowerBytes after) out ≡ lower2 s out
   first-written p out =
       let w = wrote-as level1 s own big p in
       let rest = drop (length (sheetBytes level1 (w .kernel))) own in
-      ap (λ b. writeInto (relowerBytes b) out) (w .bytes)
+      ap (λ b. writeInto (relowerBytes b) out) (w .front)
       ∙ ap (λ b. writeInto b out) (relowered-bytes (w .kernel) rest (accepted-lawful s (w .kernel) (w .accepts)))
       ∙ ap (λ v. lowerBy level2 v out) (sym (w .accepts))

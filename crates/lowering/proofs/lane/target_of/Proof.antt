@@ -5,7 +5,7 @@ use lib.ListN.{length, List·getD-eq-default}
 use borrow.Kind.Array.{eInt, good-length}
 use mir.Syntax.{w32}
 use Rattle.kernel.specs.declared.accepted.Op.the-variants.{Skip}
-use Rattle.lowering.proofs.Laws.Lane.{aim-other}
+use Rattle.sheet.proofs.Laws.Aim.{aim-other}
 use borrow.Author.Needs.{needs}
 use Rattle.lowering.proofs.lane.target_of.Statement.{statement}
 use Rattle.lowering.proofs.lane.target_of.Tie as tie

@@ -2,27 +2,26 @@
 use Prim.Native.Nat.{_≤_, _-_}
 use lib.ListN.{length, getD}
 use lib.Seq.{sets}
-use mathlib.Core.Path.{_≡_, sym, ap, _∙_}
+use mathlib.Core.Path.{_≡_, ap, _∙_}
 use native.Mathlib.Omega.{arith}
 use Rattle.kernel.specs.Stored.{pastLanes}
-use Rattle.sheet.specs.Put.{Puts}
-use Rattle.sheet.proofs.Laws.Put.{puts-none, puts-as, puts-on, puts-length}
-use Rattle.lowering.specs.Plan.{noPlan, plannedBytes, writtenLanes}
+use Rattle.sheet.specs.Put.{Puts, inTurn}
+use Rattle.sheet.proofs.Laws.Put.{puts-length}
+use Rattle.sheet.proofs.Laws.Turn.{turn-none, turn-on, turn-fits}
+use Rattle.lowering.specs.Plan.{noPlan, plannedBytes, plannedAt}
 use Rattle.sheet.proofs.Laws.Part.{part-back, part-length}
-use Rattle.lowering.proofs.Laws.Lanes.{written-suc, all-written, now-fits}
 use Rattle.lowering.proofs.level1.write_lanes.Statement.{statement}
 use Rattle.lowering.proofs.level1.write_lanes.Tie as tie
 
 abbrev Inv-loop : tie.InvT-loop
 Inv-loop out₀ lanes all at₀ t₀ out at t =
-    (t ≤ 4) × Puts out₀ 16 (writtenLanes lanes all t) out at
+    (t ≤ 4) × Puts out₀ 16 (inTurn (λ n. plannedBytes (getD lanes n pastLanes) (getD all n noPlan)) t) out at
 
 abbrev μ-loop : tie.MeasureT-loop
 μ-loop out₀ lanes all at₀ t₀ out at t = 4 - t
 
 loop-holds : tie.Need-loop-holds Inv-loop μ-loop
-unfolding writtenLanes
-loop-holds c = (omega arith, puts-none)
+loop-holds c = (omega arith, turn-none _)
 
 mul-lane : tie.Need-mul-lane Inv-loop μ-loop
 mul-lane c = omega arith
@@ -41,9 +40,8 @@ sub-write-lane c =
     let here = c .before .before .before .before .before in
     let a = here .before .before .before .before in
     let l = here .loop in
-    let fits =
-    now-fits (a .args .kernel) (a .args .plans) _ (a .good .1 .0) (a .pre .0) (a .args .out .now) (a .pre .1 .1) (l .t)
-    (omega arith) (l .inv .1) in
+    let text = plannedAt (a .args .kernel) (a .args .plans) in
+    let fits = turn-fits text 4 (l .t) (a .pre .1 .1) (omega arith) (l .inv .1) in
     omega (arith, fits .1)
 
 part-write-lane-start : tie.Need-part-write-lane-start Inv-loop μ-loop
@@ -51,9 +49,8 @@ part-write-lane-start c =
     let here = c .before .before .before .before .before in
     let a = here .before .before .before .before in
     let l = here .loop in
-    let fits =
-    now-fits (a .args .kernel) (a .args .plans) _ (a .good .1 .0) (a .pre .0) (a .args .out .now) (a .pre .1 .1) (l .t)
-    (omega arith) (l .inv .1) in
+    let text = plannedAt (a .args .kernel) (a .args .plans) in
+    let fits = turn-fits text 4 (l .t) (a .pre .1 .1) (omega arith) (l .inv .1) in
     omega (arith, fits .1)
 
 part-write-lane-end : tie.Need-part-write-lane-end Inv-loop μ-loop
@@ -64,9 +61,8 @@ write-lane-requires c κs =
     let here = c .before .before .before .before .before .before in
     let a = here .before .before .before .before in
     let l = here .loop in
-    let fits =
-    now-fits (a .args .kernel) (a .args .plans) _ (a .good .1 .0) (a .pre .0) (a .args .out .now) (a .pre .1 .1) (l .t)
-    (omega arith) (l .inv .1) in
+    let text = plannedAt (a .args .kernel) (a .args .plans) in
+    let fits = turn-fits text 4 (l .t) (a .pre .1 .1) (omega arith) (l .inv .1) in
     let inside : l .at ≤ length (l .out) = omega (arith, fits .1) in (
       a .pre .0 (l .t) (omega arith) .starts,
       (a .pre .1 .0 (l .t) (omega arith), omega (arith, part-length (l .out) (l .at) inside, fits .1)),
@@ -77,9 +73,8 @@ add-at c =
     let here = c .before .before .before .before .before .before .before .before .before in
     let a = here .before .before .before .before in
     let l = here .loop in
-    let fits =
-    now-fits (a .args .kernel) (a .args .plans) _ (a .good .1 .0) (a .pre .0) (a .args .out .now) (a .pre .1 .1) (l .t)
-    (omega arith) (l .inv .1) in
+    let text = plannedAt (a .args .kernel) (a .args .plans) in
+    let fits = turn-fits text 4 (l .t) (a .pre .1 .1) (omega arith) (l .inv .1) in
     omega (arith, c .before .before .write-lane .ensures .behind, fits .0, fits .1, a .good)
 
 add-t : tie.Need-add-t Inv-loop μ-loop
@@ -93,14 +88,10 @@ loop-again c =
     let here = c .before .before .before .before .before .before .before .before .before in
     let a = here .before .before .before .before in
     let l = here .loop in
-    let fits =
-    now-fits (a .args .kernel) (a .args .plans) _ (a .good .1 .0) (a .pre .0) (a .args .out .now) (a .pre .1 .1) (l .t)
-    (omega arith) (l .inv .1) in
-    let lanes = a .args .kernel .lanes in
-    let plans = a .args .plans .lanes in
-    let lane = plannedBytes (getD lanes (l .t) pastLanes) (getD plans (l .t) noPlan) in
-    let wrote = part-back (l .out) lane (l .at) (fits .1) (c .before .before .write-lane .ensures) in
-    (omega arith, puts-as (sym (written-suc lanes plans (l .t))) (puts-on (l .inv .1) wrote))
+    let text = plannedAt (a .args .kernel) (a .args .plans) in
+    let fits = turn-fits text 4 (l .t) (a .pre .1 .1) (omega arith) (l .inv .1) in
+    let wrote = part-back (l .out) (text (l .t)) (l .at) (fits .1) (c .before .before .write-lane .ensures) in
+    (omega arith, turn-on text (l .t) (l .inv .1) wrote)
 
 same-length : tie.Need-same-length Inv-loop μ-loop
 same-length c = puts-length (c .before .loop .inv .1)
@@ -111,9 +102,7 @@ returns c =
     let l = c .before .loop in
     let last : l .t ≡ 4 = omega arith in
     l .inv .1 .bytes
-    ∙ ap (λ n. sets (a .args .out .now) 16 (writtenLanes (a .args .kernel .lanes) (a .args .plans .lanes) n)) last
-    ∙ ap (sets (a .args .out .now) 16)
-    (all-written (a .args .kernel) (a .args .plans) _ (a .good .1 .0) (a .pre .0) (a .args .out .now) (a .pre .1 .1))
+    ∙ ap (λ n. sets (a .args .out .now) 16 (inTurn (plannedAt (a .args .kernel) (a .args .plans)) n)) last
 
 pub write-lanes-spec : {M : Type 1} → statement M
 write-lanes-spec =

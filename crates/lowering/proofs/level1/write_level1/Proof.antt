@@ -4,9 +4,10 @@ use native.Mathlib.Omega.{arith}
 use Rattle.sheet.specs.Levels.{level1}
 use Rattle.sheet.proofs.Sizes.{sheet-small}
 use Rattle.sheet.proofs.Laws.Written.{short-untouched}
-use Rattle.lowering.specs.Whole.{programIn, sheet1}
-use Rattle.lowering.proofs.Laws.Whole.{count-is, targets-aimed}
-use Rattle.lowering.proofs.Laws.Level1.{size-by, room-by, sheet-put}
+use Rattle.sheet.specs.Whole.{programIn}
+use Rattle.sheet.proofs.Laws.Whole.{count-is}
+use Rattle.lowering.specs.Whole.{sheet1}
+use Rattle.lowering.proofs.Laws.Level1.{targets-aimed, size-by, room-by, sheet-put}
 use borrow.Author.Needs.{needs}
 use Rattle.lowering.proofs.level1.write_level1.Statement.{statement}
 use Rattle.lowering.proofs.level1.write_level1.Tie as tie

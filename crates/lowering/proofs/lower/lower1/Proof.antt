@@ -7,8 +7,10 @@ use Rattle.verdict.specs.Verdict.{numberOf, recordOf}
 use Rattle.sheet.specs.declared.Lowered.the-variants.{Refuses}
 use Rattle.sheet.specs.Levels.{level1}
 use Rattle.sheet.proofs.Laws.Written.{written-length, answer-short, answer-full}
-use Rattle.lowering.specs.Whole.{Whole, sheet1}
-use Rattle.lowering.proofs.Laws.Lower.{refused-by, whole-loaded, lowered-by}
+use Rattle.sheet.specs.Bytes.{sheetBytes}
+use Rattle.sheet.specs.Whole.{Whole}
+use Rattle.sheet.proofs.Laws.Loaded.{refused-by, whole-loaded, answered-by}
+use Rattle.lowering.specs.Whole.{sheet1}
 use borrow.Author.Needs.{needs}
 use Rattle.lowering.proofs.lower.lower1.Statement.{statement}
 use Rattle.lowering.proofs.lower.lower1.Tie as tie
@@ -31,7 +33,7 @@ returns c =
     c .before .before .number-of .ensures ∙ ap (λ (x : Loaded). numberOf (x .refusal)) (s .load .ensures) in
     let record-is = c .record-of .ensures ∙ ap (λ (x : Loaded). recordOf (x .refusal)) (s .load .ensures) in
     (λ i. (Refuses (number i) (record-is i), a .out .now))
-    ∙ sym (refused-by file level1 (a .out .now) (omega (arith, number, c .before .if1 .taken)))
+    ∙ sym (refused-by file (sheetBytes level1) (a .out .now) (omega (arith, number, c .before .if1 .taken)))
 
 write-level1-requires : tie.Need-write-level1-requires
 write-level1-requires c κs =
@@ -58,7 +60,8 @@ returns-2 c =
     let bytes = sheet1 (s .load .result .kernel) in
     let long = ap length (w .1) ∙ written-length bytes (a .out .now) in
     answer-short bytes (a .out .now) (w .1) (omega (arith, w .0, long, c .if2 .taken))
-    ∙ lowered-by file (omega (arith, number, c4 .before .if1 .left)) (a .out .now) (s .load .ensures)
+    ∙ answered-by file (omega (arith, number, c4 .before .if1 .left)) (sheetBytes level1) (a .out .now)
+    (s .load .ensures)
 
 same-length-2 : tie.Need-same-length-2
 same-length-2 c = search needs
@@ -75,7 +78,8 @@ returns-3 c =
     let bytes = sheet1 (s .load .result .kernel) in
     let long = ap length (w .1) ∙ written-length bytes (a .out .now) in
     answer-full bytes (a .out .now) (w .1) (w .0) (omega (arith, w .0, long, c .if2 .left))
-    ∙ lowered-by file (omega (arith, number, c4 .before .if1 .left)) (a .out .now) (s .load .ensures)
+    ∙ answered-by file (omega (arith, number, c4 .before .if1 .left)) (sheetBytes level1) (a .out .now)
+    (s .load .ensures)
 
 pub lower1-spec : {M : Type 1} → statement M
 lower1-spec =

@@ -3,11 +3,11 @@ use mathlib.Core.Path.{refl, sym, _∙_}
 use mathlib.Core.List.{[], _∷_, _++_}
 use native.Mathlib.Omega.{arith}
 use Rattle.sheet.specs.Bytes.{word}
-use Rattle.sheet.specs.Put.{laid}
+use Rattle.sheet.specs.Put.{laid, inTurn}
 use Rattle.sheet.specs.Relower.{relowerBytes}
 use Rattle.sheet.proofs.Laws.Put.{whole-put, laid-length}
 use Rattle.sheet.proofs.Laws.Written.{short-untouched, answer-full}
-use Rattle.relowering.specs.Rows.{bodyOf}
+use Rattle.relowering.specs.Rows.{rowsAt2}
 use Rattle.relowering.proofs.Laws.Whole.{sheet-parts, parts-size, body-size}
 use borrow.Author.Needs.{needs}
 use Rattle.relowering.proofs.whole.relower.Statement.{statement}
@@ -110,7 +110,7 @@ returns-2 c =
     (k .before .before .kept-at2 .ensures .0) (k .before .kept-at3 .ensures .0)
     (k .kept-at4 .ensures .0) in
     answer-full (relowerBytes s) out
-    (whole-put out _ _ (bodyOf s 4) (relowerBytes s) refl refl whole (omega (arith, size, i .if1 .left)) first
+    (whole-put out _ _ (inTurn (rowsAt2 s) 4) (relowerBytes s) refl refl whole (omega (arith, size, i .if1 .left)) first
     (c6 .put-counts .ensures) (c .before .before .relower-lanes .ensures)) size (omega (arith, size, i .if1 .left))
 
 pub relower-spec : {M : Type 1} → statement M

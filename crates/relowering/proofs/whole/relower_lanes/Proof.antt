@@ -1,29 +1,30 @@
 -- `relowering::whole::relower_lanes` meets its contract.
-use Prim.Native.Nat.{suc, _≤_, _-_, _+_}
+use Prim.Native.Nat.{_≤_, _-_}
 use mathlib.Core.Path.{_≡_, ap, _∙_}
 use lib.ListN.{length, getD}
 use lib.Seq.{sets}
 use native.Mathlib.Omega.{arith}
 use Rattle.sheet.specs.Levels.{level2}
 use Rattle.sheet.specs.Bytes.{laneBytes}
-use Rattle.sheet.specs.Put.{Puts}
+use Rattle.sheet.specs.Put.{Puts, inTurn}
 use Rattle.sheet.specs.Relower.{relower}
 use Rattle.sheet.proofs.Laws.Part.{part-back, part-length}
-use Rattle.sheet.proofs.Laws.Put.{puts-none, puts-as, puts-on, puts-length}
-use Rattle.relowering.specs.Rows.{laneAt2, bodyOf}
-use Rattle.relowering.proofs.Laws.Whole.{part-few, part-inside, part-rows, body-room}
+use Rattle.sheet.proofs.Laws.Put.{puts-as, puts-length}
+use Rattle.sheet.proofs.Laws.Turn.{turn-none, turn-on, turn-room}
+use Rattle.relowering.specs.Rows.{rowsAt2}
+use Rattle.relowering.proofs.Laws.Whole.{part-few, part-inside, part-rows}
 use borrow.Author.Needs.{needs}
 use Rattle.relowering.proofs.whole.relower_lanes.Statement.{statement}
 use Rattle.relowering.proofs.whole.relower_lanes.Tie as tie
 
 abbrev Inv-loop : tie.InvT-loop
-Inv-loop out₀ sheet from count at₀ t₀ out at t = (t ≤ 4) × Puts out₀ 16 (bodyOf sheet t) out at
+Inv-loop out₀ sheet from count at₀ t₀ out at t = (t ≤ 4) × Puts out₀ 16 (inTurn (rowsAt2 sheet) t) out at
 
 abbrev μ-loop : tie.MeasureT-loop
 μ-loop out₀ sheet from count at₀ t₀ out at t = 4 - t
 
 loop-holds : tie.Need-loop-holds Inv-loop μ-loop
-loop-holds c = (omega arith, puts-none)
+loop-holds c = (omega arith, turn-none _)
 
 mul-first : tie.Need-mul-first Inv-loop μ-loop
 mul-first c = search needs
@@ -37,7 +38,7 @@ sub-relower-lane c =
     let l = c .before .loop in
     let s = a .args .sheet .now in
     let inside = part-inside s (a .pre .0 .0) (a .pre .0 .1) (l .t) (omega arith) in
-    let next = body-room s (l .t) (omega arith) in
+    let next = turn-room (rowsAt2 s) 4 (l .t) (omega arith) in
     omega (arith, inside, next, a .pre .1, l .inv .1 .behind, puts-length (l .inv .1))
 
 part-relower-lane-start : tie.Need-part-relower-lane-start Inv-loop μ-loop
@@ -46,7 +47,7 @@ part-relower-lane-start c =
     let l = c .before .loop in
     let s = a .args .sheet .now in
     let inside = part-inside s (a .pre .0 .0) (a .pre .0 .1) (l .t) (omega arith) in
-    let next = body-room s (l .t) (omega arith) in
+    let next = turn-room (rowsAt2 s) 4 (l .t) (omega arith) in
     omega (arith, inside, next, a .pre .1, l .inv .1 .behind, puts-length (l .inv .1))
 
 part-relower-lane-end : tie.Need-part-relower-lane-end Inv-loop μ-loop
@@ -58,7 +59,7 @@ sub-relower-lane-2 c =
     let l = c .before .before .loop in
     let s = a .args .sheet .now in
     let inside = part-inside s (a .pre .0 .0) (a .pre .0 .1) (l .t) (omega arith) in
-    let next = body-room s (l .t) (omega arith) in
+    let next = turn-room (rowsAt2 s) 4 (l .t) (omega arith) in
     omega (arith, inside, next, a .pre .1, l .inv .1 .behind, puts-length (l .inv .1))
 
 part-relower-lane-start-2 : tie.Need-part-relower-lane-start-2 Inv-loop μ-loop
@@ -67,7 +68,7 @@ part-relower-lane-start-2 c =
     let l = c .before .before .loop in
     let s = a .args .sheet .now in
     let inside = part-inside s (a .pre .0 .0) (a .pre .0 .1) (l .t) (omega arith) in
-    let next = body-room s (l .t) (omega arith) in
+    let next = turn-room (rowsAt2 s) 4 (l .t) (omega arith) in
     omega (arith, inside, next, a .pre .1, l .inv .1 .behind, puts-length (l .inv .1))
 
 part-relower-lane-end-2 : tie.Need-part-relower-lane-end-2 Inv-loop μ-loop
@@ -88,7 +89,7 @@ relower-lane-requires c κs =
     let inside = part-inside s (a .pre .0 .0) (a .pre .0 .1) (l .t) (omega arith) in
     let rows = part-rows s (a .pre .0 .0) (a .pre .0 .1) (l .t) (omega arith) in
     let lane = ap (λ x. length (laneBytes level2 (relower level2 x))) rows in
-    let next = body-room s (l .t) (omega arith) in
+    let next = turn-room (rowsAt2 s) 4 (l .t) (omega arith) in
     let same = puts-length (l .inv .1) in
     let size = part-length s (getD (a .args .parts .from) (l .t) 0) (omega (arith, inside)) in
     let left = part-length (l .out) (l .at) (omega (arith, next, a .pre .1, l .inv .1 .behind, same)) in
@@ -101,7 +102,7 @@ add-at c =
     let s = a .args .sheet .now in
     let rows = part-rows s (a .pre .0 .0) (a .pre .0 .1) (l .t) (omega arith) in
     let lane = ap (λ x. length (laneBytes level2 (relower level2 x))) rows in
-    let next = body-room s (l .t) (omega arith) in
+    let next = turn-room (rowsAt2 s) 4 (l .t) (omega arith) in
     omega (arith, lane, next, a .pre .1, a .good, l .inv .1 .behind, c .before .before .relower-lane .ensures .behind)
 
 add-t : tie.Need-add-t Inv-loop μ-loop
@@ -117,13 +118,12 @@ loop-again c =
     let s = a .args .sheet .now in
     let rows = part-rows s (a .pre .0 .0) (a .pre .0 .1) (l .t) (omega arith) in
     let lane = ap (λ x. laneBytes level2 (relower level2 x)) rows in
-    let next = body-room s (l .t) (omega arith) in
+    let next = turn-room (rowsAt2 s) 4 (l .t) (omega arith) in
     let same = puts-length (l .inv .1) in
-    let one : suc (l .t) ≡ l .t + 1 = omega arith in
-    let wrote = part-back (l .out) (laneBytes level2 (laneAt2 s (l .t))) (l .at)
+    let wrote = part-back (l .out) (rowsAt2 s (l .t)) (l .at)
     (omega (arith, next, a .pre .1, l .inv .1 .behind, same))
     (puts-as lane (c .before .before .relower-lane .ensures)) in
-    (omega arith, puts-as (ap (bodyOf s) one) (puts-on (l .inv .1) wrote))
+    (omega arith, turn-on (rowsAt2 s) (l .t) (l .inv .1) wrote)
 
 same-length : tie.Need-same-length Inv-loop μ-loop
 same-length c = puts-length (c .before .loop .inv .1)
@@ -133,7 +133,7 @@ returns c =
     let a = c .before .before .before .before .before .before in
     let l = c .before .loop in
     let last : l .t ≡ 4 = omega arith in
-    l .inv .1 .bytes ∙ ap (λ n. sets (a .args .out .now) 16 (bodyOf (a .args .sheet .now) n)) last
+    l .inv .1 .bytes ∙ ap (λ n. sets (a .args .out .now) 16 (inTurn (rowsAt2 (a .args .sheet .now)) n)) last
 
 pub relower-lanes-spec : {M : Type 1} → statement M
 relower-lanes-spec =

@@ -10,10 +10,7 @@ use Rattle.kernel.specs.Accepted.{Program}
 use Rattle.kernel.specs.Stored.{opsIn, recordsIn, storedLane, storedLanes, stored, noLane, pastLanes, filled}
 use Rattle.kernel.specs.Lawful.{Lawful}
 use Rattle.kernel.proofs.Laws.Stored.{filled-front, ops-stored, records-stored, lanes-at}
-use Rattle.sheet.specs.Items.{TargetsWithin}
-use Rattle.sheet.proofs.Laws.Targets.{targets-within}
-use Rattle.lowering.specs.Plan.{Aimed}
-use Rattle.lowering.specs.Whole.{programIn, Whole}
+use Rattle.sheet.specs.Whole.{programIn, Whole}
 
 stored-length : (os : List (List Op)) (rs : List (List ℕ)) → length os ≡ length rs
     → length (storedLanes os rs) ≡ length os
@@ -23,7 +20,7 @@ stored-length (o ∷ os) [] e = absurd (omega arith)
 stored-length (o ∷ os) (r ∷ rs) e = ap suc (stored-length os rs (omega arith))
 
 -- stored lanes are read back
-pub lanes-back : (os : List (List Op)) (rs : List (List ℕ)) → length os ≡ length rs
+lanes-back : (os : List (List Op)) (rs : List (List ℕ)) → length os ≡ length rs
     → ((t : ℕ) → length (getD os t []) ≡ length (getD rs t []))
     → (map opsIn (storedLanes os rs) ≡ os) × (map recordsIn (storedLanes os rs) ≡ rs)
 unfolding storedLanes
@@ -81,7 +78,3 @@ module _ (k : Kernel) (w : Whole k) where
   pub count-is : k .count ≡ length (programIn k .lanes)
   unfolding stored
   count-is = ap (λ x. x .count) (w .same)
-
-  pub targets-aimed : (t : ℕ) → t < 4 → Aimed (getD (k .lanes) t pastLanes)
-  targets-aimed t h =
-      subst (λ ops. TargetsWithin (length ops) ops) (sym (ops-are t h)) (targets-within (w .lawful .lane t))

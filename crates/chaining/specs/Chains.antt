@@ -1,0 +1,39 @@
+-- The chains of an accepted kernel as the rows of a sheet without barriers: what the source machine reads.
+use Prim.Native.Nat.{ℕ}
+use mathlib.Core.List.{List, _++_, map}
+use lib.ListN.{length, getD}
+use Rattle.kernel.specs.declared.accepted.Op.{Op}
+use Rattle.kernel.specs.declared.accepted.Lane.{Lane}
+use Rattle.kernel.specs.declared.accepted.Kernel.{Kernel}
+use Rattle.kernel.specs.Accepted.{Program}
+use Rattle.kernel.specs.Stored.{opsIn, pastLanes}
+use Rattle.verdict.specs.Verdict.{Verdict}
+use Rattle.sheet.specs.declared.Lowered.{Lowered}
+use Rattle.sheet.specs.Layout.{Instr, op}
+use Rattle.sheet.specs.Levels.{level1}
+use Rattle.sheet.specs.Bytes.{joined, laneBytes, headerBy, answerBy}
+
+-- each lane's operations; a SKIP's target is a position of the chain
+abbrev pub chainLanes : Program → List (List Instr)
+chainLanes k = map (map op) (k .lanes)
+
+-- a sheet of level 0
+unfoldable pub chainBytes : Program → List ℕ
+chainBytes k =
+    headerBy (length (k .lanes)) (k .locations) (k .locks) 0 (k .mask) (chainLanes k)
+    ++ joined (map (laneBytes level1) (chainLanes k))
+
+-- the answer on a file, and the output buffer after
+abbrev pub chainBy : Verdict → List ℕ → Lowered × List ℕ
+chainBy = answerBy chainBytes
+
+-- ## the same of the struct that the code holds
+
+abbrev pub opRows : List Op → List ℕ
+opRows ops = laneBytes level1 (map op ops)
+
+abbrev pub chainIn : Lane → List ℕ
+chainIn lane = opRows (opsIn lane)
+
+abbrev pub chainAt : Kernel → ℕ → List ℕ
+chainAt k t = chainIn (getD (k .lanes) t pastLanes)

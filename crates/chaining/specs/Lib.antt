@@ -1,0 +1,2 @@
+-- Chains: the chains of an accepted kernel as rows.
+pub mod Chains
