@@ -7,7 +7,7 @@ ghost use Rattle.sheet.specs.Put.{Puts};
 ghost use Rattle.chaining.specs.Chains.{chainIn};
 use kernel::accepted::Lane;
 use kernel::accepted::Op;
-use placement::steps::count;
+use kernel::accepted::count;
 use rows::put::put_op;
 
 // The position that a SKIP leads to; 0 for another operation.

@@ -10,7 +10,7 @@ ghost use Rattle.sheet.specs.Whole.{programIn, Whole};
 ghost use Rattle.chaining.specs.Chains.{chainAt, chainBytes};
 use crate::lane::write_chain;
 use kernel::accepted::Kernel;
-use placement::steps::count;
+use kernel::accepted::count;
 use rows::put::put_counts;
 use rows::put::put_first;
 use sheet::Lowered;

@@ -1,7 +1,7 @@
 // The accepted kernel: its numbers, and the operations of its lanes in chain order.
 ghost use mathlib.Core.Path.{_≡_};
 ghost use mathlib.Core.Bool.{true};
-ghost use Prim.Native.Nat.{_+_, _<_};
+ghost use Prim.Native.Nat.{min, _+_, _<_};
 ghost use lib.ListN.{length, getD};
 ghost use Rattle.kernel.specs.Rules.{headerRule};
 ghost use Rattle.kernel.specs.Linkage.{chain};
@@ -46,6 +46,13 @@ pub struct Kernel {
     pub locations: usize,
     pub locks: usize,
     pub mask: u16,
+}
+
+// How many of 64 places are in use.
+pub fn count(len: usize) -> usize
+    ensures { λ r. ⌜ r ≡ min len 64 ⌝ }
+{
+    if len < 64 { len } else { 64 }
 }
 
 // The records of a chain, then zeros.

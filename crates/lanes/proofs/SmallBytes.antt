@@ -7,20 +7,22 @@ use lib.ListN.{length, getD, getElem?, replicate, List·getD-map}
 use Rattle.kernel.specs.Accepted.{Program}
 use Rattle.kernel.specs.Lawful.{Lawful}
 use Rattle.sheet.specs.Bytes.{quad}
+use Rattle.sheet.specs.Put.{inTurn}
 use Rattle.sheet.proofs.SmallBytes.{Small, none, _▸_, small-append, small-at, zero-small, word-small, quad-small}
 use Rattle.machine.specs.Entries.{Entry, write, release}
 use Rattle.machine.specs.State.{Lane, idle, laneAt}
 use Rattle.machine.specs.Run.{Answer, shown}
 use Rattle.machine.specs.Shape.{EntrySmall, AllSmall, Shaped}
-use Rattle.recording.specs.Record.{tableFrom, double, entryBytes, placeBytes, entriesBytes, stateLane, flag, headBytes}
+use Rattle.recording.specs.Record.{double, entryBytes, placeBytes, entriesBytes, stateLane, flag, headBytes}
 use Rattle.recording.specs.Record.{recordOf, stateBytes}
 
 double-small : (n : ℕ) → Small (double n)
 double-small n = small-append (quad-small n) (quad-small (n / 2 ^ 32))
 
-table-small : (f : ℕ → List ℕ) → ((i : ℕ) → Small (f i)) → (i n : ℕ) → Small (tableFrom f i n)
-table-small f h i zero = none
-table-small f h i (suc n) = small-append (h i) (table-small f h (suc i) n)
+turn-small : (f : ℕ → List ℕ) → ((i : ℕ) → Small (f i)) → (n : ℕ) → Small (inTurn f n)
+unfolding inTurn
+turn-small f h zero = none
+turn-small f h (suc n) = small-append (turn-small f h n) (h n)
 
 zeros-small : (n : ℕ) → Small (replicate n 0)
 zeros-small zero = none
@@ -46,14 +48,14 @@ module _ (ls ks : ℕ) (wl : ls ≤ 256) (wk : ks ≤ 256) where
 
   entries-small : (n : ℕ) (es : List Entry) → AllSmall ls ks es → Small (entriesBytes n es)
   unfolding entriesBytes
-  entries-small n es h = table-small (λ i. placeBytes (getElem? es i)) (place-small es h) 0 n
+  entries-small n es h = turn-small (λ i. placeBytes (getElem? es i)) (place-small es h) n
 
   lane-small : (l : Lane) → AllSmall ls ks (l .pending) → Small (stateLane l)
   unfolding stateLane
   lane-small l h =
       small-append (word-small (l .control .pos))
       (small-append (word-small (length (l .pending)))
-      (small-append (table-small (λ i. quad (getD (l .regs) i 0)) (λ i. quad-small (getD (l .regs) i 0)) 0 8)
+      (small-append (turn-small (λ i. quad (getD (l .regs) i 0)) (λ i. quad-small (getD (l .regs) i 0)) 8)
       (entries-small 64 (l .pending) h)))
 
 module _ (k : Program) (a : Answer) (w : Lawful k) (shaped : Shaped k (shown a)) where
@@ -68,17 +70,17 @@ module _ (k : Program) (a : Answer) (w : Lawful k) (shaped : Shaped k (shown a))
       let h : getD (a .state .locks) i 0 < 256 = omega (arith, shaped .locks-small i, w .few-lanes) in h ▸ none
 
   head-small : Small (headBytes (a .finished) (a .done) (a .waited) (a .state .memory) (a .state .locks))
-  unfolding headBytes
+  unfolding headBytes inTurn
   head-small =
       small-append (flag-small (a .finished) ▸ zeros-small 3)
-      (small-append (table-small (λ i. getD (a .state .locks) i 0 ∷ []) lock-small 0 4)
+      (small-append (turn-small (λ i. getD (a .state .locks) i 0 ∷ []) lock-small 4)
       (small-append (double-small (a .done))
       (small-append (double-small (a .waited))
-      (table-small (λ i. quad (getD (a .state .memory) i 0)) (λ i. quad-small (getD (a .state .memory) i 0)) 0 16))))
+      (turn-small (λ i. quad (getD (a .state .memory) i 0)) (λ i. quad-small (getD (a .state .memory) i 0)) 16))))
 
   all-small : Small (stateBytes a)
   unfolding recordOf
-  all-small = small-append head-small (table-small (λ t. stateLane (laneAt (a .state) t)) lanes-small 0 4)
+  all-small = small-append head-small (turn-small (λ t. stateLane (laneAt (a .state) t)) lanes-small 4)
 
   pub state-bytes-small : (i : ℕ) → getD (stateBytes a) i 0 < 256
   state-bytes-small = small-at all-small

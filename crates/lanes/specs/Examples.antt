@@ -15,6 +15,7 @@ use Rattle.placement.specs.Place.{stands, due, rowsTo}
 use Rattle.sheet.specs.Bytes.{sheetBytes}
 use Rattle.sheet.specs.Read.{readSheet}
 use Rattle.machine.specs.Moves.{movesIn}
+use Rattle.sheet.specs.Put.{inTurn}
 use Rattle.recording.specs.Record.{entriesBytes, stateLane, headBytes, recordOf}
 use Rattle.lanes.specs.Interface.{callLower1, callLower2, callRunSource, callRunTso}
 
@@ -119,5 +120,5 @@ unfolding refusalOf structureThen headerRule headRule badRecord recordRule limit
     lowest firstOf badLinkage linkageFrom chain member walkOf chainTooLong badTarget unreachableTarget lockFault
     position
     opOf opsFrom recordAt faultPosition faultAt partedBy heldFrom same stands due rowsTo sheetBytes readSheet
-    movesIn entriesBytes stateLane headBytes recordOf kernel output calls
+    movesIn inTurn entriesBytes stateLane headBytes recordOf kernel output calls
 calls-hold = refl

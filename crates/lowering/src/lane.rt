@@ -11,8 +11,8 @@ use crate::starts::marks_at;
 use crate::steps::put_step;
 use kernel::accepted::Lane;
 use kernel::accepted::Op;
+use kernel::accepted::count;
 use placement::place::Placement;
-use placement::steps::count;
 
 // The sheet position that a SKIP leads to; 0 for another operation.
 fn target_of(op: Op, at: [u32; 65]) -> u32

@@ -8,9 +8,9 @@ use crate::starts::Starts;
 use crate::starts::starts_of;
 use kernel::accepted::Kernel;
 use kernel::accepted::Lane;
+use kernel::accepted::count;
 use placement::place::Placement;
 use placement::place::place_lane;
-use placement::steps::count;
 
 pub struct Plan {
     pub placement: Placement,

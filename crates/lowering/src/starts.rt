@@ -1,13 +1,13 @@
 // The sheet position at which each operation of a lane begins, at level 1.
 ghost use mathlib.Core.Path.{_≡_};
-ghost use mathlib.Core.Bool.{cond};
 ghost use Prim.Native.Nat.{suc, min, _≤_};
 ghost use lib.ListN.{length};
 ghost use Rattle.placement.specs.Place.{chosen};
 ghost use Rattle.lowering.specs.Put.{marked, standingMarks, standing, StartsTo};
 use crate::steps::Marks;
+use kernel::accepted::count;
 use placement::place::Placement;
-use placement::steps::count;
+use rows::number::one;
 
 // The position of each operation's first barrier, and behind the last operation the count of instructions.
 pub struct Starts {
@@ -33,12 +33,6 @@ pub(crate) fn marks_at(placement: Placement, p: usize) -> Marks
             sl: false,
         }
     }
-}
-
-fn one(b: bool) -> u32
-    ensures { λ r. ⌜ (r ≡ cond b 1 0) × (r ≤ 1) ⌝ }
-{
-    if b { 1 } else { 0 }
 }
 
 // How many instructions an operation makes, with its barriers.

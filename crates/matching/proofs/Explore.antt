@@ -18,17 +18,13 @@ use Rattle.machine.specs.Schedule.{Move, move, legal}
 use Rattle.machine.specs.State.{State, Run, Outcome, ran, refused, laneAt, setLane, applyTurn, moveTurn, run}
 use Rattle.machine.specs.View.{every}
 use Rattle.placement.proofs.Laws.Bools.{and-true}
+use Rattle.kernel.proofs.Laws.Lists.{at-beyond}
 use Rattle.matching.proofs.Laws.Bools.{every-true}
 
 -- after a refusal nothing changes
 abbrev pub GoodOut : (State → Bool) → Outcome → Type 0
 GoodOut good (ran r) = good (r .state) ≡ true
 GoodOut good (refused t k) = Unit {0}
-
-beyond : (es : List Entry) (i : ℕ) → length es ≤ i → getElem? es i ≡ none
-beyond [] i le = refl
-beyond (x ∷ es) zero le = absurd (omega arith)
-beyond (x ∷ es) (suc i) le = beyond es i (omega arith)
 
 module _ (m : Machine) (vol : ℕ → Bool) (prog : List (List Instr)) (n c : ℕ) (good : State → Bool) where
   -- the state after a turn, tested by f
@@ -54,7 +50,7 @@ module _ (m : Machine) (vol : ℕ → Bool) (prog : List (List Instr)) (n c : �
   -- a choice beyond the pending list waits
   late : (s : State) (t x : ℕ) → length (laneAt s t .pending) < x → moveTurn m vol prog s (move t x) ≡ waits
   late s t zero lt = absurd (omega arith)
-  late s t (suc i) lt = rw (beyond (laneAt s t .pending) i (omega arith))
+  late s t (suc i) lt = rw (at-beyond (laneAt s t .pending) i (omega arith))
 
   tested : (k : ℕ) (s : State) (t x : ℕ) → t < n → explore (suc k) s ≡ true
       → child (explore k) s t (moveTurn m vol prog s (move t x)) ≡ true

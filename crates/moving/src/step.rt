@@ -1,5 +1,5 @@
 // Operations of a lane that read or write memory, locks or the pending list, on the state that is borrowed as rows.
-// Whether the move waits is decided before anything is copied.
+// Whether the move waits is decided before anything is written.
 ghost use mathlib.Core.Bool.{Bool};
 ghost use mathlib.Core.List.{List};
 ghost use Prim.Native.Nat.{ℕ};

@@ -1,6 +1,6 @@
 // A lane of either machine: its position, its eight registers and its pending stores, oldest first. Methods take the
-// lane and hand it back. One that changes an array does so in a local of its own and puts it back: the rest is not
-// copied then.
+// lane; append, commit, newest and with_register hand it back. One that changes an array does so in a local of its own
+// and puts it back: the rest is not copied then.
 ghost use mathlib.Core.Path.{_≡_};
 ghost use mathlib.Core.Option.{some};
 ghost use Prim.Native.Nat.{ℕ, _≤_, _<_};

@@ -2,9 +2,10 @@
 use crate::cookbook::Class;
 use kernel::accepted::Lane;
 use kernel::accepted::Op;
+use kernel::accepted::count;
 ghost use mathlib.Core.Path.{_≡_};
 ghost use mathlib.Core.Bool.{cond};
-ghost use Prim.Native.Nat.{ℕ, _<_, min};
+ghost use Prim.Native.Nat.{ℕ, _<_};
 ghost use Rattle.kernel.specs.Accepted.{isVolatile};
 ghost use Rattle.kernel.specs.Stored.{opsIn};
 ghost use Rattle.placement.specs.Chain.{at};
@@ -43,13 +44,6 @@ pub(crate) fn step_of(op: Op, mask: u16) -> Step
         Op::Unlock(_) => Step::Access(Class::VS),
         Op::Skip(_, t) => Step::Skip(t),
     }
-}
-
-// How many operations the lane has.
-pub fn count(len: usize) -> usize
-    ensures { λ r. ⌜ r ≡ min len 64 ⌝ }
-{
-    if len < 64 { len } else { 64 }
 }
 
 // The lane's steps in chain order, and Other behind them.

@@ -1,18 +1,14 @@
 -- The state record that a run leaves for C: 2,280 bytes, as docs/FORMATS.md lays them out.
-use Prim.Native.Nat.{ℕ, zero, suc, _/_, _^_}
+use Prim.Native.Nat.{ℕ, _/_, _^_}
 use mathlib.Core.Bool.{Bool, cond}
 use mathlib.Core.List.{List, [], _∷_, _++_}
 use mathlib.Core.Option.{Option, none, some}
 use lib.ListN.{length, getD, getElem?, replicate}
 use Rattle.sheet.specs.Bytes.{word, quad}
+use Rattle.sheet.specs.Put.{inTurn}
 use Rattle.machine.specs.Entries.{Entry, write, release}
 use Rattle.machine.specs.State.{Lane, State, laneAt}
 use Rattle.machine.specs.Run.{Answer}
-
--- f i, .., f (i + n - 1), one after the other
-abbrev pub tableFrom : (ℕ → List ℕ) → ℕ → ℕ → List ℕ
-tableFrom f i zero = []
-tableFrom f i (suc n) = f i ++ tableFrom f (suc i) n
 
 -- 64 bits
 abbrev pub double : ℕ → List ℕ
@@ -30,12 +26,12 @@ placeBytes (some e) = entryBytes e
 
 -- n places for entries, oldest first; zero from the last entry on
 unfoldable pub entriesBytes : ℕ → List Entry → List ℕ
-entriesBytes n es = tableFrom (λ i. placeBytes (getElem? es i)) 0 n
+entriesBytes n es = inTurn (λ i. placeBytes (getElem? es i)) n
 
 -- position, number of pending entries, registers, entries
 unfoldable pub stateLane : Lane → List ℕ
 stateLane l =
-    word (l .control .pos) ++ word (length (l .pending)) ++ tableFrom (λ i. quad (getD (l .regs) i 0)) 0 8
+    word (l .control .pos) ++ word (length (l .pending)) ++ inTurn (λ i. quad (getD (l .regs) i 0)) 8
     ++ entriesBytes 64 (l .pending)
 
 abbrev pub flag : Bool → ℕ
@@ -45,14 +41,14 @@ flag b = cond b 1 0
 unfoldable pub headBytes : Bool → ℕ → ℕ → List ℕ → List ℕ → List ℕ
 headBytes finished done waited memory locks =
     flag finished ∷ 0 ∷ 0 ∷ 0
-    ∷ tableFrom (λ i. getD locks i 0 ∷ []) 0 4
+    ∷ inTurn (λ i. getD locks i 0 ∷ []) 4
     ++ double done ++ double waited
-    ++ tableFrom (λ i. quad (getD memory i 0)) 0 16
+    ++ inTurn (λ i. quad (getD memory i 0)) 16
 
 -- what comes before the lanes, and the lanes; what the kernel does not have is zero
 unfoldable pub recordOf : Bool → ℕ → ℕ → State → List ℕ
 recordOf finished done waited s =
-    headBytes finished done waited (s .memory) (s .locks) ++ tableFrom (λ t. stateLane (laneAt s t)) 0 4
+    headBytes finished done waited (s .memory) (s .locks) ++ inTurn (λ t. stateLane (laneAt s t)) 4
 
 -- the record of a run that is answered
 abbrev pub stateBytes : Answer → List ℕ

@@ -2,7 +2,7 @@
 ghost use mathlib.Core.Path.{_≡_};
 ghost use mathlib.Core.Bool.{cond};
 ghost use mathlib.Core.Option.{none, some};
-ghost use Prim.Native.Nat.{_+_, _≤_, min};
+ghost use Prim.Native.Nat.{_+_, _≤_};
 ghost use lib.ListN.{length, take};
 ghost use Rattle.sheet.specs.Put.{Puts};
 ghost use Rattle.pending.specs.Lanes.{entryOf, entriesOf, laneIn};
@@ -10,6 +10,7 @@ ghost use Rattle.recording.specs.Record.{entryBytes, placeBytes, entries
 ghost use Rattle.recording.specs.Stored.{storedOf};
 use crate::put::put_table;
 use crate::put::put_words;
+use kernel::accepted::count;
 use rows::put::put_row;
 
 // A pending entry: kind 1 is a store, 2 the release of a lock.
@@ -51,12 +52,6 @@ fn write_entries(out: &mut [u8], at: usize, cells: [u8; 64], values: [u32; 64], 
         i += 1;
     }
     next
-}
-
-fn count(len: usize) -> usize
-    ensures { λ r. ⌜ r ≡ min len 64 ⌝ }
-{
-    if len < 64 { len } else { 64 }
 }
 
 // The 548 bytes of a lane.

@@ -1,11 +1,12 @@
 // Writing numbers one after the other, little-endian. Each function answers with the position behind what it wrote.
 ghost use mathlib.Core.Path.{_≡_};
 ghost use mathlib.Core.List.{[], _∷_, _++_};
-ghost use Prim.Native.Nat.{_+_, _*_, _%_, _≤_};
+ghost use Prim.Native.Nat.{_+_, _*_, _≤_};
 ghost use lib.ListN.{length, getD};
 ghost use Rattle.sheet.specs.Bytes.{word, quad};
-ghost use Rattle.sheet.specs.Put.{Puts};
-ghost use Rattle.recording.specs.Record.{double, tableFrom};
+ghost use Rattle.sheet.specs.Put.{Puts, inTurn};
+ghost use Rattle.recording.specs.Record.{double};
+use rows::number::low;
 
 pub(crate) fn put_four(out: &mut [u8], at: usize, a: u8, b: u8, c: u8, d: u8) -> usize
     requires { ⌜ at + 4 ≤ length (now out) ⌝ }
@@ -16,12 +17,6 @@ pub(crate) fn put_four(out: &mut [u8], at: usize, a: u8, b: u8, c: u8, d: u8) ->
     out[at + 2] = c;
     out[at + 3] = d;
     at + 4
-}
-
-fn low(n: usize) -> u8
-    ensures { λ r. ⌜ r ≡ n % 256 ⌝ }
-{
-    (n % 256) as u8
 }
 
 // Two numbers of 16 bits.
@@ -66,7 +61,7 @@ pub(crate) fn word_at(words: &[u32], i: usize) -> usize
 pub(crate) fn put_table(out: &mut [u8], at: usize, words: &[u32], n: usize) -> usize
     requires { ⌜ at + 4 * n ≤ length (now out) ⌝ }
     ensures { λ r. ⌜ Puts (now (out .entry)) at
-        (tableFrom (λ i. quad (getD (now (words .entry)) i 0)) 0 n) (now (out .exit)) r ⌝ }
+        (inTurn (λ i. quad (getD (now (words .entry)) i 0)) n) (now (out .exit)) r ⌝ }
 {
     let mut next = at;
     let mut i = 0;

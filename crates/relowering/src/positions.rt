@@ -1,12 +1,12 @@
 // Which rows of a level 1 lane stay at level 2, and where they come to stand.
 ghost use mathlib.Core.Path.{_≡_};
-ghost use mathlib.Core.Bool.{cond};
 ghost use Prim.Native.Nat.{_*_, _≤_};
 ghost use lib.ListN.{length};
 ghost use Rattle.sheet.specs.Levels.{level2};
 ghost use Rattle.sheet.specs.Read.{readRows};
 ghost use Rattle.sheet.specs.Relower.{relower};
 ghost use Rattle.relowering.specs.Rows.{staysBy, PositionsTo};
+use rows::number::one;
 
 // The position of each row among those that stay, and behind the last row how many stay.
 pub struct Positions {
@@ -23,12 +23,6 @@ pub(crate) fn stays(code: u8) -> bool
         13 => false,
         _ => true,
     }
-}
-
-fn one(b: bool) -> u32
-    ensures { λ r. ⌜ (r ≡ cond b 1 0) × (r ≤ 1) ⌝ }
-{
-    if b { 1 } else { 0 }
 }
 
 pub(crate) fn positions_of(rows: &[u8], n: usize) -> Positions

@@ -1,11 +1,12 @@
 // Writing eight bytes of a sheet: a half of its header, or an instruction. Where they do not fit, nothing is written.
 ghost use mathlib.Core.Path.{_≡_};
 ghost use mathlib.Core.List.{[], _∷_, _++_};
-ghost use Prim.Native.Nat.{_+_, _%_};
+ghost use Prim.Native.Nat.{_+_};
 ghost use lib.Dec.{leb};
 ghost use Rattle.sheet.specs.Layout.{aim};
 ghost use Rattle.sheet.specs.Bytes.{word, row, opBytes};
 ghost use Rattle.sheet.specs.Put.{laid};
+use crate::number::low;
 use kernel::accepted::Op;
 
 fn fits(len: usize, at: usize) -> bool
@@ -28,12 +29,6 @@ fn put_eight(out: &mut [u8], at: usize, a: u8, b: u8, c: u8, d: u8, e: u8, f: u8
         out[at + 6] = g;
         out[at + 7] = h;
     }
-}
-
-fn low(n: usize) -> u8
-    ensures { λ r. ⌜ r ≡ n % 256 ⌝ }
-{
-    (n % 256) as u8
 }
 
 // The first half of the header: T, L, K, level, mask, two zero bytes.

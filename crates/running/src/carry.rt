@@ -1,7 +1,6 @@
 // The instruction of a sheet row, carried out by a lane of the state that is borrowed as rows.
 ghost use mathlib.Core.Path.{_≡_};
-ghost use Rattle.sheet.specs.Read.{instrBy};
-ghost use Rattle.running.specs.Codes.{barrierBy};
+ghost use Rattle.sheet.specs.Read.{barrierBy, instrBy};
 ghost use Rattle.pending.specs.Lanes.{flags};
 ghost use Rattle.moving.specs.Ready.{Ready};
 ghost use Rattle.moving.specs.States.{rowsOf, heldIn, Carried};

@@ -1,6 +1,7 @@
 -- Small laws by subject.
 pub mod Cells
 pub mod Rows
+pub mod Codes
 pub mod Written
 pub mod Put
 pub mod Part

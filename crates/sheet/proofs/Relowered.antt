@@ -102,7 +102,7 @@ module _ (l : Level) where
       go true = omega arith
       go false = refl
 
-  position-zero : (is : List Instr) → newPosition l is 0 ≡ 0
+  pub position-zero : (is : List Instr) → newPosition l is 0 ≡ 0
   position-zero [] = refl
   position-zero (i ∷ is) = refl
 

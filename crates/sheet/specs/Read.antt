@@ -6,10 +6,15 @@ use lib.Dec.{eqb}
 use lib.ListN.{getD, take, drop}
 use Rattle.kernel.specs.declared.accepted.Op.the-variants.{Set, Add, Load, Store, Lock, Unlock, Skip}
 use Rattle.kernel.specs.Fields.{word, quad}
+use Rattle.placement.specs.declared.cookbook.Barrier.{Barrier}
 use Rattle.placement.specs.declared.cookbook.Barrier.the-variants.{LL, LS, SS, SL}
 use Rattle.sheet.specs.Layout.{Instr, op, barrier}
 
--- The instruction of a code, with its fields. 14 at level 1 and 15 at level 2 are both SL.
+-- the barrier of a code that is no operation's; 14 at level 1 and 15 at level 2 are both SL
+abbrev pub barrierBy : ℕ → Barrier
+barrierBy o = cond (eqb o 11) LL (cond (eqb o 12) LS (cond (eqb o 13) SS SL))
+
+-- the instruction of a code, with its fields
 abbrev pub instrBy : ℕ → ℕ → ℕ → ℕ → Instr
 instrBy o a b c =
     cond (eqb o 1) (op (Set a c))
@@ -19,10 +24,7 @@ instrBy o a b c =
     (cond (eqb o 5) (op (Lock b))
     (cond (eqb o 6) (op (Unlock b))
     (cond (eqb o 7) (op (Skip a c))
-    (cond (eqb o 11) (barrier LL)
-    (cond (eqb o 12) (barrier LS)
-    (cond (eqb o 13) (barrier SS)
-    (barrier SL))))))))))
+    (barrier (barrierBy o))))))))
 
 abbrev pub readInstr : List ℕ → Instr
 readInstr b = instrBy (getD b 0 0) (getD b 1 0) (getD b 2 0) (quad b 4)

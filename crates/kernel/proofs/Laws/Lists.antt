@@ -1,5 +1,5 @@
 -- Laws of lists that the kit does not have.
-use Prim.Native.Nat.{ℕ, zero, suc, _+_, _-_, _<_}
+use Prim.Native.Nat.{ℕ, zero, suc, _+_, _-_, _<_, _≤_}
 use mathlib.Core.Path.{_≡_, refl, sym}
 use mathlib.Core.List.{List, [], _∷_, map}
 use mathlib.Core.Option.{none, some}
@@ -23,9 +23,13 @@ at-some [] p d h = absurd (omega arith)
 at-some (x ∷ l) zero d h = refl
 at-some (x ∷ l) (suc p) d h = at-some l p d (omega arith)
 
+pub at-beyond : {A : Type 0} (l : List A) (p : ℕ) → length l ≤ p → getElem? l p ≡ none
+at-beyond [] p h = refl
+at-beyond (x ∷ l) zero h = absurd (omega arith)
+at-beyond (x ∷ l) (suc p) h = at-beyond l p (omega arith)
+
 pub at-past : {A : Type 0} (l : List A) → getElem? l (length l) ≡ none
-at-past [] = refl
-at-past (x ∷ l) = at-past l
+at-past l = at-beyond l (length l) (omega arith)
 
 -- an element under a map, whatever stands past the ends
 pub map-at : {A B : Type 0} (f : A → B) (l : List A) (t : ℕ) (a : A) (b : B) → t < length l

@@ -1,39 +1,31 @@
 -- Laws of lines: the text of an instruction by its code, and how long it is at most.
 use Prim.Native.Nat.{ℕ, suc, _+_, _^_, _≤_, _<_}
-use mathlib.Core.Path.{_≡_, sym, ap, _∙_}
+use mathlib.Core.Path.{_≡_, refl, sym, ap, _∙_}
 use mathlib.Core.Bool.{Bool, true, false, cond}
 use mathlib.Core.List.{List, [], _∷_, _++_}
 use native.Mathlib.Omega.{arith}
 use lib.Dec.{eqb}
 use lib.ListN.{length, length-append}
 use borrow.Author.Tests.{ne-eqb}
-use Rattle.placement.specs.declared.cookbook.Barrier.the-variants.{SL}
+use Rattle.placement.specs.declared.cookbook.Barrier.{Barrier}
+use Rattle.placement.specs.declared.cookbook.Barrier.the-variants.{LL, LS, SS, SL}
 use Rattle.sheet.specs.Layout.{Instr, barrier}
-use Rattle.sheet.specs.Read.{instrBy}
+use Rattle.sheet.specs.Read.{barrierBy, instrBy}
+use Rattle.sheet.proofs.Laws.Codes.{by-code, other-code}
 use Rattle.listing.specs.Decimal.{decimal}
 use Rattle.listing.specs.Line.{pair, instrText, lineOf, firstLine}
 use Rattle.listing.proofs.Laws.Decimal.{decimal-few}
 
 -- the text by a code that is known
 pub code-text : (k : ℕ) {o : ℕ} (a b c : ℕ) → o ≡ k → instrText (instrBy k a b c) ≡ instrText (instrBy o a b c)
-code-text k a b c e = ap (λ x. instrText (instrBy x a b c)) (sym e)
+code-text k a b c e = ap instrText (by-code k a b c e)
 
 -- every other code
 pub other-text : (o a b c : ℕ) → (o ≡ 1 → ⊥) → (o ≡ 2 → ⊥) → (o ≡ 3 → ⊥) → (o ≡ 4 → ⊥) → (o ≡ 5 → ⊥) → (o ≡ 6 → ⊥)
     → (o ≡ 7 → ⊥) → (o ≡ 11 → ⊥) → (o ≡ 12 → ⊥) → (o ≡ 13 → ⊥) → instrText (barrier SL) ≡ instrText (instrBy o a b c)
 other-text o a b c n1 n2 n3 n4 n5 n6 n7 n11 n12 n13 =
-    rw (
-      ne-eqb o 1 n1,
-      ne-eqb o 2 n2,
-      ne-eqb o 3 n3,
-      ne-eqb o 4 n4,
-      ne-eqb o 5 n5,
-      ne-eqb o 6 n6,
-      ne-eqb o 7 n7,
-      ne-eqb o 11 n11,
-      ne-eqb o 12 n12,
-      ne-eqb o 13 n13,
-    )
+    let fence : barrierBy o ≡ SL = rw (ne-eqb o 11 n11, ne-eqb o 12 n12, ne-eqb o 13 n13) refl in
+    ap (λ x. instrText (barrier x)) (sym fence) ∙ ap instrText (other-code o a b c n1 n2 n3 n4 n5 n6 n7)
 
 pub pair-few : (a b : ℕ) → a < 2 ^ 32 → b < 2 ^ 32 → length (pair a b) ≤ 21
 pair-few a b ha hb =
@@ -45,6 +37,13 @@ Few i = length (instrText i) ≤ 28
 either : (t : Bool) (x y : Instr) → Few x → Few y → Few (cond t x y)
 either true x y p q = p
 either false x y p q = q
+
+name-few : (b : Barrier) → Few (barrier b)
+unfolding instrText
+name-few LL = omega arith
+name-few LS = omega arith
+name-few SS = omega arith
+name-few SL = omega arith
 
 pub instr-few : (o a b c : ℕ) → a < 2 ^ 32 → b < 2 ^ 32 → c < 2 ^ 32 → length (instrText (instrBy o a b c)) ≤ 28
 unfolding instrText
@@ -58,10 +57,7 @@ instr-few o a b c ha hb hc =
     (either (eqb o 4) _ _ (omega arith)
     (either (eqb o 5) _ _ (omega arith)
     (either (eqb o 6) _ _ (omega arith)
-    (either (eqb o 7) _ _ (omega arith)
-    (either (eqb o 11) _ _ (omega arith)
-    (either (eqb o 12) _ _ (omega arith)
-    (either (eqb o 13) _ _ (omega arith) (omega arith))))))))))
+    (either (eqb o 7) _ _ (omega arith) (name-few (barrierBy o))))))))
 
 -- a line of operands of 32 bits
 pub line-few : (lane p o a b c : ℕ) → lane < 2 ^ 32 → p < 2 ^ 32 → a < 2 ^ 32 → b < 2 ^ 32 → c < 2 ^ 32

@@ -10,6 +10,8 @@ use lib.ListN.{length, getD, take, drop, length-take}
 use lib.Seq.{drop-drop, take-suc, getD-take}
 use Rattle.kernel.specs.Fields.{word}
 use Rattle.sheet.specs.Read.{readInstr, readRows, pastRows, readLanes, counts}
+use Rattle.rows.proofs.Laws.Parts.{past, four-at}
+use Rattle.rows.proofs.Laws.Read.{rows-on}
 use Rattle.listing.specs.Line.{lineOf}
 use Rattle.listing.specs.Listing.{ones, laneLines, sheetLines}
 
@@ -42,12 +44,6 @@ lane-next lane n from row s e =
     ∙ lane-on lane 0 n (drop from s)
     ∙ ap (λ k. laneLines lane 0 (readRows k (drop from s))) (sym one)
 
-past : (n : ℕ) (b : List ℕ) → pastRows n b ≡ drop (8 * n) b
-past zero b = refl
-past (suc n) b =
-    let row : 8 + 8 * n ≡ 8 * suc n = omega arith in
-    past n (drop 8 b) ∙ drop-drop (8 * n) 8 b ∙ ap (λ k. drop k b) row
-
 -- how many instructions stand in these lanes
 abbrev pub total : List ℕ → ℕ
 total [] = 0
@@ -74,14 +70,6 @@ lanes-on q (m ∷ ns) n b =
     append-assoc first middle (laneLines (q + suc (length ns)) 0 (readRows n (drop (8 * (m + total ns)) b)))
     ∙ ap₂ (λ p x. first ++ (middle ++ laneLines p 0 (readRows n x))) here same
     ∙ ap (λ (x : List ℕ). first ++ x) rest
-
-four-at : (b : List ℕ) (t : ℕ) → t < 4
-    → getD (word b 8 ∷ word b 10 ∷ word b 12 ∷ word b 14 ∷ []) t 0 ≡ word b (8 + 2 * t)
-four-at b zero h = refl
-four-at b (suc zero) h = refl
-four-at b (suc (suc zero)) h = refl
-four-at b (suc (suc (suc zero))) h = refl
-four-at b (suc (suc (suc (suc t)))) h = absurd (omega arith)
 
 pub counts-size : (b : List ℕ) → length (counts b) ≡ min (getD b 0 0) 4
 counts-size b = length-take (getD b 0 0) (word b 8 ∷ word b 10 ∷ word b 12 ∷ word b 14 ∷ [])

@@ -6,7 +6,7 @@ use mathlib.Core.List.{List, [], _∷_}
 use mathlib.Core.Option.{Option, none}
 use native.Mathlib.Omega.{arith}
 use lib.ListN.{length, getD, getElem?, take}
-use Rattle.kernel.proofs.Laws.Lists.{at-some}
+use Rattle.kernel.proofs.Laws.Lists.{at-some, at-beyond}
 use Rattle.machine.specs.Entries.{Entry, without}
 use Rattle.machine.specs.Rules.{mayCommit}
 use Rattle.machine.specs.Step.{Core, Turn, landed, freed, commit}
@@ -19,11 +19,6 @@ use Rattle.pending.specs.Machines.{machineIn}
 use Rattle.moving.specs.States.{Rows, Sized, rowAt, Became, Held, storeOf, commits, Took}
 use Rattle.pending.proofs.Laws.Rules.{pending-at}
 use Rattle.moving.proofs.Laws.Turns.{took-wait, took-does, left-locks, left-memory}
-
-beyond : {A : Type 0} (l : List A) (i : ℕ) → length l ≤ i → getElem? l i ≡ none
-beyond [] i h = refl
-beyond (x ∷ l) zero h = absurd (omega arith)
-beyond (x ∷ l) (suc i) h = beyond l i (omega arith)
 
 module _ (m : Coded) (f : ℕ → Bool) (s : Held) (t i : ℕ) (l : Stored) (taken : l ≡ rowAt (s .rows) t) where
   abbrev core : Stored → Core
@@ -43,7 +38,7 @@ module _ (m : Coded) (f : ℕ → Bool) (s : Held) (t i : ℕ) (l : Stored) (tak
       (subst (λ x. Took s t (turnOn l x) q z) (sym h) k)
 
   pub commit-past : length entries ≤ i → Sized (s .rows) → Took s t (commits m f s t i) Waited s
-  commit-past h k = from (beyond entries i h) (took-wait s t k)
+  commit-past h k = from (at-beyond entries i h) (took-wait s t k)
 
   pub commit-waits : i < length entries → mayCommit (machineIn m) f (take i entries) (getD entries i noEntry) ≡ false
       → Sized (s .rows) → Took s t (commits m f s t i) Waited s

@@ -6,7 +6,9 @@ use mathlib.Core.List.{List, [], _∷_}
 use native.Mathlib.Omega.{arith}
 use native.Mathlib.Decide.{decLe}
 use lib.ListN.{length, getD, getElem?}
-use Rattle.sheet.specs.Layout.{Instr}
+use Rattle.kernel.proofs.Laws.Lists.{at-some, at-beyond}
+use Rattle.placement.specs.declared.cookbook.Barrier.the-variants.{SL}
+use Rattle.sheet.specs.Layout.{Instr, barrier}
 use Rattle.machine.specs.State.{Lane}
 use Rattle.machine.specs.View.{every, isNone, endedAt, finished}
 use Rattle.moving.specs.States.{Held, stateIn}
@@ -28,14 +30,10 @@ every-false (suc n) f t h e = go (λ l. every-false n f t l e) (decLe (suc t) n)
         ap (λ b. every n f && b) (sym (ap f last) ∙ e) ∙ and-false (every n f)
 
 at-end : (l : List Instr) (p : ℕ) → length l ≤ p → isNone (getElem? l p) ≡ true
-at-end [] p h = refl
-at-end (x ∷ l) zero h = absurd (omega arith)
-at-end (x ∷ l) (suc p) h = at-end l p (omega arith)
+at-end l p h = ap isNone (at-beyond l p h)
 
 not-at-end : (l : List Instr) (p : ℕ) → p < length l → isNone (getElem? l p) ≡ false
-not-at-end [] p h = absurd (omega arith)
-not-at-end (x ∷ l) zero h = refl
-not-at-end (x ∷ l) (suc p) h = not-at-end l p (omega arith)
+not-at-end l p h = ap isNone (at-some l p (barrier SL) h)
 
 -- one lane more
 pub one-more : (at count : List ℕ) (t : ℕ) → ((i : ℕ) → i < t → getD count i 0 ≤ getD at i 0)

@@ -10,7 +10,7 @@ use lib.Dec.{ltb}
 use lib.ListN.{length, getD, getElem?, take, length-take}
 use lib.Seq.{getD-take}
 use borrow.Author.Tests.{lt-ltb, le-ltb}
-use Rattle.kernel.proofs.Laws.Lists.{at-some}
+use Rattle.kernel.proofs.Laws.Lists.{at-some, at-beyond}
 use Rattle.sheet.specs.Bytes.{row}
 use Rattle.machine.specs.Entries.{Entry, write, release}
 use Rattle.pending.specs.Lanes.{noEntry, entryOf, entriesOf}
@@ -34,11 +34,6 @@ place-is cs vs n i full whole h = go (decLe (suc i) n)
     size : length es ≡ 64
     size = entries-length 64 cs vs full whole
 
-    past : (l : List Entry) (k : ℕ) → length l ≤ k → getElem? l k ≡ none
-    past [] k e = refl
-    past (x ∷ l) zero e = absurd (omega arith)
-    past (x ∷ l) (suc k) e = past l k (omega arith)
-
     go : Dec (i < n) → cond (ltb i n) (some (entryOf (getD cs i 0) (getD vs i 0))) none ≡ getElem? (take n es) i
     go (yes l) =
         let inside : i < length (take n es) = omega (arith, length-take n es, size) in
@@ -46,4 +41,4 @@ place-is cs vs n i full whole h = go (decLe (suc i) n)
         (getD-take n es i noEntry l ∙ entries-at cs vs i noEntry (omega (arith, size)))))
     go (no l) =
         let free : n ≤ i = omega arith in
-        rw (le-ltb i n free) (sym (past (take n es) i (omega (arith, length-take n es))))
+        rw (le-ltb i n free) (sym (at-beyond (take n es) i (omega (arith, length-take n es))))

@@ -6,20 +6,20 @@ use mathlib.Core.List.{List, [], _∷_}
 use native.Mathlib.Omega.{arith}
 use lib.ListN.{length, getD, replicate, length-take, List·getD-eq-default}
 use Rattle.sheet.specs.Bytes.{over}
-use Rattle.sheet.specs.Put.{Puts}
+use Rattle.sheet.specs.Put.{Puts, inTurn}
+use Rattle.sheet.proofs.Laws.Turn.{turn-end}
 use Rattle.sheet.proofs.Laws.Put.{puts-on, puts-length, puts-front}
 use Rattle.machine.specs.State.{State, idle, laneAt}
 use Rattle.pending.specs.Lanes.{laneIn}
 use Rattle.moving.specs.States.{Rows, laneOf, lanesIn}
 use Rattle.moving.proofs.Laws.States.{lane-in}
-use Rattle.recording.specs.Record.{tableFrom, entriesBytes, stateLane, headBytes, recordOf}
+use Rattle.recording.specs.Record.{entriesBytes, stateLane, headBytes, recordOf}
 use Rattle.recording.specs.Stored.{storedOf}
 use Rattle.recording.proofs.Sizes.{lane-length, head-length, record-length}
-use Rattle.recording.proofs.Laws.Put.{table-end}
 
 -- a lane of zeros is written as the idle one
 zeros : stateLane (laneIn (storedOf 0 (replicate 8 0) (replicate 64 0) (replicate 64 0) 0)) ≡ stateLane idle
-unfolding stateLane entriesBytes
+unfolding stateLane entriesBytes inTurn
 zeros = refl
 
 module _ (n : ℕ) (r : Rows) (t : ℕ) where
@@ -39,15 +39,15 @@ module _ (n : ℕ) (r : Rows) (t : ℕ) where
 
 -- where lane t of four begins, behind the head
 pub lane-room : (f : Bool) (d w : ℕ) (s : State) (t : ℕ) {l m n : List ℕ} {i j : ℕ} → t < 4 → 2280 ≤ length l
-    → Puts l 0 (headBytes f d w (s .memory) (s .locks)) m i → Puts m i (tableFrom (λ k. stateLane (laneAt s k)) 0 t) n j
+    → Puts l 0 (headBytes f d w (s .memory) (s .locks)) m i → Puts m i (inTurn (λ k. stateLane (laneAt s k)) t) n j
     → j + 548 ≤ length n
 lane-room f d w s t h room p q =
-    let end = table-end (λ k. stateLane (laneAt s k)) 548 t (λ k. lane-length (laneAt s k)) q in
+    let end = turn-end (λ k. stateLane (laneAt s k)) 548 t (λ k. lane-length (laneAt s k)) q in
     omega (arith, end, p .behind, head-length f d w (s .memory) (s .locks), puts-length p, puts-length q)
 
 -- head and four lanes are the record
 pub record-put : (f : Bool) (d w : ℕ) (s : State) {l m n : List ℕ} {i j : ℕ} → 2280 ≤ length l
-    → Puts l 0 (headBytes f d w (s .memory) (s .locks)) m i → Puts m i (tableFrom (λ k. stateLane (laneAt s k)) 0 4) n j
+    → Puts l 0 (headBytes f d w (s .memory) (s .locks)) m i → Puts m i (inTurn (λ k. stateLane (laneAt s k)) 4) n j
     → n ≡ over (recordOf f d w s) l
 unfolding recordOf
 record-put f d w s {l} {m} {n} {i} {j} room p q =

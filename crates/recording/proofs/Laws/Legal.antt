@@ -1,24 +1,20 @@
 -- Laws of legal schedules that are read from bytes: one move, and none left.
 use Prim.Native.Nat.{ℕ, suc, _+_, _≤_, _<_}
-use mathlib.Core.Path.{_≡_, refl}
+use mathlib.Core.Path.{_≡_, refl, ap}
 use mathlib.Core.Bool.{true, _&&_}
 use mathlib.Core.List.{List, [], _∷_}
 use native.Mathlib.Omega.{arith}
 use lib.Dec.{ltb, leb}
 use lib.ListN.{length, getD, drop, length-drop}
-use lib.Seq.{drop-cons}
 use Rattle.machine.specs.Schedule.{legal}
 use Rattle.machine.specs.Moves.{movesIn}
+use Rattle.machine.proofs.Laws.Moves.{moves-on}
 
 module _ (n limit : ℕ) (s : List ℕ) (i : ℕ) where
   pub legal-on : i + 1 < length s
       → legal n limit (movesIn (drop i s))
       ≡ (ltb (getD s i 0) n && leb (getD s (i + 1) 0) limit && legal n limit (movesIn (drop (i + 2) s)))
-  unfolding movesIn
-  legal-on h =
-      let one : i + 1 ≡ suc i = omega arith in
-      let two : i + 2 ≡ suc (suc i) = omega arith in
-      rw (one, two, drop-cons s i 0 (omega arith), drop-cons s (suc i) 0 (omega arith))
+  legal-on h = ap (legal n limit) (moves-on s i h)
 
   pub legal-end : length s ≤ i + 1 → legal n limit (movesIn (drop i s)) ≡ true
   unfolding movesIn

@@ -15,7 +15,8 @@ use Rattle.sheet.specs.Layout.{Instr, barrier}
 use Rattle.sheet.specs.Levels.{level2}
 use Rattle.sheet.specs.Bytes.{instrBytes, laneBytes}
 use Rattle.sheet.specs.Put.{Puts}
-use Rattle.sheet.specs.Read.{instrBy, readInstr, readRows}
+use Rattle.sheet.specs.Read.{barrierBy, instrBy, readInstr, readRows}
+use Rattle.sheet.proofs.Laws.Codes.{other-code}
 use Rattle.sheet.specs.Relower.{newPosition, aimed, relowerBy}
 use Rattle.sheet.proofs.Laws.Put.{puts-on, puts-as}
 use Rattle.sheet.proofs.Laws.Rows.{lane-bytes, bytes-append}
@@ -33,18 +34,8 @@ pub other-kept : (o a b c : ℕ) → (o ≡ 1 → ⊥) → (o ≡ 2 → ⊥) →
     → (o ≡ 7 → ⊥) → staysBy o ≡ true → instrBy o a b c ≡ barrier SL
 other-kept o a b c n1 n2 n3 n4 n5 n6 n7 h =
     let d = not-dropped o h in
-    rw (
-      ne-eqb o 1 n1,
-      ne-eqb o 2 n2,
-      ne-eqb o 3 n3,
-      ne-eqb o 4 n4,
-      ne-eqb o 5 n5,
-      ne-eqb o 6 n6,
-      ne-eqb o 7 n7,
-      d .0,
-      d .1,
-      d .2,
-    ) refl
+    let fence : barrierBy o ≡ SL = rw (d .0, d .1, d .2) refl in
+    sym (other-code o a b c n1 n2 n3 n4 n5 n6 n7) ∙ ap barrier fence
 
 module _ (r : ℕ → ℕ) (s : List ℕ) where
   abbrev fields : Row → Instr

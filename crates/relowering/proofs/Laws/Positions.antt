@@ -13,7 +13,7 @@ use Rattle.kernel.specs.Fields.{byte, quad}
 use Rattle.placement.specs.declared.cookbook.Barrier.the-variants.{LL, LS, SS, SL}
 use Rattle.sheet.specs.Layout.{Instr, op, barrier}
 use Rattle.sheet.specs.Levels.{level2}
-use Rattle.sheet.specs.Read.{instrBy, readInstr, readRows}
+use Rattle.sheet.specs.Read.{barrierBy, instrBy, readInstr, readRows}
 use Rattle.sheet.specs.Relower.{stays, newPosition, aimed, relowerBy}
 use Rattle.rows.proofs.Laws.Read.{shifted, rows-length, rows-on, rows-take}
 use Rattle.relowering.specs.Rows.{staysBy}
@@ -28,20 +28,29 @@ stays-alone (barrier SL) is js = refl
 
 -- it is told by the code
 module _ (o : ℕ) where
-  by-code : (k : ℕ) (x y : Instr) → stays level2 x [] ≡ staysBy k
-      → (eqb o k ≡ false → stays level2 y [] ≡ staysBy o) → stays level2 (cond (eqb o k) x y) [] ≡ staysBy o
-  by-code k x y here next = go (eqb o k) refl
+  by : (k : ℕ) (x y : Instr) → stays level2 x [] ≡ staysBy k → stays level2 y [] ≡ staysBy o
+      → stays level2 (cond (eqb o k) x y) [] ≡ staysBy o
+  by k x y here next = go (eqb o k) refl
     where
       go : (b : Bool) → eqb o k ≡ b → stays level2 (cond b x y) [] ≡ staysBy o
       go true e = here ∙ ap staysBy (sym (eqb-true o k e))
-      go false e = next e
+      go false e = next
+
+  barrier-stays : stays level2 (barrier (barrierBy o)) [] ≡ staysBy o
+  barrier-stays = go (eqb o 11) (eqb o 12) (eqb o 13)
+    where
+      go : (x y z : Bool)
+          → stays level2 (barrier (cond x LL (cond y LS (cond z SS SL)))) []
+          ≡ cond x false (cond y false (cond z false true))
+      go true y z = refl
+      go false true z = refl
+      go false false true = refl
+      go false false false = refl
 
   pub stays-code : (a b c : ℕ) → stays level2 (instrBy o a b c) [] ≡ staysBy o
   stays-code a b c =
-      by-code 1 _ _ refl (λ n1. by-code 2 _ _ refl (λ n2. by-code 3 _ _ refl (λ n3. by-code 4 _ _ refl (λ n4.
-      by-code 5 _ _ refl (λ n5. by-code 6 _ _ refl (λ n6. by-code 7 _ _ refl (λ n7.
-      by-code 11 _ _ refl (λ n11. by-code 12 _ _ refl (λ n12. by-code 13 _ _ refl (λ n13.
-      rw (n11, n12, n13) refl))))))))))
+      by 1 _ _ refl (by 2 _ _ refl (by 3 _ _ refl (by 4 _ _ refl (by 5 _ _ refl (by 6 _ _ refl (by 7 _ _ refl
+      barrier-stays))))))
 
 -- a SKIP is aimed by the position of its own target alone
 module _ (r : ℕ → ℕ) (c : ℕ) where
@@ -55,8 +64,7 @@ module _ (r : ℕ → ℕ) (c : ℕ) where
   pub aimed-word : (o a b : ℕ) → Same (instrBy o a b c)
   aimed-word o a b =
       either (eqb o 1) _ _ refl (either (eqb o 2) _ _ refl (either (eqb o 3) _ _ refl (either (eqb o 4) _ _ refl
-      (either (eqb o 5) _ _ refl (either (eqb o 6) _ _ refl (either (eqb o 7) _ _ refl (either (eqb o 11) _ _ refl
-      (either (eqb o 12) _ _ refl (either (eqb o 13) _ _ refl refl)))))))))
+      (either (eqb o 5) _ _ refl (either (eqb o 6) _ _ refl (either (eqb o 7) _ _ refl refl))))))
 
 module _ (r : ℕ → ℕ) where
   relower-on : (is : List Instr) (i : Instr)
@@ -132,10 +140,6 @@ module _ (r : ℕ → ℕ) where
             → length (keptTo (suc q)) ≤ suc q
         go true e h = omega (arith, e)
         go false e h = omega (arith, e)
-
-pub position-zero : (is : List Instr) → newPosition level2 is 0 ≡ 0
-position-zero [] = refl
-position-zero (i ∷ is) = refl
 
 -- the position of row q, n being the rows
 module _ (n : ℕ) (s : List ℕ) (q : ℕ) where

@@ -9,7 +9,7 @@ use Rattle.kernel.specs.Fields.{word}
 use Rattle.sheet.specs.Read.{readRows, pastRows, readLanes, counts, readSheet}
 use Rattle.rows.specs.Rows.{countAt, partsIn}
 
-four-at : (s : List ℕ) (t : ℕ) → t < 4
+pub four-at : (s : List ℕ) (t : ℕ) → t < 4
     → getD (word s 8 ∷ word s 10 ∷ word s 12 ∷ word s 14 ∷ []) t 0 ≡ word s (8 + 2 * t)
 four-at s zero h = refl
 four-at s (suc zero) h = refl

@@ -10,12 +10,6 @@ use Rattle.sheet.specs.Read.{readInstr, readRows}
 use Rattle.rows.specs.declared.read.Row.{Row}
 use Rattle.rows.specs.Rows.{rowIn}
 
-pub drop-past : (s : List ℕ) (i : ℕ) → length s ≤ i → drop i s ≡ []
-drop-past [] zero h = refl
-drop-past [] (suc i) h = refl
-drop-past (x ∷ s) zero h = absurd (omega arith)
-drop-past (x ∷ s) (suc i) h = drop-past s i (omega arith)
-
 past : (s : List ℕ) (i : ℕ) → length s ≤ i → getD s i 0 ≡ 0
 past s i h = List·getD-eq-default s 0 h
 

@@ -7,6 +7,8 @@ use mathlib.Core.Option.{Option, none, some}
 use native.Mathlib.Omega.{arith}
 use lib.ListN.{getD, getElem?, drop}
 use lib.Seq.{drop-drop}
+use Rattle.kernel.proofs.Laws.Lists.{at-beyond}
+use Rattle.rows.proofs.Laws.Read.{rows-length}
 use Rattle.sheet.specs.Layout.{Instr}
 use Rattle.sheet.specs.Read.{readInstr, readRows}
 use Rattle.pending.specs.declared.rules.Machine.{Machine as Coded}
@@ -26,9 +28,7 @@ row-of (suc n) b (suc p) h =
     ∙ ap (λ x. some (readInstr x)) (drop-drop (8 * p) 8 b ∙ ap (λ k. drop k b) on)
 
 pub row-past : (n : ℕ) (b : List ℕ) (p : ℕ) → n ≤ p → getElem? (readRows n b) p ≡ none
-row-past zero b p h = refl
-row-past (suc n) b zero h = absurd (omega arith)
-row-past (suc n) b (suc p) h = row-past n (drop 8 b) p (omega arith)
+row-past n b p h = at-beyond (readRows n b) p (omega (arith, rows-length n b))
 
 -- the row that begins at a byte
 pub row-from : (n first : ℕ) (s : List ℕ) (p : ℕ) → p < n

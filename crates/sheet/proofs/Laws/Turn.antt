@@ -1,7 +1,8 @@
 -- Laws of texts put one behind the other.
-use Prim.Native.Nat.{ℕ, zero, suc, _+_, _≤_, _<_}
+use Prim.Native.Nat.{ℕ, zero, suc, _+_, _*_, _≤_, _<_}
 use mathlib.Core.Path.{_≡_, refl, sym, ap, ap₂, _∙_}
 use mathlib.Core.List.{List, [], _∷_, _++_, map, append-assoc, append-nil}
+use native.Mathlib.Nat.{suc-mul}
 use native.Mathlib.Omega.{arith}
 use native.Mathlib.Decide.{decLe}
 use lib.ListN.{length, getD, length-append}
@@ -73,6 +74,17 @@ module _ (f : ℕ → List ℕ) where
   pub turn-four : length (inTurn f 4) ≡ length (f 0) + (length (f 1) + (length (f 2) + length (f 3)))
   unfolding inTurn
   turn-four = omega (arith, turn-length 0, turn-length 1, turn-length 2, turn-length 3)
+
+  -- texts of m bytes each, and where they end
+  pub turn-even : (m n : ℕ) → ((t : ℕ) → length (f t) ≡ m) → length (inTurn f n) ≡ n * m
+  unfolding inTurn
+  turn-even m zero each = omega arith
+  turn-even m (suc n) each =
+      omega (arith, length-append (inTurn f n) (f n), each n, turn-even m n each, suc-mul n m)
+
+  pub turn-end : (m n : ℕ) → ((t : ℕ) → length (f t) ≡ m) → {buffer out : List ℕ} {i j : ℕ}
+      → Puts buffer i (inTurn f n) out j → j ≡ i + n * m
+  turn-end m n each {i = i} p = p .behind ∙ ap (λ x. i + x) (turn-even m n each)
 
   -- there is room for one of n texts where there is for all
   pub turn-room : (n t : ℕ) → t < n → length (inTurn f t) + length (f t) ≤ length (inTurn f n)

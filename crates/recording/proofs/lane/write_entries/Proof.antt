@@ -5,26 +5,26 @@ use native.Mathlib.Omega.{arith}
 use mir.Syntax.{w8, w32}
 use borrow.Kind.Array.{eInt, good-length}
 use lib.ListN.{getElem?, take}
-use Rattle.sheet.specs.Put.{Puts}
-use Rattle.sheet.proofs.Laws.Put.{puts-none, puts-as, puts-length}
+use Rattle.sheet.specs.Put.{Puts, inTurn}
+use Rattle.sheet.proofs.Laws.Put.{puts-as, puts-length}
 use Rattle.pending.specs.Lanes.{entriesOf}
-use Rattle.recording.specs.Record.{placeBytes, entriesBytes, tableFrom}
+use Rattle.recording.specs.Record.{placeBytes, entriesBytes}
 use Rattle.recording.proofs.Sizes.{place-length}
 use Rattle.recording.proofs.Laws.Entries.{place-is}
-use Rattle.recording.proofs.Laws.Put.{table-put, table-end}
+use Rattle.sheet.proofs.Laws.Turn.{turn-none, turn-on, turn-end}
 use borrow.Author.Needs.{needs}
 use Rattle.recording.proofs.lane.write_entries.Statement.{statement}
 use Rattle.recording.proofs.lane.write_entries.Tie as tie
 
 abbrev Inv-loop : tie.InvT-loop
 Inv-loop out₀ at len cells values next₀ i₀ out next i =
-    (i ≤ 64) × Puts out₀ at (tableFrom (λ k. placeBytes (getElem? (take len (entriesOf cells values)) k)) 0 i) out next
+    (i ≤ 64) × Puts out₀ at (inTurn (λ k. placeBytes (getElem? (take len (entriesOf cells values)) k)) i) out next
 
 abbrev μ-loop : tie.MeasureT-loop
 μ-loop out₀ at len cells values next₀ i₀ out next i = 64 - i
 
 loop-holds : tie.Need-loop-holds Inv-loop μ-loop
-loop-holds c = (omega arith, puts-none)
+loop-holds c = (omega arith, turn-none _)
 
 array-read-write-place : tie.Need-array-read-write-place Inv-loop μ-loop
 array-read-write-place c = search needs
@@ -41,7 +41,7 @@ write-place-requires c κs =
     let l = c .before .before .loop in
     let es = take (a .len) (entriesOf (a .t3) (a .t4)) in
     let end =
-    table-end (λ k. placeBytes (getElem? es k)) 8 (l .i) (λ k. place-length (getElem? es k)) (l .inv .1) in
+    turn-end (λ k. placeBytes (getElem? es k)) 8 (l .i) (λ k. place-length (getElem? es k)) (l .inv .1) in
     omega (arith, end, puts-length (l .inv .1), c .before .loop-test .taken)
 
 add-i : tie.Need-add-i Inv-loop μ-loop
@@ -61,7 +61,7 @@ loop-again c =
     let whole = good-length (eInt w32) 64 (a .t4) _ (s .good .1 .1 .1 .0) in
     let place = ap placeBytes (place-is (a .t3) (a .t4) (a .len) (l .i) full whole (c4 .loop-test .taken)) in (
       omega (arith, c4 .loop-test .taken),
-      table-put (λ k. placeBytes (getElem? es k)) (l .i) (l .inv .1)
+      turn-on (λ k. placeBytes (getElem? es k)) (l .i) (l .inv .1)
           (puts-as place (c .before .before .write-place .ensures)),
     )
 
@@ -75,7 +75,7 @@ returns c =
     let l = c .before .loop in
     let es = take (a .len) (entriesOf (a .t3) (a .t4)) in
     let last : l .i ≡ 64 = omega (arith, c .loop-test .left) in
-    puts-as (ap (tableFrom (λ k. placeBytes (getElem? es k)) 0) last) (l .inv .1)
+    puts-as (ap (inTurn (λ k. placeBytes (getElem? es k))) last) (l .inv .1)
 
 pub write-entries-spec : {M : Type 1} → statement M
 write-entries-spec =

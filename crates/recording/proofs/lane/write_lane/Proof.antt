@@ -10,6 +10,7 @@ use Rattle.sheet.proofs.Laws.Put.{puts-on, puts-as}
 use Rattle.pending.specs.Lanes.{entriesOf}
 use Rattle.pending.proofs.Laws.Entries.{entries-length}
 use Rattle.recording.specs.Record.{stateLane}
+use Rattle.sheet.specs.Put.{inTurn}
 use borrow.Author.Needs.{needs}
 use Rattle.recording.proofs.lane.write_lane.Statement.{statement}
 use Rattle.recording.proofs.lane.write_lane.Tie as tie
@@ -27,6 +28,7 @@ put-table-requires : tie.Need-put-table-requires
 put-table-requires c κs = search needs
 
 write-entries-requires : tie.Need-write-entries-requires
+unfolding inTurn
 write-entries-requires c κs = search needs
 
 same-length : tie.Need-same-length

@@ -2,6 +2,7 @@
 use mathlib.Core.List.{[], _∷_}
 use Rattle.sheet.proofs.Laws.Put.{puts-on, puts-as}
 use Rattle.recording.specs.Record.{headBytes}
+use Rattle.sheet.specs.Put.{inTurn}
 use borrow.Author.Needs.{needs}
 use Rattle.recording.proofs.state.write_head.Statement.{statement}
 use Rattle.recording.proofs.state.write_head.Tie as tie
@@ -40,7 +41,7 @@ same-length : tie.Need-same-length
 same-length c = search needs
 
 returns : tie.Need-returns
-unfolding headBytes
+unfolding headBytes inTurn
 returns c =
     let c6 = c .before .before .before .before .before .before in
     let c14 = c6 .before .before .before .before .before .before .before .before in

@@ -3,12 +3,12 @@ use Prim.Native.Nat.{_≤_, _-_}
 use mathlib.Core.Path.{_≡_, ap, _∙_}
 use native.Mathlib.Omega.{arith}
 use lib.ListN.{getD}
-use Rattle.sheet.specs.Put.{Puts}
-use Rattle.sheet.proofs.Laws.Put.{puts-none, puts-as, puts-length}
+use Rattle.sheet.specs.Put.{Puts, inTurn}
+use Rattle.sheet.proofs.Laws.Put.{puts-as, puts-length}
 use Rattle.machine.specs.State.{idle, laneAt}
 use Rattle.moving.specs.States.{rowsOf, lanesIn, heldIn, stateIn}
-use Rattle.recording.specs.Record.{tableFrom, stateLane}
-use Rattle.recording.proofs.Laws.Put.{table-put}
+use Rattle.recording.specs.Record.{stateLane}
+use Rattle.sheet.proofs.Laws.Turn.{turn-none, turn-on}
 use Rattle.recording.proofs.Laws.Lanes.{lane-room, record-put}
 use borrow.Author.Needs.{needs}
 use Rattle.recording.proofs.state.write_state.Statement.{statement}
@@ -17,7 +17,7 @@ use Rattle.recording.proofs.state.write_state.Tie as tie
 abbrev Inv-loop : tie.InvT-loop
 Inv-loop out₀ finished done waited lanes at registers cells values len memory locks next₀ t₀ out next t =
     (t ≤ 4) × Puts out₀ next₀
-    (tableFrom (λ k. stateLane (getD (lanesIn lanes (rowsOf at registers cells values len)) k idle)) 0 t) out next
+    (inTurn (λ k. stateLane (getD (lanesIn lanes (rowsOf at registers cells values len)) k idle)) t) out next
 
 abbrev μ-loop : tie.MeasureT-loop
 μ-loop out₀ finished done waited lanes at registers cells values len memory locks next₀ t₀ out next t =
@@ -27,7 +27,7 @@ write-head-requires : tie.Need-write-head-requires Inv-loop μ-loop
 write-head-requires c κs = search needs
 
 loop-holds : tie.Need-loop-holds Inv-loop μ-loop
-loop-holds c = (omega arith, puts-none)
+loop-holds c = (omega arith, turn-none _)
 
 write-lane-at-requires : tie.Need-write-lane-at-requires Inv-loop μ-loop
 write-lane-at-requires c κs =
@@ -56,7 +56,7 @@ loop-again c =
     let a = c4 .before .before .before .before .before .before .before .before .before .args in
     let rows = rowsOf (a .at .now) (a .registers .now) (a .cells .now) (a .values .now) (a .len .now) in (
       omega (arith, c4 .loop-test .taken),
-      table-put (λ k. stateLane (getD (lanesIn (a .lanes) rows) k idle)) (l .t) (l .inv .1)
+      turn-on (λ k. stateLane (getD (lanesIn (a .lanes) rows) k idle)) (l .t) (l .inv .1)
           (c .before .before .write-lane-at .ensures),
     )
 
@@ -75,7 +75,7 @@ returns c =
     (a .memory .now) (a .locks .now)) in
     let last : l .t ≡ 4 = omega (arith, c .loop-test .left) in
     record-put (a .finished) (a .done) (a .waited) state (s .pre .0) (c4 .write-head .ensures)
-    (puts-as (ap (tableFrom (λ k. stateLane (laneAt state k)) 0) last) (l .inv .1))
+    (puts-as (ap (inTurn (λ k. stateLane (laneAt state k))) last) (l .inv .1))
 
 pub write-state-spec : {M : Type 1} → statement M
 write-state-spec =

@@ -4,9 +4,11 @@ use mathlib.Core.Path.{_≡_, refl, sym, ap, ap₂, _∙_, subst}
 use mathlib.Core.Bool.{cond}
 use native.Mathlib.Omega.{arith}
 use Rattle.sheet.specs.Read.{readRows}
+use Rattle.sheet.specs.Levels.{level2}
+use Rattle.sheet.proofs.Relowered.{position-zero}
 use Rattle.rows.proofs.Laws.Filled.{filled-start, filled-on}
 use Rattle.relowering.specs.Rows.{PositionsTo}
-use Rattle.relowering.proofs.Laws.Positions.{position-zero, position-suc, position-small}
+use Rattle.relowering.proofs.Laws.Positions.{position-suc, position-small}
 use borrow.Author.Needs.{needs}
 use Rattle.relowering.proofs.positions.positions_of.Statement.{statement}
 use Rattle.relowering.proofs.positions.positions_of.Tie as tie
@@ -20,7 +22,7 @@ abbrev μ-loop : tie.MeasureT-loop
 loop-holds : tie.Need-loop-holds Inv-loop μ-loop
 loop-holds c =
     let a = c .before .args in
-    (omega arith, filled-start _ _ refl (sym (position-zero (readRows (a .n) (a .rows .now)))))
+    (omega arith, filled-start _ _ refl (sym (position-zero level2 (readRows (a .n) (a .rows .now)))))
 
 mul-here : tie.Need-mul-here Inv-loop μ-loop
 mul-here c = search needs

@@ -1,7 +1,8 @@
 -- `rows::read::row_at` meets its contract.
 use mathlib.Core.Path.{refl, sym, ap}
+use lib.ListN.{drop-of-length-le}
 use Rattle.rows.specs.Rows.{rowIn}
-use Rattle.rows.proofs.Laws.Read.{row-is, drop-past}
+use Rattle.rows.proofs.Laws.Read.{row-is}
 use borrow.Author.Needs.{needs}
 use Rattle.rows.proofs.read.row_at.Statement.{statement}
 use Rattle.rows.proofs.read.row_at.Tie as tie
@@ -34,7 +35,7 @@ returns c =
     (c .quad-at .ensures)
 
 returns-2 : tie.Need-returns-2
-returns-2 c = sym (ap rowIn (drop-past (c .before .before .args .s .now) (c .before .before .args .at) (c .if1 .left)))
+returns-2 c = sym (ap rowIn (drop-of-length-le (c .before .before .args .s .now) (c .if1 .left)))
 
 pub row-at-spec : {M : Type 1} → statement M
 row-at-spec =

@@ -1,6 +1,6 @@
 -- `running::carry::barrier_of` meets its contract.
 use mathlib.Core.Path.{ap, sym}
-use Rattle.running.specs.Codes.{barrierBy}
+use Rattle.sheet.specs.Read.{barrierBy}
 use borrow.Author.Tests.{ne-eqb}
 use Rattle.running.proofs.carry.barrier_of.Statement.{statement}
 use Rattle.running.proofs.carry.barrier_of.Tie as tie

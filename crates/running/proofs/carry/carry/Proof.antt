@@ -2,7 +2,8 @@
 use mathlib.Core.Path.{ap, _∙_}
 use Rattle.sheet.specs.Layout.{barrier}
 use Rattle.pending.specs.Lanes.{flags}
-use Rattle.running.proofs.Laws.Codes.{by-code, other-code, ready-as, carried-as}
+use Rattle.sheet.proofs.Laws.Codes.{by-code, other-code}
+use Rattle.running.proofs.Laws.Codes.{ready-as, carried-as}
 use borrow.Author.Needs.{needs}
 use Rattle.running.proofs.carry.carry.Statement.{statement}
 use Rattle.running.proofs.carry.carry.Tie as tie
