@@ -1,7 +1,8 @@
 /* The lane translator, called from C. Link with liblanes.a.
  *
- * A kernel file and an output buffer are each a pointer and a length in bytes. A pointer is never NULL, also where the
- * length is 0. The buffers of one call do not overlap. A call keeps no pointer and needs no memory but stack.
+ * A kernel file, a schedule and an output buffer are each a pointer and a length in bytes. A pointer is never NULL,
+ * also where the length is 0. The buffers of one call do not overlap. A call keeps no pointer and needs no memory but
+ * stack.
  *
  * Answer: a success is the number of bytes written, below 2^32. A refusal is number * 2^32 + record, the record being
  * 0 where none is named. After a refusal the output buffer is as it was; after a success the bytes behind the result
@@ -11,9 +12,10 @@
  *   2 bad header                            7 a SKIP that leads nowhere behind it
  *   3 bad length                            8 a lock taken or released against the rule
  *   4 bad record                            9 the output buffer is shorter than the result
- *   5 a record in no lane, or met twice
+ *   5 a record in no lane, or met twice    10 a move with no such lane or choice, or an odd number of bytes
  *
- * Checks are made in this order. docs/FORMATS.md has the layouts. */
+ * Checks are made in this order, 10 over the whole schedule before its first move. Refusal 11, the release of a lock
+ * that is not held, is never given: no kernel that passes 1 to 8 meets it. docs/FORMATS.md has the layouts. */
 #ifndef LANES_H
 #define LANES_H
 
@@ -29,6 +31,9 @@ extern "C" {
 #define LANES_SHEET1_MAX 10256
 #define LANES_SHEET2_MAX 4112
 
+/* A state record has this many bytes. */
+#define LANES_STATE_SIZE 2280
+
 /* The number of a refusal, 0 for a success; and the record that it names. */
 #define LANES_NUMBER(answer) ((uint32_t)((answer) >> 32))
 #define LANES_RECORD(answer) ((uint32_t)(answer))
@@ -36,6 +41,14 @@ extern "C" {
 /* The barrier sheet (level 1), and the x86 sheet with MFENCE (level 2), of a kernel file. */
 uint64_t lanes_lower1(const uint8_t *kernel, size_t kernel_len, uint8_t *sheet, size_t sheet_len);
 uint64_t lanes_lower2(const uint8_t *kernel, size_t kernel_len, uint8_t *sheet, size_t sheet_len);
+
+/* A schedule run from the start, on the source machine over the kernel and on the tso machine over its level 2 sheet. A
+ * move is two bytes: the lane, then the choice, of which 0 carries out the lane's next instruction and k commits its
+ * k-th oldest pending entry. `state` receives the state record at the end. */
+uint64_t lanes_run_source(const uint8_t *kernel, size_t kernel_len, const uint8_t *moves, size_t moves_len,
+                          uint8_t *state, size_t state_len);
+uint64_t lanes_run_tso(const uint8_t *kernel, size_t kernel_len, const uint8_t *moves, size_t moves_len,
+                       uint8_t *state, size_t state_len);
 
 #ifdef __cplusplus
 }

@@ -10,13 +10,13 @@ for kernel in examples/*.kernel; do
 done
 
 rt staticlib lanes > "$built/log" || { cat "$built/log"; exit 1; }
-cc -std=c99 -Wall -Wextra -Wpedantic -Werror -O2 examples/lower.c target/staticlib/liblanes.a -o "$built/lower"
-"$built/lower" examples/*.kernel > "$built/lowered"
-cmp "$built/lowered" examples/lower.expected
+cc -std=c99 -Wall -Wextra -Wpedantic -Werror -O2 examples/translate.c target/staticlib/liblanes.a -o "$built/translate"
+"$built/translate" examples/*.kernel > "$built/translated"
+cmp "$built/translated" examples/translate.expected
 
 # input that no kernel can be: nothing at all, and more than any kernel has
 printf 'refused 1 record 0\n' > "$built/stub"
 target/bin/lanetext < /dev/null | cmp - "$built/stub"
 printf 'refused 3 record 0\n' > "$built/long"
 { cat examples/store-buffering-mask-3.kernel; head -c 100000 /dev/zero; } | target/bin/lanetext | cmp - "$built/long"
-echo "examples: $(ls examples/*.kernel | wc -l) kernels listed and lowered as the reference has them"
+echo "examples: $(ls examples/*.kernel | wc -l) kernels listed, lowered and run as the reference has them"

@@ -1,7 +1,12 @@
 # The reference on its own, and the library against it. Every case depends on its seed alone.
 set -eu
 cd "$(dirname "$0")/../reference"
+table=$(mktemp)
+trap 'rm -f "$table"' EXIT
+
 cargo test --release --offline --quiet
 cargo run --release --offline --quiet --bin agree -- 5000 1
-cargo run --release --offline --quiet --features library --bin differ -- 10000 1 lower
-cargo run --release --offline --quiet --bin litmus > /dev/null
+cargo run --release --offline --quiet --features runs --bin differ -- 10000 1
+cargo run --release --offline --quiet --features runs --bin litmus > "$table"
+sed -n '/^| test /,$p' ../docs/LITMUS.md | cmp - "$table"
+echo "litmus: $(grep -c '^| ' "$table") lines as in docs/LITMUS.md"

@@ -1,12 +1,10 @@
 -- The chains of an accepted kernel as the rows of a sheet without barriers: what the source machine reads.
 use Prim.Native.Nat.{ℕ}
 use mathlib.Core.List.{List, _++_, map}
-use lib.ListN.{length, getD}
+use lib.ListN.{length}
 use Rattle.kernel.specs.declared.accepted.Op.{Op}
-use Rattle.kernel.specs.declared.accepted.Lane.{Lane}
-use Rattle.kernel.specs.declared.accepted.Kernel.{Kernel}
-use Rattle.kernel.specs.Accepted.{Program}
-use Rattle.kernel.specs.Stored.{opsIn, pastLanes}
+use Rattle.kernel.specs.Fields.{head}
+use Rattle.kernel.specs.Accepted.{Program, opsAt}
 use Rattle.verdict.specs.Verdict.{Verdict}
 use Rattle.sheet.specs.declared.Lowered.{Lowered}
 use Rattle.sheet.specs.Layout.{Instr, op}
@@ -27,13 +25,11 @@ chainBytes k =
 abbrev pub chainBy : Verdict → List ℕ → Lowered × List ℕ
 chainBy = answerBy chainBytes
 
--- ## the same of the struct that the code holds
+-- ## the same of the file's records
 
 abbrev pub opRows : List Op → List ℕ
 opRows ops = laneBytes level1 (map op ops)
 
-abbrev pub chainIn : Lane → List ℕ
-chainIn lane = opRows (opsIn lane)
-
-abbrev pub chainAt : Kernel → ℕ → List ℕ
-chainAt k t = chainIn (getD (k .lanes) t pastLanes)
+-- the rows of lane t
+abbrev pub chainAt : List ℕ → ℕ → List ℕ
+chainAt s t = opRows (opsAt s (head s t))

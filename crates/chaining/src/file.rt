@@ -4,7 +4,7 @@ ghost use Rattle.verdict.specs.Verdict.{verdict};
 ghost use Rattle.chaining.specs.Chains.{chainBy};
 use crate::whole::write_chains_of;
 use sheet::Lowered;
-use verdict::load;
+use verdict::check;
 use verdict::number_of;
 use verdict::record_of;
 
@@ -12,11 +12,10 @@ use verdict::record_of;
 pub fn chain_file(file: &[u8], out: &mut [u8]) -> Lowered
     ensures { λ r. ⌜ (r, now (out .exit)) ≡ chainBy (verdict (now (file .entry))) (now (out .entry)) ⌝ }
 {
-    let loaded = load(file);
-    let refusal = loaded.refusal;
+    let refusal = check(file);
     let number = number_of(refusal);
     if number != 0 {
         return Lowered::Refuses(number, record_of(refusal));
     }
-    write_chains_of(out, loaded.kernel)
+    write_chains_of(out, file)
 }

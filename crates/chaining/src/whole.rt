@@ -1,67 +1,64 @@
-// The chains of an accepted kernel behind a header.
+// The chains of an accepted file behind a header.
 ghost use mathlib.Core.Path.{_≡_};
-ghost use Prim.Native.Nat.{min, _+_, _<_, _≤_};
-ghost use lib.ListN.{length, getD};
+ghost use Prim.Native.Nat.{_+_, _<_, _≤_};
+ghost use lib.ListN.{length};
 ghost use lib.Seq.{sets};
-ghost use Rattle.kernel.specs.Stored.{pastLanes};
+ghost use Rattle.kernel.specs.Fields.{head};
+ghost use Rattle.kernel.specs.Accepted.{opsAt, programOf};
+ghost use Rattle.verdict.specs.Verdict.{verdict, accepted};
 ghost use Rattle.sheet.specs.Bytes.{writeInto};
 ghost use Rattle.sheet.specs.Put.{inTurn};
-ghost use Rattle.sheet.specs.Whole.{programIn, Whole};
 ghost use Rattle.chaining.specs.Chains.{chainAt, chainBytes};
 use crate::lane::write_chain;
-use kernel::accepted::Kernel;
-use kernel::accepted::count;
+use kernel::accepted::chain_from;
+use kernel::fields::head_of;
 use rows::put::put_counts;
 use rows::put::put_first;
+use rows::read::byte_at;
+use rows::read::word_at;
 use sheet::Lowered;
 
 // Writes the four lanes behind the header.
-fn write_chains(out: &mut [u8], kernel: Kernel)
-    requires { ⌜ 16 + length (inTurn (chainAt kernel) 4) ≤ length (now out) ⌝ }
-    ensures { λ r. ⌜ now (out .exit) ≡ sets (now (out .entry)) 16 (inTurn (chainAt kernel) 4) ⌝ }
+fn write_chains(out: &mut [u8], s: &[u8])
+    requires { ⌜ 16 + length (inTurn (chainAt (now s)) 4) ≤ length (now out) ⌝ }
+    ensures { λ r. ⌜ now (out .exit) ≡ sets (now (out .entry)) 16 (inTurn (chainAt (now (s .entry))) 4) ⌝ }
 {
-    let lanes = kernel.lanes;
     let mut at = 16;
     let mut t = 0;
     while t < 4 {
-        let lane = lanes[t];
-        at += write_chain(&mut out[at..], lane);
+        let chain = chain_from(s, head_of(s, t));
+        let records = chain.records;
+        let len = chain.len;
+        at += write_chain(&mut out[at..], s, &records[..len]);
         t += 1;
     }
 }
 
 // How many operations lane t has.
-fn size_at(kernel: Kernel, t: usize) -> usize
+fn size_at(s: &[u8], t: usize) -> usize
     requires { ⌜ t < 4 ⌝ }
-    ensures { λ r. ⌜ (r ≡ min (getD (kernel .lanes) t pastLanes .len) 64) × (r ≤ 64) ⌝ }
+    ensures { λ r. ⌜ (r ≡ length (opsAt (now (s .entry)) (head (now (s .entry)) t))) × (r ≤ 64) ⌝ }
 {
-    let lanes = kernel.lanes;
-    let lane = lanes[t];
-    count(lane.len)
+    let chain = chain_from(s, head_of(s, t));
+    chain.len
 }
 
 // The chains at the front of `out`; 9, and `out` as it was, where they do not fit.
-pub(crate) fn write_chains_of(out: &mut [u8], kernel: Kernel) -> Lowered
-    requires { ⌜ Whole kernel ⌝ }
-    ensures { λ r. ⌜ (r, now (out .exit)) ≡ writeInto (chainBytes (programIn kernel)) (now (out .entry)) ⌝ }
+pub(crate) fn write_chains_of(out: &mut [u8], s: &[u8]) -> Lowered
+    requires { ⌜ verdict (now s) ≡ accepted (programOf (now s)) ⌝ }
+    ensures { λ r. ⌜ (r, now (out .exit)) ≡ writeInto (chainBytes (programOf (now (s .entry)))) (now (out .entry)) ⌝ }
 {
-    let a = size_at(kernel, 0);
-    let b = size_at(kernel, 1);
-    let c = size_at(kernel, 2);
-    let d = size_at(kernel, 3);
+    let a = size_at(s, 0);
+    let b = size_at(s, 1);
+    let c = size_at(s, 2);
+    let d = size_at(s, 3);
     let size = 16 + 8 * (a + (b + (c + d)));
     if out.len() < size {
         return Lowered::Refuses(9, 0);
     }
-    put_first(
-        out,
-        kernel.count as u8,
-        kernel.locations as u8,
-        kernel.locks as u8,
-        0,
-        kernel.mask,
-    );
+    let mask = word_at(s, 4) as u16;
+    put_first(out, byte_at(s, 0), byte_at(s, 1), byte_at(s, 2), 0, mask);
     put_counts(out, a, b, c, d);
-    write_chains(out, kernel);
+    write_chains(out, s);
     Lowered::Wrote(size)
 }

@@ -5,6 +5,5 @@ pub mod Rules
 pub mod Linkage
 pub mod Targets
 pub mod Accepted
+pub mod Lanes
 pub mod Stored
-pub mod Held
-pub mod Sets

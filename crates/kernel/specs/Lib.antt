@@ -1,6 +1,5 @@
 -- The kernel file up to its verdict. Fields to Targets define the checks of its structure, Accepted the kernel that a
--- sound
--- file stands for, Held the held-set rule, Stored what the code holds, Lawful what an accepted kernel satisfies.
+-- sound file stands for, Held the held-set rule, Stored what the code holds, Lawful what an accepted kernel satisfies.
 pub mod Search
 pub mod Fields
 pub mod Rules
@@ -9,5 +8,4 @@ pub mod Targets
 pub mod Accepted
 pub mod Held
 pub mod Stored
-pub mod Sets
 pub mod Lawful

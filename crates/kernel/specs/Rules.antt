@@ -1,5 +1,6 @@
 -- The rules of a header and of a record (refusals 2 and 4).
 use Prim.Native.Nat.{ℕ, _+_, _^_}
+use mathlib.Core.Path.{_≡_}
 use mathlib.Core.List.{List, [], _∷_}
 use mathlib.Core.Bool.{Bool, not, cond}
 use lib.ListN.{getD}
@@ -28,17 +29,37 @@ headerRule s = all (headerTests s)
 
 -- What each field of a record stays below, in the row of its operation: SET, ADD, LOAD, STORE, LOCK, UNLOCK, SKIP.
 -- An unused field stays below 1. Operation 0 and those from 8 up have limit 0, so no record meets them.
+abbrev pub rowA : List ℕ
+rowA = 0 ∷ 8 ∷ 8 ∷ 8 ∷ 8 ∷ 1 ∷ 1 ∷ 8 ∷ []
+
+abbrev pub rowB : ℕ → ℕ → List ℕ
+rowB ls ks = 0 ∷ 1 ∷ 8 ∷ ls ∷ ls ∷ ks ∷ ks ∷ 1 ∷ []
+
+abbrev pub rowConstant : List ℕ
+rowConstant = 0 ∷ 2 ^ 32 ∷ 1 ∷ 1 ∷ 1 ∷ 1 ∷ 1 ∷ 1 ∷ []
+
+abbrev pub rowTarget : ℕ → List ℕ
+rowTarget n = 0 ∷ 1 ∷ 1 ∷ 1 ∷ 1 ∷ 1 ∷ 1 ∷ (n + 1) ∷ []
+
 unfoldable pub limitA : ℕ → ℕ
-limitA op = getD (0 ∷ 8 ∷ 8 ∷ 8 ∷ 8 ∷ 1 ∷ 1 ∷ 8 ∷ []) op 0
+limitA op = getD rowA op 0
 
 unfoldable pub limitB : ℕ → ℕ → ℕ → ℕ
-limitB ls ks op = getD (0 ∷ 1 ∷ 8 ∷ ls ∷ ls ∷ ks ∷ ks ∷ 1 ∷ []) op 0
+limitB ls ks op = getD (rowB ls ks) op 0
 
 unfoldable pub limitConstant : ℕ → ℕ
-limitConstant op = getD (0 ∷ 2 ^ 32 ∷ 1 ∷ 1 ∷ 1 ∷ 1 ∷ 1 ∷ 1 ∷ []) op 0
+limitConstant op = getD rowConstant op 0
 
 unfoldable pub limitTarget : ℕ → ℕ → ℕ
-limitTarget n op = getD (0 ∷ 1 ∷ 1 ∷ 1 ∷ 1 ∷ 1 ∷ 1 ∷ (n + 1) ∷ []) op 0
+limitTarget n op = getD (rowTarget n) op 0
+
+-- what the rule of a file's records goes by: their count, and the rows of limits
+pub record Limits (s : List ℕ) (n : ℕ) (a b constant target : List ℕ) : Type 0 where
+  pub counted : n ≡ recordCount s
+  pub a-row : a ≡ rowA
+  pub b-row : b ≡ rowB (locations s) (locks s)
+  pub constant-row : constant ≡ rowConstant
+  pub target-row : target ≡ rowTarget (recordCount s)
 
 abbrev pub recordTests : List ℕ → ℕ → List Bool
 recordTests s i =

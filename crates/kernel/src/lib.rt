@@ -1,7 +1,6 @@
-// The kernel file up to its verdict: its fields, the checks of its structure, the accepted kernel, the held-set rule.
+// The kernel file up to its verdict: its fields, the checks of its structure, the operations of a lane.
 pub mod accepted;
 pub mod fields;
-pub mod held;
 pub mod linkage;
 pub mod rules;
 pub mod targets;

@@ -5,13 +5,14 @@ ghost use Prim.Native.Nat.{_+_, _*_, _<_, _^_};
 ghost use lib.ListN.{length, getD};
 ghost use lib.Dec.{ltb, eqb};
 ghost use Rattle.kernel.specs.Fields.{recordCount};
-ghost use Rattle.kernel.specs.Rules.{headRule, headerRule, recordRule, badRecord};
-ghost use Rattle.kernel.specs.Rules.{limitA, limitB, limitConstant, limitTarget};
+ghost use Rattle.kernel.specs.Rules.{headRule, headerRule, Limits, recordRule, badRecord};
 use crate::fields::both;
 use crate::fields::byte_at;
+use crate::fields::four_at;
 use crate::fields::head_of;
 use crate::fields::next_of;
 use crate::fields::quad_at;
+use crate::fields::wide;
 use crate::fields::word_at;
 
 // The limit of a field in the row of an operation; 0 where there is no such operation.
@@ -21,53 +22,36 @@ fn limit(row: &[usize], op: usize) -> usize
     if op < row.len() { row[op] } else { 0 }
 }
 
-// The limits of register a, operand b, the constant and the target, by operation.
-fn limit_a(op: usize) -> usize
-    ensures { λ r. ⌜ r ≡ limitA op ⌝ }
-{
-    limit(&[0, 8, 8, 8, 8, 1, 1, 8], op)
-}
-
-fn limit_b(ls: usize, ks: usize, op: usize) -> usize
-    ensures { λ r. ⌜ r ≡ limitB ls ks op ⌝ }
-{
-    limit(&[0, 1, 8, ls, ls, ks, ks, 1], op)
-}
-
-fn limit_constant(op: usize) -> usize
-    ensures { λ r. ⌜ r ≡ limitConstant op ⌝ }
-{
-    limit(&[0, 4294967296, 1, 1, 1, 1, 1, 1], op)
-}
-
-fn limit_target(n: usize, op: usize) -> usize
-    requires { ⌜ n < 65536 ⌝ }
-    ensures { λ r. ⌜ r ≡ limitTarget n op ⌝ }
-{
-    limit(&[0, 1, 1, 1, 1, 1, 1, n + 1], op)
-}
-
-// The rule of record i.
-fn record_rule(s: &[u8], i: usize) -> bool
-    requires { ⌜ i < 65536 ⌝ }
+// The rule of record i; the rows have the limits of register a, operand b, the constant and the target by operation.
+fn record_rule(
+    s: &[u8],
+    i: usize,
+    n: usize,
+    a: &[usize],
+    b: &[usize],
+    constant: &[usize],
+    target: &[usize],
+) -> bool
+    requires { ⌜ (i < 65536) × Limits (now s) n (now a) (now b) (now constant) (now target) ⌝ }
     ensures { λ r. ⌜ r ≡ recordRule (now (s .entry)) i ⌝ }
 {
     let at = 4 + 12 * i;
-    let op = byte_at(s, at);
-    let ls = byte_at(s, 1);
-    let ks = byte_at(s, 2);
-    let n = word_at(s, 6);
-    let a = byte_at(s, at + 1) < limit_a(op);
-    let b = byte_at(s, at + 2) < limit_b(ls, ks, op);
-    let reserved = byte_at(s, at + 3) == 0;
-    let constant = quad_at(s, at + 4) < limit_constant(op);
-    let target = word_at(s, at + 8) < limit_target(n, op);
+    let first = four_at(s, at);
+    let op = wide(first.a);
+    let in_a = wide(first.b) < limit(a, op);
+    let in_b = wide(first.c) < limit(b, op);
+    let reserved = first.d == 0;
+    let in_constant = quad_at(s, at + 4) < limit(constant, op);
+    let in_target = word_at(s, at + 8) < limit(target, op);
     let next = next_of(s, i) <= n;
     both(
-        a,
+        in_a,
         both(
-            b,
-            both(reserved, both(constant, both(target, both(next, true)))),
+            in_b,
+            both(
+                reserved,
+                both(in_constant, both(in_target, both(next, true))),
+            ),
         ),
     )
 }
@@ -76,10 +60,17 @@ fn record_rule(s: &[u8], i: usize) -> bool
 pub fn bad_record(s: &[u8]) -> usize
     ensures { λ r. ⌜ r ≡ badRecord (now (s .entry)) ⌝ }
 {
-    let e = word_at(s, 6) + 1;
+    let ls = byte_at(s, 1);
+    let ks = byte_at(s, 2);
+    let n = word_at(s, 6);
+    let e = n + 1;
+    let a = [0, 8, 8, 8, 8, 1, 1, 8];
+    let b = [0, 1, 8, ls, ls, ks, ks, 1];
+    let constant = [0, 4294967296, 1, 1, 1, 1, 1, 1];
+    let target = [0, 1, 1, 1, 1, 1, 1, e];
     let mut i = 1;
     while i < e {
-        if !record_rule(s, i) {
+        if !record_rule(s, i, n, &a, &b, &constant, &target) {
             return i;
         }
         i += 1;

@@ -61,7 +61,7 @@ fn wide(x: u16) -> usize
 }
 
 // The record at position p of a chain; 0, the end, past its last.
-pub(crate) fn record_at(rs: &[u16], p: usize) -> usize
+pub fn record_at(rs: &[u16], p: usize) -> usize
     ensures { λ r. ⌜ (r ≡ getD (now (rs .entry)) p 0) × (r < 65536) ⌝ }
 {
     if p < rs.len() { wide(rs[p]) } else { 0 }

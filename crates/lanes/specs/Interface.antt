@@ -1,19 +1,13 @@
 -- The four calls from C: what each answers, and the output buffer after it.
 use Prim.Native.Nat.{ℕ, _+_, _*_, _^_, _≤_}
-use mathlib.Core.Bool.{cond}
-use mathlib.Core.List.{List, _++_}
-use lib.Dec.{eqb, ltb}
-use lib.ListN.{length, drop}
-use Rattle.kernel.specs.Accepted.{Program}
-use Rattle.verdict.specs.Verdict.{Verdict, refused, accepted, verdict}
+use mathlib.Core.List.{List}
+use Rattle.verdict.specs.Verdict.{Verdict, verdict}
 use Rattle.sheet.specs.Levels.{Level, level1, level2}
 use Rattle.sheet.specs.declared.Lowered.{Lowered}
 use Rattle.sheet.specs.declared.Lowered.the-variants.{Wrote, Refuses}
 use Rattle.sheet.specs.Bytes.{lowerBy}
 use Rattle.machine.specs.Rules.{Machine, source, target, tso}
-use Rattle.machine.specs.Run.{Answer, runProgram}
-use Rattle.machine.specs.Moves.{oddBytes, movesIn}
-use Rattle.recording.specs.Record.{stateBytes}
+use Rattle.calling.specs.Calls.{runFileBy}
 
 -- a success is the number of bytes written, a refusal number × 2^32 + record
 abbrev pub packed : ℕ → ℕ → ℕ
@@ -26,30 +20,13 @@ packedLowering (Refuses n r) = packed n r
 -- an answer that fits 64 bits so
 abbrev pub Small : Lowered → Type 0
 Small (Wrote n) = Unit {0}
-Small (Refuses n r) = (n ≤ 9) × (r ≤ 256)
+Small (Refuses n r) = (n ≤ 10) × (r ≤ 256)
 
 abbrev pub lowerCallBy : Level → Verdict → List ℕ → ℕ × List ℕ
 lowerCallBy l v buffer = (packedLowering (lowerBy l v buffer .0), lowerBy l v buffer .1)
 
-abbrev pub recordSize : ℕ
-recordSize = 2280
-
--- the state record of a run that took place, else the buffer as it was
-abbrev pub stored : Answer → List ℕ → ℕ × List ℕ
-stored a buffer =
-    cond (eqb (a .number) 0) (recordSize, stateBytes a ++ drop recordSize buffer)
-    (packed (a .number) (a .blames), buffer)
-
--- 9, then 10 for an odd number of bytes, then the run
-abbrev pub runInto : Machine → Program → List ℕ → List ℕ → ℕ × List ℕ
-runInto m k moves buffer =
-    cond (ltb (length buffer) recordSize) (packed 9 0, buffer)
-    (cond (oddBytes moves) (packed 10 0, buffer)
-    (stored (runProgram m k (movesIn moves)) buffer))
-
 abbrev pub runCallBy : Machine → Verdict → List ℕ → List ℕ → ℕ × List ℕ
-runCallBy m (refused n r) moves buffer = (packed n r, buffer)
-runCallBy m (accepted k) moves buffer = runInto m k moves buffer
+runCallBy m v moves buffer = (packedLowering (runFileBy m v moves buffer .0), runFileBy m v moves buffer .1)
 
 -- lanes_lower1, lanes_lower2, lanes_run_source and lanes_run_tso
 abbrev pub callLower1 : List ℕ → List ℕ → ℕ × List ℕ

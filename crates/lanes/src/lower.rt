@@ -1,20 +1,9 @@
 // Lowering, called from C.
 ghost use mathlib.Core.Path.{_≡_};
-ghost use Rattle.lanes.specs.Interface.{Small, packedLowering, callLower1, callLower2};
+ghost use Rattle.lanes.specs.Interface.{callLower1, callLower2};
+use crate::packed::packed;
 use lowering::lower::lower1;
 use relowering::lower::lower2;
-use sheet::Lowered;
-
-// The answer as one number: the bytes written, or number × 2^32 + record.
-fn packed(answer: Lowered) -> u64
-    requires { ⌜ Small answer ⌝ }
-    ensures { λ r. ⌜ r ≡ packedLowering answer ⌝ }
-{
-    match answer {
-        Lowered::Wrote(n) => n as u64,
-        Lowered::Refuses(number, rec) => number as u64 * 4294967296 + rec as u64,
-    }
-}
 
 // The level 1 sheet at the front of `sheet`; after a refusal `sheet` is as it was.
 #[no_mangle]

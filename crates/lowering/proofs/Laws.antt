@@ -1,7 +1,7 @@
 -- Laws by subject.
 pub mod Put
 pub mod Starts
+pub mod Targets
 pub mod Lane
 pub mod Plan
-pub mod Lanes
 pub mod Level1

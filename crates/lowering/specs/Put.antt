@@ -1,15 +1,13 @@
 -- A lane's operations one after the other, as the code writes them.
 use Prim.Native.Nat.{ℕ, suc}
-use mathlib.Core.Bool.{Bool, false, cond}
+use mathlib.Core.Bool.{Bool, cond}
 use mathlib.Core.List.{List, [], _∷_, _++_, map}
-use lib.ListN.{getD}
 use Rattle.kernel.specs.declared.accepted.Op.{Op}
-use Rattle.kernel.specs.declared.accepted.Lane.{Lane}
-use Rattle.kernel.specs.Stored.{opsIn}
 use Rattle.placement.specs.declared.cookbook.Barrier.{Barrier}
 use Rattle.placement.specs.declared.cookbook.Barrier.the-variants.{LL, LS, SS, SL}
 use Rattle.placement.specs.declared.place.Placement.{Placement}
 use Rattle.placement.specs.Place.{chosen}
+use Rattle.placement.specs.Placed.{bit}
 use Rattle.placement.specs.Sheet.{start as startBy}
 use Rattle.rows.specs.Filled.{FilledTo}
 use Rattle.lowering.specs.declared.steps.Marks.{Marks}
@@ -30,13 +28,7 @@ marked m SL = m .sl
 
 -- what a placement says of position p, and the barriers that stand there
 abbrev pub standingMarks : Placement → ℕ → Marks
-standingMarks r p =
-    record {
-      ll = getD (r .ll) p false;
-      ls = getD (r .ls) p false;
-      ss = getD (r .ss) p false;
-      sl = getD (r .sl) p false;
-    }
+standingMarks r p = record { ll = bit (r .ll) p; ls = bit (r .ls) p; ss = bit (r .ss) p; sl = bit (r .sl) p }
 
 abbrev pub standing : Placement → ℕ → List Barrier
 standing r p = chosen (marked (standingMarks r p))
@@ -55,5 +47,5 @@ abbrev pub stepBytes : List Barrier → Op → ℕ → List ℕ
 stepBytes bs o t = laneBytes level1 (map barrier bs ++ (op (aim (λ x. t) o) ∷ []))
 
 -- the bytes of a lane at level 1, with its barriers where the placement says
-abbrev pub laneWith : Placement → Lane → List ℕ
-laneWith r lane = laneBytes level1 (sheet (placedBy (standing r) 0 (opsIn lane)))
+abbrev pub laneWith : Placement → List Op → List ℕ
+laneWith r ops = laneBytes level1 (sheet (placedBy (standing r) 0 ops))

@@ -3,7 +3,7 @@ ghost use mathlib.Core.Path.{_≡_};
 ghost use Rattle.sheet.specs.Bytes.{lower1 as lowered};
 use crate::level1::write_level1;
 use sheet::Lowered;
-use verdict::load;
+use verdict::check;
 use verdict::number_of;
 use verdict::record_of;
 
@@ -11,13 +11,12 @@ use verdict::record_of;
 pub fn lower1(file: &[u8], out: &mut [u8]) -> Lowered
     ensures { λ r. ⌜ (r, now (out .exit)) ≡ lowered (now (file .entry)) (now (out .entry)) ⌝ }
 {
-    let loaded = load(file);
-    let refusal = loaded.refusal;
+    let refusal = check(file);
     let number = number_of(refusal);
     if number != 0 {
         return Lowered::Refuses(number, record_of(refusal));
     }
-    let size = write_level1(out, loaded.kernel);
+    let size = write_level1(out, file);
     if out.len() < size {
         return Lowered::Refuses(9, 0);
     }

@@ -11,8 +11,7 @@ use lib.ListN.{length, getD}
 use borrow.Author.Tests.{not-true}
 use Rattle.placement.specs.Cookbook.{Class, Barrier, cell}
 use Rattle.placement.specs.Chain.{Step, Access, Chain, at, Next, Path, edge, more, Between, Forward}
-use Rattle.placement.specs.declared.place.Classes.{Classes}
-use Rattle.placement.specs.Place.{has, noClasses, standsAt, raises, after, leads, arrives}
+use Rattle.placement.specs.Place.{Classes, has, noClasses, standsAt, raises, after, leads, arrives}
 use Rattle.placement.specs.Place.{rowsTo, due, stands}
 use Rattle.placement.specs.Sentence.{Open, Sentence}
 use Rattle.placement.proofs.Laws.Bools.{or-true, or-left, or-right, and-true, both-true, true-not}

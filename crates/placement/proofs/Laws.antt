@@ -1,7 +1,9 @@
 -- Small laws by subject.
 pub mod Bools
 pub mod Lists
+pub mod Bits
 pub mod Cookbook
+pub mod Bytes
 pub mod Paths
 pub mod Steps
 pub mod Place

@@ -7,8 +7,14 @@ use mathlib.Core.List.{List, [], _∷_, _++_}
 use lib.Dec.{eqb}
 use lib.ListN.{getD}
 use Rattle.placement.specs.Cookbook.{Class, PL, PS, VL, VS, Barrier, LL, LS, SS, SL, calls}
-use Rattle.placement.specs.declared.place.Classes.{Classes}
 use Rattle.placement.specs.Chain.{Step, Access, Skip, Other, Chain, at}
+
+-- a set of classes
+pub record Classes : Type 0 where
+  pub pl : Bool
+  pub ps : Bool
+  pub vl : Bool
+  pub vs : Bool
 
 abbrev pub has : Classes → Class → Bool
 has r PL = r .pl

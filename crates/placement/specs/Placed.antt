@@ -1,34 +1,61 @@
--- What the code of the placement returns: the flags of one barrier in a whole placement; and for a step its row and its
--- landing.
-use Prim.Native.Nat.{ℕ}
+-- What the code of the placement holds: a placement and what is due as the bits of numbers, and a step as a byte.
+use Prim.Native.Nat.{ℕ, _+_, _*_, _/_, _%_, _^_, _≤_}
 use mathlib.Core.Bool.{Bool, cond}
 use mathlib.Core.List.{List, [], _∷_}
-use lib.Dec.{leb}
-use lib.ListN.{getD}
-use Rattle.placement.specs.declared.place.Classes.{Classes}
+use mathlib.Core.Option.{Option, none, some}
+use lib.Dec.{eqb, leb}
+use lib.ListN.{length, getD}
 use Rattle.placement.specs.declared.place.Placement.{Placement}
-use Rattle.placement.specs.Cookbook.{PL, PS, VL, VS, Barrier, LL, LS, SS, SL, numberOf, calls}
+use Rattle.placement.specs.Cookbook.{Class, PL, PS, VL, VS, Barrier, LL, LS, SS, SL, numberOf, cell}
 use Rattle.placement.specs.Chain.{Step, Access, Skip, Other}
-use Rattle.placement.specs.Place.{classes, noClasses}
 
-abbrev pub flags : Placement → Barrier → List Bool
+-- bit j of a number
+abbrev pub bit : ℕ → ℕ → Bool
+bit n j = eqb (n / 2 ^ j % 2) 1
+
+-- the positions before which a barrier stands, as the bits of a number
+abbrev pub flags : Placement → Barrier → ℕ
 flags r LL = r .ll
 flags r LS = r .ls
 flags r SS = r .ss
 flags r SL = r .sl
 
--- the table for one barrier: for each class of the earlier access, the later classes before which it calls for b
-abbrev pub rowsOf : Barrier → List Classes
-rowsOf b = classes (calls b PL) ∷ classes (calls b PS) ∷ classes (calls b VL) ∷ classes (calls b VS) ∷ []
+-- each barrier's bit of a set of barriers, which is a number below 16
+abbrev pub bitOf : Barrier → ℕ
+bitOf LL = 0
+bitOf LS = 1
+bitOf SS = 2
+bitOf SL = 3
 
--- the row of an access's class; nothing for any other step
-abbrev pub rowOf : List Classes → Step → Classes
-rowOf rows (Access c) = getD rows (numberOf c) noClasses
-rowOf rows (Skip t) = noClasses
-rowOf rows Other = noClasses
+-- what is due, as a number below 65536: four bits for each class of the later access, the barriers due before it
+abbrev pub dueIn : ℕ → Barrier → Class → Bool
+dueIn n b c = bit n (4 * numberOf c + bitOf b)
+
+-- the set of the barrier in a cell
+abbrev pub setOf : Option Barrier → ℕ
+setOf none = 0
+setOf (some b) = 2 ^ bitOf b
+
+-- a row of the table: all that an access of class c calls for
+abbrev pub rowNumber : Class → ℕ
+rowNumber c = setOf (cell c PL) + 16 * setOf (cell c PS) + 256 * setOf (cell c VL) + 4096 * setOf (cell c VS)
+
+abbrev pub rowNumbers : List ℕ
+rowNumbers = rowNumber PL ∷ rowNumber PS ∷ rowNumber VL ∷ rowNumber VS ∷ []
 
 -- the target of a SKIP that lies in a lane or at its end, else 0, to which nothing goes forward
 abbrev pub landing : Step → ℕ
 landing (Access c) = 0
 landing (Skip t) = cond (leb t 64) t 0
 landing Other = 0
+
+-- a step's byte: the number of an access's class; of any other step 4 more than its landing
+abbrev pub stepByte : Step → ℕ
+stepByte (Access c) = numberOf c
+stepByte (Skip t) = 4 + landing (Skip t)
+stepByte Other = 4
+
+-- at most 64 bytes of steps; the greatest is that of a SKIP to 64
+pub record StepBytes (l : List ℕ) : Type 0 where
+  pub few : length l ≤ 64
+  pub small : (j : ℕ) → getD l j 0 ≤ 68

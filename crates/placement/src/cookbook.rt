@@ -1,6 +1,6 @@
 // The cookbook table: which barrier an earlier access and a later one call for.
 ghost use mathlib.Core.Path.{_≡_};
-ghost use Rattle.placement.specs.Cookbook.{cell as cellOf, cellCode, codeOf, numberOf, calls as callsFor};
+ghost use Rattle.placement.specs.Cookbook.{cell as cellOf, cellCode, codeOf, numberOf};
 
 // Plain load, plain store, volatile load or LOCK, volatile store or UNLOCK.
 pub enum Class {
@@ -55,11 +55,4 @@ pub fn cell(first: Class, second: Class) -> u8
     ensures { λ r. ⌜ r ≡ cellCode (cellOf first second) ⌝ }
 {
     TABLE[number(first)][number(second)]
-}
-
-// Is b the barrier between the two?
-pub(crate) fn calls(b: Barrier, first: Class, second: Class) -> bool
-    ensures { λ r. ⌜ r ≡ callsFor b first second ⌝ }
-{
-    cell(first, second) == code(b)
 }

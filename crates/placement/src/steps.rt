@@ -1,15 +1,17 @@
 // What placement sees of a lane: for each operation its class, or where it can go besides the next position.
 use crate::cookbook::Class;
-use kernel::accepted::Lane;
+use crate::cookbook::number;
 use kernel::accepted::Op;
-use kernel::accepted::count;
+use kernel::accepted::op_at;
 ghost use mathlib.Core.Path.{_≡_};
 ghost use mathlib.Core.Bool.{cond};
-ghost use Prim.Native.Nat.{ℕ, _<_};
-ghost use Rattle.kernel.specs.Accepted.{isVolatile};
-ghost use Rattle.kernel.specs.Stored.{opsIn};
-ghost use Rattle.placement.specs.Chain.{at};
+ghost use mathlib.Core.List.{map};
+ghost use Prim.Native.Nat.{_≤_};
+ghost use lib.ListN.{length};
+ghost use Rattle.kernel.specs.Accepted.{isVolatile, opsOf};
+ghost use Rattle.kernel.specs.Stored.{filled};
 ghost use Rattle.placement.specs.Steps.{stepOf, steps as stepsBy};
+ghost use Rattle.placement.specs.Placed.{stepByte};
 
 // An operation of a chain. A Skip holds its target's position in the chain; the end is the chain's length.
 pub enum Step {
@@ -46,18 +48,28 @@ pub(crate) fn step_of(op: Op, mask: u16) -> Step
     }
 }
 
-// The lane's steps in chain order, and Other behind them.
-pub(crate) fn steps_of(lane: Lane, mask: u16) -> [Step; 64]
-    ensures { λ r. ⌜ ((j : ℕ) → j < 64 → at r j ≡ at (stepsBy (isVolatile mask) (opsIn lane)) j) ⌝ }
+// A step as a byte, since no array of steps can be lent: an access's class below 4, and from 4 up where a SKIP lands.
+fn byte_of(x: Step) -> u8
+    ensures { λ r. ⌜ r ≡ stepByte x ⌝ }
 {
-    let other = Step::Other;
-    let mut out = [other; 64];
-    let n = count(lane.len);
+    match x {
+        Step::Access(c) => number(c) as u8,
+        Step::Skip(t) => if t <= 64 { 4 + t as u8 } else { 4 },
+        Step::Other => 4,
+    }
+}
+
+// The bytes of a lane's steps in chain order, and zeros behind them.
+pub(crate) fn steps_of(s: &[u8], rs: &[u16], mask: u16) -> [u8; 64]
+    requires { ⌜ length (now rs) ≤ 64 ⌝ }
+    ensures { λ r. ⌜
+        r ≡ filled 64 0 (map stepByte (stepsBy (isVolatile mask) (opsOf (now (s .entry)) (now (rs .entry)))))
+        ⌝ }
+{
+    let mut out = [0u8; 64];
     let mut p = 0;
-    while p < n {
-        let slot = lane.slots[p];
-        let op = slot.op;
-        out[p] = step_of(op, mask);
+    while p < rs.len() {
+        out[p] = byte_of(step_of(op_at(s, rs, p), mask));
         p += 1;
     }
     out

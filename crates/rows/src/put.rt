@@ -9,7 +9,8 @@ ghost use Rattle.sheet.specs.Put.{laid};
 use crate::number::low;
 use kernel::accepted::Op;
 
-fn fits(len: usize, at: usize) -> bool
+// Eight bytes from `at` on fit.
+pub(crate) fn fits(len: usize, at: usize) -> bool
     ensures { λ r. ⌜ r ≡ leb (at + 8) len ⌝ }
 {
     if len < 8 { false } else { at <= len - 8 }

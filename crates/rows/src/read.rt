@@ -1,9 +1,10 @@
 // The fields of a sheet, read from its bytes. Past the end every byte reads as 0.
 ghost use mathlib.Core.Path.{_≡_};
-ghost use Prim.Native.Nat.{_<_};
-ghost use lib.ListN.{drop};
+ghost use Prim.Native.Nat.{_+_, _<_, _≤_};
+ghost use lib.ListN.{length, drop};
 ghost use Rattle.kernel.specs.Fields.{byte, word, quad};
 ghost use Rattle.rows.specs.Rows.{rowIn};
+use crate::put::fits;
 
 // The fields of an instruction: its code, a, b, and the constant or the target's position.
 pub struct Row {
@@ -47,10 +48,28 @@ pub fn quad_at(s: &[u8], i: usize) -> u32
     }
 }
 
+// The instruction whose bytes begin at `at`, all eight of them.
+fn whole_row(s: &[u8], at: usize) -> Row
+    requires { ⌜ at + 8 ≤ length (now s) ⌝ }
+    ensures { λ r. ⌜ r ≡ rowIn (drop at (now (s .entry))) ⌝ }
+{
+    let lower = wide(s[at + 4]) + 256 * wide(s[at + 5]);
+    let upper = wide(s[at + 6]) + 256 * wide(s[at + 7]);
+    Row {
+        code: s[at],
+        a: s[at + 1],
+        b: s[at + 2],
+        word: lower + 65536 * upper,
+    }
+}
+
 // The instruction whose bytes begin at `at`.
 pub fn row_at(s: &[u8], at: usize) -> Row
     ensures { λ r. ⌜ r ≡ rowIn (drop at (now (s .entry))) ⌝ }
 {
+    if fits(s.len(), at) {
+        return whole_row(s, at);
+    }
     if at < s.len() {
         Row {
             code: s[at],

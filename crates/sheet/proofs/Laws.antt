@@ -8,5 +8,4 @@ pub mod Part
 pub mod Targets
 pub mod Turn
 pub mod Aim
-pub mod Whole
 pub mod Loaded

@@ -1,6 +1,6 @@
 -- The sheets. Layout: a lane with its barriers; Levels: which of them a level keeps; Bytes: what is written, and what
 -- lowering answers; Read: the instructions that bytes stand for; Relower: a level made from level 1; Items: a lane as
--- placement sees it; Whole: the kernel that the code holds.
+-- placement sees it.
 pub mod Layout
 pub mod Levels
 pub mod Bytes
@@ -8,5 +8,4 @@ pub mod Put
 pub mod Read
 pub mod Relower
 pub mod Items
-pub mod Whole
 pub mod Examples

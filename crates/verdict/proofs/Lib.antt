@@ -1,5 +1,6 @@
--- Laws of the verdict, and the theorems about accepted kernels.
+-- Laws of the verdict, the theorems about accepted kernels, what a refusal names, and how many bytes decide.
 pub mod Laws
 pub mod Lawful
 pub mod Adequate
 pub mod Named
+pub mod Front

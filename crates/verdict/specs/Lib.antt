@@ -1,5 +1,3 @@
--- The verdict on a kernel file: Verdict defines it, Loaded what the code holds after it; Examples computes verdicts
--- from bytes.
+-- The verdict on a kernel file: Verdict defines it; Examples computes verdicts from bytes.
 pub mod Verdict
-pub mod Loaded
 pub mod Examples

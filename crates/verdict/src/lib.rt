@@ -2,11 +2,7 @@
 ghost use mathlib.Core.Path.{_≡_};
 ghost use Rattle.verdict.specs.declared.Refusal.the-variants.{Accepted as accepting};
 ghost use Rattle.verdict.specs.Verdict.{structureThen, refusalOf, numberOf, recordOf};
-ghost use Rattle.verdict.specs.Loaded.{loadedOf};
-use kernel::accepted::Kernel;
-use kernel::accepted::kernel_of;
-use kernel::accepted::no_kernel;
-use kernel::held::lock_fault;
+use holding::lock_fault;
 use kernel::linkage::bad_linkage;
 use kernel::linkage::chain_too_long;
 use kernel::rules::bad_length;
@@ -25,12 +21,6 @@ pub enum Refusal {
     ChainTooLong(usize),
     BadTarget(usize),
     LockFault(usize),
-}
-
-// A file's refusal, and its kernel; an empty one where the file is refused.
-pub struct Loaded {
-    pub refusal: Refusal,
-    pub kernel: Kernel,
 }
 
 // Checks 1 to 7, in the order of the table.
@@ -65,36 +55,19 @@ fn structure(file: &[u8]) -> Refusal
     Refusal::Accepted
 }
 
-// The refusal of a file, or that it is accepted; in that case its kernel, else an empty one.
-pub fn load(file: &[u8]) -> Loaded
-    ensures { λ r. ⌜ r ≡ loadedOf (now (file .entry)) ⌝ }
-{
-    let refusal = structure(file);
-    if let Refusal::Accepted = refusal {
-        let kernel = kernel_of(file);
-        let fault = lock_fault(kernel);
-        if fault != 0 {
-            let none = no_kernel();
-            return Loaded {
-                refusal: Refusal::LockFault(fault),
-                kernel: none,
-            };
-        }
-        return Loaded { refusal, kernel };
-    }
-    let none = no_kernel();
-    Loaded {
-        refusal,
-        kernel: none,
-    }
-}
-
-// The refusal of a kernel file of whatever bytes, or that it is accepted.
+// The refusal of a kernel file of whatever bytes, or that it is accepted: checks 1 to 7, then check 8 on the lanes.
 pub fn check(file: &[u8]) -> Refusal
     ensures { λ r. ⌜ r ≡ refusalOf (now (file .entry)) ⌝ }
 {
-    let loaded = load(file);
-    loaded.refusal
+    let refusal = structure(file);
+    if let Refusal::Accepted = refusal {
+        let fault = lock_fault(file);
+        if fault != 0 {
+            return Refusal::LockFault(fault);
+        }
+        return Refusal::Accepted;
+    }
+    refusal
 }
 
 // The paper's number of a refusal; 0 for an accepted file.

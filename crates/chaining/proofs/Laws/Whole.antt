@@ -1,70 +1,49 @@
--- Laws of the chains of a whole kernel: the size of each, and header and lanes together.
-use Prim.Native.Nat.{ℕ, min, _+_, _*_, _<_}
-use mathlib.Core.Path.{_≡_, refl, sym, ap, _∙_}
-use mathlib.Core.List.{[], _∷_, _++_, map, map-map}
-use native.Mathlib.Omega.{arith}
-use lib.ListN.{length, getD, length-map, List·getD-map}
-use Rattle.kernel.specs.declared.accepted.Kernel.{Kernel}
-use Rattle.kernel.specs.Stored.{opsIn, pastLanes}
+-- Laws of the chains of an accepted file: how many bytes they take, and header and lanes together.
+use Prim.Native.Nat.{ℕ, _+_, _*_, _≤_}
+use mathlib.Core.Path.{_≡_, refl, sym, _∙_}
+use mathlib.Core.List.{List, [], _∷_, _++_, map}
+use lib.ListN.{length, length-map}
+use lib.Seq.{sets}
+use Rattle.kernel.specs.Fields.{laneCount, locations, locks, mask, head}
+use Rattle.kernel.specs.Accepted.{programOf, opsAt}
+use Rattle.verdict.specs.Verdict.{verdict, accepted}
+use Rattle.sheet.specs.declared.Lowered.the-variants.{Wrote}
 use Rattle.sheet.specs.Layout.{op}
-use Rattle.sheet.specs.Levels.{level1}
-use Rattle.sheet.specs.Bytes.{word, joined, laneBytes}
-use Rattle.sheet.specs.Put.{inTurn}
-use Rattle.sheet.specs.Whole.{programIn, Whole}
-use Rattle.sheet.proofs.Laws.Turn.{turn-same, turn-all, turn-four}
-use Rattle.sheet.proofs.Laws.Whole.{ops-are, len-is, count-is}
-use Rattle.chaining.specs.Chains.{chainLanes, chainBytes, opRows, chainAt}
-use Rattle.chaining.proofs.Laws.Lane.{rows-length}
+use Rattle.sheet.specs.Bytes.{word, writeInto}
+use Rattle.sheet.specs.Put.{laid, inTurn}
+use Rattle.sheet.proofs.Laws.Loaded.{body-by, sizes-by, put-by}
+use Rattle.sheet.proofs.Laws.Written.{answer-full}
+use Rattle.chaining.specs.Chains.{chainBytes, chainAt}
 
-module _ (k : Kernel) (w : Whole k) where
-  size-is : (t : ℕ) → t < 4
-      → min (getD (k .lanes) t pastLanes .len) 64 ≡ length (getD (chainLanes (programIn k)) t [])
-  size-is t h =
-      let os = programIn k .lanes in
-      len-is k w t h ∙ ap length (ops-are k w t h)
-      ∙ sym (ap length (List·getD-map (map op) os t []) ∙ length-map (getD os t []) op)
+module _
+    (s : List ℕ) (ok : verdict s ≡ accepted (programOf s)) {a b c d : ℕ} (ea : a ≡ length (opsAt s (head s 0)))
+    (eb : b ≡ length (opsAt s (head s 1))) (ec : c ≡ length (opsAt s (head s 2)))
+    (ed : d ≡ length (opsAt s (head s 3)))
+  where
+    rows-at : {n : ℕ} (t : ℕ) → n ≡ length (opsAt s (head s t)) → n ≡ length (map op (opsAt s (head s t)))
+    rows-at t e = e ∙ sym (length-map (opsAt s (head s t)) op)
 
-  -- the lanes one behind the other
-  lanes-are : inTurn (chainAt k) 4 ≡ joined (map (laneBytes level1) (chainLanes (programIn k)))
-  lanes-are =
-      let os = programIn k .lanes in
-      turn-same (chainAt k) (λ t. opRows (getD os t [])) 4 (λ t h. ap opRows (ops-are k w t h))
-      ∙ turn-all opRows [] refl os 4 (w .lawful .few-lanes)
-      ∙ sym (ap joined (map-map (laneBytes level1) (map op) os))
+    pub chains-size : 16 + 8 * (a + (b + (c + d))) ≡ length (chainBytes (programOf s))
+    unfolding chainBytes
+    chains-size =
+        sizes-by s ok 0 (map op) refl (chainAt s) (λ t h. refl) (rows-at 0 ea) (rows-at 1 eb) (rows-at 2 ec)
+        (rows-at 3 ed)
 
-  abbrev pub lenAt : ℕ → ℕ
-  lenAt t = min (getD (k .lanes) t pastLanes .len) 64
+    pub chains-room : 16 + length (inTurn (chainAt s) 4) ≡ length (chainBytes (programOf s))
+    unfolding chainBytes
+    chains-room =
+        body-by s ok 0 (map op) refl (chainAt s) (λ t h. refl) (rows-at 0 ea) (rows-at 1 eb) (rows-at 2 ec)
+        (rows-at 3 ed)
 
-  module _
-      (a b c d : ℕ) (ea : a ≡ lenAt 0) (eb : b ≡ lenAt 1) (ec : c ≡ lenAt 2) (ed : d ≡ lenAt 3)
-    where
-      pub chain-parts : (k .count ∷ k .locations ∷ k .locks ∷ 0 ∷ word (k .mask) ++ 0 ∷ 0 ∷ [])
-          ++ (word a ++ (word b ++ (word c ++ (word d ++ [])))) ++ inTurn (chainAt k) 4
-          ≡ chainBytes (programIn k)
-      unfolding chainBytes
-      chain-parts =
-          let na = ea ∙ size-is 0 (omega arith) in
-          let nb = eb ∙ size-is 1 (omega arith) in
-          let nc = ec ∙ size-is 2 (omega arith) in
-          let nd = ed ∙ size-is 3 (omega arith) in
-          λ i. (count-is k w i ∷ k .locations ∷ k .locks ∷ 0 ∷ word (k .mask) ++ 0 ∷ 0 ∷ [])
-          ++ (word (na i) ++ (word (nb i) ++ (word (nc i) ++ (word (nd i) ++ [])))) ++ lanes-are i
-
-      pub body-size : 16 + length (inTurn (chainAt k) 4) ≡ length (chainBytes (programIn k))
-      body-size = omega (arith, ap length chain-parts)
-
-      pub parts-size : 16 + 8 * (a + (b + (c + d))) ≡ length (chainBytes (programIn k))
-      parts-size =
-          omega (
-            arith,
-            body-size,
-            turn-four (chainAt k),
-            lane-size 0 (omega arith),
-            lane-size 1 (omega arith),
-            lane-size 2 (omega arith),
-            lane-size 3 (omega arith),
-          )
-        where
-          lane-size : (t : ℕ) → t < 4 → length (chainAt k t) ≡ 8 * lenAt t
-          lane-size t h =
-              rows-length (opsIn (getD (k .lanes) t pastLanes)) ∙ ap (λ n. 8 * n) (sym (len-is k w t h))
+    pub chains-put : {n ls ks m : ℕ} → n ≡ laneCount s → ls ≡ locations s → ks ≡ locks s → m ≡ mask s
+        → {l₁ l₂ l₃ : List ℕ} (buffer : List ℕ) → length (chainBytes (programOf s)) ≤ length buffer
+        → l₁ ≡ laid buffer 0 (n ∷ ls ∷ ks ∷ 0 ∷ word m ++ 0 ∷ 0 ∷ [])
+        → l₂ ≡ laid l₁ 8 (word a ++ (word b ++ (word c ++ (word d ++ []))))
+        → l₃ ≡ sets l₂ 16 (inTurn (chainAt s) 4)
+        → (Wrote (16 + 8 * (a + (b + (c + d)))), l₃) ≡ writeInto (chainBytes (programOf s)) buffer
+    unfolding chainBytes
+    chains-put en els eks em buffer room e₁ e₂ e₃ =
+        answer-full (chainBytes (programOf s)) buffer
+        (put-by s ok 0 (map op) refl (chainAt s) (λ t h. refl) (rows-at 0 ea) (rows-at 1 eb) (rows-at 2 ec)
+        (rows-at 3 ed) en els eks em buffer room e₁ e₂ e₃)
+        chains-size room

@@ -4,6 +4,7 @@ use mathlib.Core.Path.{_≡_, refl, sym}
 use mathlib.Core.List.{List, [], _∷_, map}
 use mathlib.Core.Option.{none, some}
 use native.Mathlib.Omega.{arith}
+use native.Mathlib.Decide.{decLe}
 use lib.ListN.{length, getD, getElem?, take, drop, set, replicate, length-drop, length-take}
 use lib.Seq.{take-all, take-suc, set-at, append-snoc}
 use Rattle.kernel.specs.Stored.{filled}
@@ -48,3 +49,24 @@ fill-on n p l d v room h e =
     let more : n - p ≡ suc (n - suc p) = omega arith in
     rw (one, here, next, more, set-at (take p l) d (replicate (n - suc p) d) v p here, take-suc l p d h, e)
     (sym (append-snoc (take p l) v (replicate (n - suc p) d)))
+
+-- the values of f below n, the last first; two functions with the same values agree below n
+abbrev pub values : {A : Type 0} → (ℕ → A) → ℕ → List A
+values f zero = []
+values f (suc n) = f n ∷ values f n
+
+pub values-at : {A : Type 0} (f g : ℕ → A) (n i : ℕ) → values f n ≡ values g n → i < n → f i ≡ g i
+values-at f g zero i e h = absurd (omega arith)
+values-at f g (suc n) i e h = go (decLe (suc i) n) (values-at f g n i cc)
+  where
+    go : Dec (i < n) → (i < n → f i ≡ g i) → f i ≡ g i
+    go (yes l) ih = ih l
+    go (no l) ih =
+        let last : i ≡ n = omega arith in
+        rw last cc
+
+-- the same of two tables of m by n cells
+pub table-at : {A : Type 0} (f g : ℕ → ℕ → A) (m n : ℕ)
+    → values (λ x. values (f x) n) m ≡ values (λ x. values (g x) n) m
+    → (x y : ℕ) → x < m → y < n → f x y ≡ g x y
+table-at f g m n e x y h k = values-at (f x) (g x) n y (values-at (λ z. values (f z) n) (λ z. values (g z) n) m x e h) k

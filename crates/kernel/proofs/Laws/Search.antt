@@ -1,6 +1,6 @@
 -- Laws of the searches: how a loop goes through one, and what a search that found nothing says.
 use Prim.Native.Nat.{ℕ, zero, suc, _+_, _-_, _≤_, _<_}
-use mathlib.Core.Path.{_≡_, refl, sym, _∙_, ap, ap₂}
+use mathlib.Core.Path.{_≡_, refl, sym, _∙_, ap}
 use mathlib.Core.Bool.{Bool, true, false, false≢true}
 use native.Mathlib.Numerals.{add-one}
 use native.Mathlib.Omega.{arith}
@@ -104,14 +104,6 @@ nothing-named f i (suc k) j e lo hi = go (eqb (f i) 0) refl (decLe (suc i) j) (n
     go true h (no l) ih =
         let same : j ≡ i = omega arith in
         ap f same ∙ eqb-true (f i) 0 h
-
--- names that agree give the same first one
-pub first-same : (f g : ℕ → ℕ) (i k : ℕ) → ((j : ℕ) → j < i + k → f j ≡ g j) → firstOf f i k ≡ firstOf g i k
-unfolding firstOf
-first-same f g i zero e = refl
-first-same f g i (suc k) e =
-    ap₂ (λ (x y : ℕ). elim (eqb x 0) [ true ↦ y | false ↦ x ]) (e i (omega arith))
-    (first-same f g (suc i) k (λ j h. e j (omega arith)))
 
 -- each test of a row that holds
 pub all-at : (xs : List Bool) (n : ℕ) → all xs ≡ true → getD xs n true ≡ true

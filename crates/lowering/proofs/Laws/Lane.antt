@@ -29,7 +29,7 @@ cells-append r (x ∷ xs) ys =
     ∙ sym (append-assoc (map barrier (x .before)) (op (aim r (x .oper)) ∷ cells r xs) (cells r ys))
 
 module _ (pre : ℕ → List Barrier) where
-  pub placed-length : (p : ℕ) (ops : List Op) → length (placedBy pre p ops) ≡ length ops
+  placed-length : (p : ℕ) (ops : List Op) → length (placedBy pre p ops) ≡ length ops
   placed-length p [] = refl
   placed-length p (o ∷ ops) = ap suc (placed-length (suc p) ops)
 
@@ -54,14 +54,14 @@ module _ (pre : ℕ → List Barrier) where
       rw there (placed-at (suc p) ops i (omega arith))
 
   -- where each operation begins
-  pub starts-are : (ops : List Op) (i : ℕ) → i ≤ length ops → start (placedBy pre 0 ops) i ≡ startBy pre i
+  starts-are : (ops : List Op) (i : ℕ) → i ≤ length ops → start (placedBy pre 0 ops) i ≡ startBy pre i
   starts-are ops i h =
       let from : startBy pre 0 + start (placedBy pre 0 ops) i ≡ startBy pre (0 + i) =
       start-by pre 0 i (placedBy pre 0 ops) (stands-so 0 ops) (omega (arith, placed-length 0 ops)) in
       let same : 0 + i ≡ i = omega arith in
       omega (arith, rw same at from)
 
-  pub starts-grow : (p n : ℕ) → p ≤ n → startBy pre p ≤ startBy pre n
+  starts-grow : (p n : ℕ) → p ≤ n → startBy pre p ≤ startBy pre n
   starts-grow p zero h =
       let z : p ≡ 0 = omega arith in
       rw z (omega arith)
@@ -78,7 +78,7 @@ module _ (pre : ℕ → List Barrier) where
     aims = start (placedBy pre 0 ops)
 
     -- the instructions of the first p operations, and their bytes
-    abbrev pub firstCells : ℕ → List Instr
+    abbrev firstCells : ℕ → List Instr
     firstCells p = cells aims (take p (placedBy pre 0 ops))
 
     abbrev pub firstBytes : ℕ → List ℕ
@@ -97,7 +97,7 @@ module _ (pre : ℕ → List Barrier) where
             let z : 0 + p ≡ p = omega arith in
             ap (λ n. placedOp n (getD ops p noOp)) z
 
-    pub first-count : (p : ℕ) → p ≤ length ops → length (firstCells p) ≡ startBy pre p
+    first-count : (p : ℕ) → p ≤ length ops → length (firstCells p) ≡ startBy pre p
     first-count zero h = refl
     first-count (suc p) h =
         omega (
@@ -109,11 +109,11 @@ module _ (pre : ℕ → List Barrier) where
           length-map (pre p) barrier,
         )
 
-    pub first-length : (p : ℕ) → p ≤ length ops → length (firstBytes p) ≡ 8 * startBy pre p
+    first-length : (p : ℕ) → p ≤ length ops → length (firstBytes p) ≡ 8 * startBy pre p
     first-length p h = lane-bytes level1 (firstCells p) ∙ ap (λ n. 8 * n) (first-count p h)
 
     -- one operation more, whose target is v where it is a SKIP
-    pub first-suc : (p v : ℕ) → p < length ops → aim (λ t. v) (getD ops p noOp) ≡ aim aims (getD ops p noOp)
+    first-suc : (p v : ℕ) → p < length ops → aim (λ t. v) (getD ops p noOp) ≡ aim aims (getD ops p noOp)
         → firstBytes (suc p) ≡ firstBytes p ++ stepBytes (pre p) (getD ops p noOp) v
     first-suc p v h e =
         ap (laneBytes level1) (cells-suc p h)
@@ -131,10 +131,21 @@ module _ (pre : ℕ → List Barrier) where
         (λ t j. let l = within p (getD ops p noOp) t (at-some ops p noOp h) j in
         s .each t l ∙ sym (starts-are ops t (omega arith)))
 
+    -- all of them
+    cells-all : (p : ℕ) → length ops ≤ p → firstCells p ≡ sheet (placedBy pre 0 ops)
+    cells-all p h = ap (cells aims) (take-all p (placedBy pre 0 ops) (omega (arith, placed-length 0 ops)))
+
+    pub first-all : (p : ℕ) → length ops ≤ p → firstBytes p ≡ laneBytes level1 (sheet (placedBy pre 0 ops))
+    first-all p h = ap (laneBytes level1) (cells-all p h)
+
+    pub lane-count : length (sheet (placedBy pre 0 ops)) ≡ startBy pre (length ops)
+    lane-count =
+        sym (ap length (cells-all (length ops) (omega arith))) ∙ first-count (length ops) (omega arith)
+
     module _ (p v : ℕ) (h : p < length ops) (e : aim (λ t. v) (getD ops p noOp) ≡ aim aims (getD ops p noOp)) where
       -- there is room for it, and what is written then
-      pub lane-room : length (firstBytes p) + length (stepBytes (pre p) (getD ops p noOp) v) ≤ 8 * startBy pre
-          (length ops)
+      pub lane-room : length (firstBytes p) + length (stepBytes (pre p) (getD ops p noOp) v) ≤ length
+          (laneBytes level1 (sheet (placedBy pre 0 ops)))
       lane-room =
           omega (
             arith,
@@ -142,6 +153,8 @@ module _ (pre : ℕ → List Barrier) where
             length-append (firstBytes p) (stepBytes (pre p) (getD ops p noOp) v),
             first-length (suc p) (omega arith),
             starts-grow (suc p) (length ops) (omega arith),
+            first-length (length ops) (omega arith),
+            ap length (first-all (length ops) (omega arith)),
           )
 
       pub lane-put : {buffer out out′ : List ℕ} {i i′ : ℕ} → Puts buffer 0 (firstBytes p) out i
@@ -149,8 +162,3 @@ module _ (pre : ℕ → List Barrier) where
       lane-put were put =
           let one : suc p ≡ p + 1 = omega arith in
           puts-as (sym (first-suc p v h e) ∙ ap firstBytes one) (puts-on were put)
-
-    -- all of them
-    pub first-all : (p : ℕ) → length ops ≤ p → firstBytes p ≡ laneBytes level1 (sheet (placedBy pre 0 ops))
-    first-all p h =
-        ap (λ l. laneBytes level1 (cells aims l)) (take-all p (placedBy pre 0 ops) (omega (arith, placed-length 0 ops)))

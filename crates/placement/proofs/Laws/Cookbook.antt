@@ -1,12 +1,12 @@
 -- Laws of the cookbook table, each by one computed test of every class and every barrier.
 use Prim.Native.Nat.{ℕ, _≤_}
 use mathlib.Core.Path.{_≡_, refl, sym, _∙_, ap, subst}
-use mathlib.Core.Bool.{Bool, true, not, _&&_, cond, false≢true}
+use mathlib.Core.Bool.{Bool, true, _&&_, cond, false≢true}
 use mathlib.Core.List.{List, [], _∷_}
 use mathlib.Core.Option.{Option, none, some}
 use lib.Dec.{eqb, leb}
 use lib.ListN.{getD}
-use borrow.Author.Tests.{eqb-true, leb-true, eq-eqb, not-true}
+use borrow.Author.Tests.{eqb-true, leb-true, eq-eqb}
 use Rattle.placement.specs.Cookbook.{Class, PL, PS, VL, VS, Barrier, LL, LS, SS, SL}
 use Rattle.placement.specs.Cookbook.{cell, codeOf, cellCode, numberOf, same, holds, calls}
 use Rattle.placement.proofs.Laws.Bools.{all-four}
@@ -55,14 +55,6 @@ calls-cell b c d h = holds-true (cell c d) b h
 
 pub cell-calls : (b : Barrier) (c d : Class) → cell c d ≡ some b → calls b c d ≡ true
 cell-calls b c d h = subst (λ (o : Option Barrier). holds o b ≡ true) (sym h) (same-refl b)
-
--- the test by codes: no barrier's code is 0
-code-holds : (o : Option Barrier) (b : Barrier) → eqb (cellCode o) (codeOf b) ≡ holds o b
-code-holds none b = not-true (eqb 0 (codeOf b)) (barrier-at (λ a. not (eqb 0 (codeOf a))) refl b)
-code-holds (some a) b = refl
-
-pub code-calls : (b : Barrier) (c d : Class) → eqb (cellCode (cell c d)) (codeOf b) ≡ calls b c d
-code-calls b c d = code-holds (cell c d) b
 
 -- the code's constant: a row for each class of the earlier access, a column for each of the later one
 abbrev pub table : List (List ℕ)

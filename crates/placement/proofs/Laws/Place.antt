@@ -2,7 +2,7 @@
 use Prim.Native.Nat.{ℕ, zero, suc, _<_}
 use native.Mathlib.Omega.{arith}
 use mathlib.Core.Path.{_≡_, refl, sym, ap, subst}
-use mathlib.Core.Bool.{Bool, true, false, false≢true}
+use mathlib.Core.Bool.{Bool, true, false≢true}
 use mathlib.Core.List.{[], _∷_}
 use mathlib.Core.Option.{some}
 use mathlib.Core.Logic.{_⊎_, inl, inr}
@@ -12,31 +12,14 @@ use borrow.Author.Tests.{eqb-true, eq-eqb}
 use Rattle.placement.specs.Cookbook.{Class, PL, PS, VL, VS, Barrier, cell}
 use Rattle.placement.specs.Chain.{Step, Access, Skip, Other, Chain, at, Next}
 use Rattle.placement.specs.Place.{has, classes, standsAt, raises, jumps, leads}
-use Rattle.placement.specs.Placed.{rowsOf, rowOf}
 use Rattle.placement.proofs.Laws.Bools.{or-true, or-left, or-right}
 use Rattle.placement.proofs.Laws.Cookbook.{calls-cell}
-
-pub classes-ext : {f g : Class → Bool} → ((c : Class) → f c ≡ g c) → classes f ≡ classes g
-classes-ext h = λ i. record { pl = h PL i; ps = h PS i; vl = h VL i; vs = h VS i }
 
 pub has-classes : (f : Class → Bool) (c : Class) → has (classes f) c ≡ f c
 has-classes f PL = refl
 has-classes f PS = refl
 has-classes f VL = refl
 has-classes f VS = refl
-
-pub row-raises : (b : Barrier) (x : Step) → rowOf (rowsOf b) x ≡ classes (raises b x)
-row-raises b (Access PL) = refl
-row-raises b (Access PS) = refl
-row-raises b (Access VL) = refl
-row-raises b (Access VS) = refl
-row-raises b (Skip t) = refl
-row-raises b Other = refl
-
-pub stands-classes : (x : Step) (f : Class → Bool) → standsAt x (has (classes f)) ≡ standsAt x f
-stands-classes (Access c) f = has-classes f c
-stands-classes (Skip t) f = refl
-stands-classes Other f = refl
 
 jumps-skip : (x : Step) (p : ℕ) → jumps x p ≡ true → x ≡ Skip p
 jumps-skip (Access c) p h = absurd (false≢true h)

@@ -1,47 +1,35 @@
--- The steps of a lane as the code holds it.
-use Prim.Native.Nat.{ℕ, _<_, _≤_, min}
-use native.Mathlib.Nat.{min-le-left, min-le-right}
-use native.Mathlib.Omega.{arith}
-use mathlib.Core.Path.{_≡_, sym, _∙_, ap}
+-- The steps of a lane, as the bytes that the code holds.
+use Prim.Native.Nat.{ℕ, _<_}
+use mathlib.Core.Path.{_≡_, refl, sym, ap, ap₂, _∙_}
 use mathlib.Core.Bool.{Bool}
-use mathlib.Core.List.{List}
-use mathlib.Core.Logic.{inl, inr}
-use lib.ListN.{length, getD, take, length-map, length-take, List·getD-eq-default}
-use lib.Seq.{getD-take}
-use Rattle.kernel.specs.declared.accepted.Slot.{Slot}
-use Rattle.kernel.specs.declared.accepted.Lane.{Lane}
-use Rattle.kernel.specs.Stored.{opsIn}
+use mathlib.Core.List.{List, map}
+use lib.ListN.{length, getD, take, length-map}
+use Rattle.kernel.specs.Accepted.{opsOf}
+use Rattle.kernel.specs.Stored.{filled, noOp}
 use Rattle.kernel.proofs.Laws.Lists.{map-at}
-use Rattle.placement.specs.Chain.{Chain, Other, at}
+use Rattle.kernel.proofs.Laws.Stored.{opsFrom-length, filled-front}
+use Rattle.placement.specs.Chain.{Chain, Other}
+use Rattle.placement.specs.Placed.{stepByte}
 use Rattle.placement.specs.Steps.{stepOf, steps}
-use Rattle.placement.proofs.Laws.Lists.{lt-or-le}
+use Rattle.placement.proofs.Laws.Bytes.{byte-at, bytes-length}
 
-module _ (vol : ℕ → Bool) (l : Lane) where
-  pub length-steps : length (steps vol (opsIn l)) ≡ min (l .len) (length (l .slots))
-  length-steps =
-      length-map (opsIn l) (stepOf vol) ∙ length-map (take (l .len) (l .slots)) (λ x. x .op)
-      ∙ length-take (l .len) (l .slots)
+module _ (vol : ℕ → Bool) (s rs : List ℕ) where
+  abbrev chain : Chain
+  chain = steps vol (opsOf s rs)
 
-  pub step-at : (p : ℕ) (d : Slot) → p < l .len → p < length (l .slots)
-      → at (steps vol (opsIn l)) p ≡ stepOf vol (getD (l .slots) p d .op)
-  step-at p d h k =
-      let inside : p < length (take (l .len) (l .slots)) = omega (arith, length-take (l .len) (l .slots)) in
-      map-at (stepOf vol) (opsIn l) p (d .op) Other
-      (rw (length-map (take (l .len) (l .slots)) (λ (x : Slot). x .op)) inside)
-      ∙ ap (stepOf vol) (map-at (λ (x : Slot). x .op) (take (l .len) (l .slots)) p d (d .op) inside)
-      ∙ ap (λ (x : Slot). stepOf vol (x .op)) (getD-take (l .len) (l .slots) p d h)
+  pub length-steps : length chain ≡ length rs
+  length-steps = length-map (opsOf s rs) (stepOf vol) ∙ opsFrom-length s 0 rs
 
-  pub step-behind : (p : ℕ) → l .len ≤ p → at (steps vol (opsIn l)) p ≡ Other
-  step-behind p h =
-      List·getD-eq-default (steps vol (opsIn l)) Other
-      (omega (arith, length-steps, min-le-left (l .len) (length (l .slots))))
+  pub length-bytes : length (map stepByte chain) ≡ length rs
+  length-bytes = bytes-length chain (map stepByte chain) refl ∙ length-steps
 
-  -- the first steps of an array that holds the lane's steps are the lane's steps
-  pub steps-taken : (r : Chain) → length (l .slots) ≡ 64 → ((j : ℕ) → j < 64 → at r j ≡ at (steps vol (opsIn l)) j)
-      → (j : ℕ) → at (take (min (l .len) 64) r) j ≡ at (steps vol (opsIn l)) j
-  steps-taken r e h j = elim (lt-or-le j (min (l .len) 64)) [
-    | inl b ↦ getD-take (min (l .len) 64) r j Other b ∙ h j (omega (arith, min-le-right (l .len) 64))
-    | inr b ↦ List·getD-eq-default (take (min (l .len) 64) r) Other
-        (omega (arith, length-take (min (l .len) 64) r, min-le-left (min (l .len) 64) (length r)))
-        ∙ sym (List·getD-eq-default (steps vol (opsIn l)) Other (omega (arith, length-steps, ap (min (l .len)) e)))
-  ]
+  pub lane-byte : (p : ℕ) → p < length rs
+      → getD (map stepByte chain) p 0 ≡ stepByte (stepOf vol (getD (opsOf s rs) p noOp))
+  lane-byte p h =
+      byte-at chain (map stepByte chain) refl p (rw length-bytes h)
+      ∙ ap stepByte (map-at (stepOf vol) (opsOf s rs) p noOp Other (rw (opsFrom-length s 0 rs) h))
+
+  -- the code's array holds the bytes in front
+  pub lane-front : (r : List ℕ) → r ≡ filled 64 0 (map stepByte chain) → take (length rs) r ≡ map stepByte chain
+  lane-front r e =
+      ap₂ take (sym length-bytes) e ∙ filled-front 64 0 (map stepByte chain)

@@ -30,6 +30,15 @@ quad-at s k =
     let e7 = shifted s k 7 (k + 4 + 2 + 1) (omega arith) in
     omega (arith, e4, e5, e6, e7)
 
+-- the 32-bit field behind four bytes, from its own four
+pub quad-of : (s : List ℕ) (k : ℕ) {a b c d : ℕ} → a ≡ byte s (k + 4) → b ≡ byte s (k + 5) → c ≡ byte s (k + 6)
+    → d ≡ byte s (k + 7) → a + 256 * b + 65536 * (c + 256 * d) ≡ quad s (k + 4)
+quad-of s k ea eb ec ed =
+    let e5 : byte s (k + 5) ≡ byte s (k + 4 + 1) = ap (byte s) (omega arith) in
+    let e6 : byte s (k + 6) ≡ byte s (k + 4 + 2) = ap (byte s) (omega arith) in
+    let e7 : byte s (k + 7) ≡ byte s (k + 4 + 2 + 1) = ap (byte s) (omega arith) in
+    omega (arith, ea, eb, ec, ed, e5, e6, e7)
+
 -- the row whose bytes begin at k
 pub row-is : (s : List ℕ) (k : ℕ) {o a b c : ℕ} → o ≡ byte s k → a ≡ byte s (k + 1) → b ≡ byte s (k + 2)
     → c ≡ quad s (k + 4) → _≡_ {A = Row} (record { code = o; a = a; b = b; word = c }) (rowIn (drop k s))

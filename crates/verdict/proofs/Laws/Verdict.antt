@@ -5,7 +5,7 @@ use mathlib.Core.List.{List, [], _∷_}
 use mathlib.Core.Bool.{Bool, true, false, not, cond}
 use mathlib.Core.Logic.{_⊎_, inl, inr}
 use native.Mathlib.Omega.{arith}
-use borrow.Author.Tests.{eqb-true, ne-eqb, not-false}
+use borrow.Author.Tests.{eqb-true, not-false}
 use lib.ListN.{length}
 use lib.Dec.{ltb, eqb}
 use types.Run.{OneOf, miss}
@@ -23,8 +23,6 @@ use Rattle.kernel.specs.Accepted.{Program, programOf}
 use Rattle.kernel.specs.Held.{lockFault}
 use Rattle.verdict.specs.Verdict.{unless, structureThen, refusalOf, numberOf, accepted}
 use Rattle.verdict.specs.Verdict.{verdict, verdictFrom}
-use Rattle.kernel.specs.Stored.{stored, noProgram}
-use Rattle.verdict.specs.Loaded.{kernelBy, loadedOf}
 
 -- a check hands everything on, or refuses whatever comes after it
 abbrev Check : (Refusal → Refusal) → Type 0
@@ -158,11 +156,3 @@ refused-tag (BadLinkage r) k = omega arith
 refused-tag (ChainTooLong r) k = omega arith
 refused-tag (BadTarget r) k = omega arith
 refused-tag (LockFault r) k = omega arith
-
-pub refused-kernel : (r : Refusal) (k : Program) → 0 < numberOf r → kernelBy (verdictFrom r k) ≡ stored noProgram
-refused-kernel r k h = rw (ne-eqb (numberOf r) 0 (λ e. omega arith))
-
--- what is loaded, by the refusal
-pub loaded-as : (s : List ℕ) (r : Refusal)
-    → r ≡ refusalOf s → record { refusal = r; kernel = kernelBy (verdictFrom r (programOf s)) } ≡ loadedOf s
-loaded-as s r e = λ i. record { refusal = e i; kernel = kernelBy (verdictFrom (e i) (programOf s)) }

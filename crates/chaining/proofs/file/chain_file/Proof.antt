@@ -1,18 +1,16 @@
 -- `chaining::file::chain_file` meets its contract.
-use mathlib.Core.Path.{sym, ap, _∙_, subst}
+use mathlib.Core.Path.{sym, ap, _∙_}
 use native.Mathlib.Omega.{arith}
-use Rattle.verdict.specs.declared.Loaded.{Loaded}
 use Rattle.verdict.specs.Verdict.{numberOf, recordOf}
 use Rattle.sheet.specs.declared.Lowered.the-variants.{Refuses}
-use Rattle.sheet.specs.Whole.{Whole}
-use Rattle.sheet.proofs.Laws.Loaded.{refused-by, whole-loaded, answered-by}
+use Rattle.sheet.proofs.Laws.Loaded.{refused-by, accepted-by, answered-by}
 use Rattle.chaining.specs.Chains.{chainBytes}
 use borrow.Author.Needs.{needs}
 use Rattle.chaining.proofs.file.chain_file.Statement.{statement}
 use Rattle.chaining.proofs.file.chain_file.Tie as tie
 
-load-requires : tie.Need-load-requires
-load-requires c κs = search needs
+check-requires : tie.Need-check-requires
+check-requires c κs = search needs
 
 number-of-requires : tie.Need-number-of-requires
 number-of-requires c κs = search needs
@@ -22,22 +20,19 @@ record-of-requires c κs = search needs
 
 returns : tie.Need-returns
 returns c =
-    let s = c .before .before .before in
-    let a = s .before .before .before .args in
-    let number =
-    c .before .before .number-of .ensures ∙ ap (λ (x : Loaded). numberOf (x .refusal)) (s .load .ensures) in
-    let record-is = c .record-of .ensures ∙ ap (λ (x : Loaded). recordOf (x .refusal)) (s .load .ensures) in
+    let n = c .before .before in
+    let a = n .before .before .before .before .args in
+    let number = n .number-of .ensures ∙ ap numberOf (n .before .check .ensures) in
+    let record-is = c .record-of .ensures ∙ ap recordOf (n .before .check .ensures) in
     (λ i. (Refuses (number i) (record-is i), a .out .now))
     ∙ sym (refused-by (a .file .now) chainBytes (a .out .now) (omega (arith, number, c .before .if1 .taken)))
 
 write-chains-of-requires : tie.Need-write-chains-of-requires
 write-chains-of-requires c κs =
-    let s = c .before .before .before in
-    let a = s .before .before .before .args in
-    let number =
-    c .before .before .number-of .ensures ∙ ap (λ (x : Loaded). numberOf (x .refusal)) (s .load .ensures) in
-    subst (λ (x : Loaded). Whole (x .kernel)) (sym (s .load .ensures))
-    (whole-loaded (a .file .now) (omega (arith, number, c .before .if1 .left)))
+    let n = c .before .before in
+    let a = n .before .before .before .before .args in
+    let number = n .number-of .ensures ∙ ap numberOf (n .before .check .ensures) in
+    accepted-by (a .file .now) (omega (arith, number, c .before .if1 .left))
 
 same-length : tie.Need-same-length
 same-length c = search needs
@@ -45,18 +40,17 @@ same-length c = search needs
 returns-2 : tie.Need-returns-2
 returns-2 c =
     let i = c .before .before .before .before in
-    let s = i .before .before in
-    let a = s .before .before .before .args in
-    let number =
-    i .before .number-of .ensures ∙ ap (λ (x : Loaded). numberOf (x .refusal)) (s .load .ensures) in
-    c .before .before .write-chains-of .ensures
-    ∙ answered-by (a .file .now) (omega (arith, number, i .if1 .left)) chainBytes (a .out .now) (s .load .ensures)
+    let n = i .before in
+    let a = n .before .before .before .before .args in
+    let number = n .number-of .ensures ∙ ap numberOf (n .before .check .ensures) in
+    let ok = accepted-by (a .file .now) (omega (arith, number, i .if1 .left)) in
+    c .before .before .write-chains-of .ensures ∙ answered-by (a .file .now) ok chainBytes (a .out .now)
 
 pub chain-file-spec : {M : Type 1} → statement M
 chain-file-spec =
     tie.close
     (tie.spec
-    load-requires
+    check-requires
     number-of-requires
     record-of-requires
     returns

@@ -1,11 +1,10 @@
 -- `chaining::lane::write_chain` meets its contract. What is written is the rows of the operations passed.
 use Prim.Native.Nat.{_≤_, _-_, _*_}
-use lib.ListN.{length, getD, take}
-use mathlib.Core.List.{map}
-use mathlib.Core.Path.{_≡_, ap, sym, _∙_}
+use lib.ListN.{length, take}
+use mathlib.Core.Path.{sym}
 use native.Mathlib.Omega.{arith}
-use Rattle.kernel.specs.Stored.{noOp, noSlot, opsIn}
-use Rattle.kernel.proofs.Laws.Sets.{slots-room, slots-cut, cut-length, cut-at}
+use Rattle.kernel.specs.Accepted.{opsOf}
+use Rattle.kernel.proofs.Laws.Stored.{opsFrom-length}
 use Rattle.sheet.specs.Put.{Puts}
 use Rattle.sheet.proofs.Laws.Put.{puts-none, puts-as, puts-end, puts-length}
 use Rattle.chaining.specs.Chains.{opRows}
@@ -15,23 +14,16 @@ use Rattle.chaining.proofs.lane.write_chain.Statement.{statement}
 use Rattle.chaining.proofs.lane.write_chain.Tie as tie
 
 abbrev Inv-loop : tie.InvT-loop
-Inv-loop out₀ slots n p₀ out p =
-    (p ≤ n) × Puts out₀ 0 (opRows (take p (map (λ x. x .op) (take n slots)))) out (8 * p)
+Inv-loop out₀ s rs n p₀ out p = (p ≤ n) × Puts out₀ 0 (opRows (take p (opsOf s rs))) out (8 * p)
 
 abbrev μ-loop : tie.MeasureT-loop
-μ-loop out₀ slots n p₀ out p = n - p
-
-count-requires : tie.Need-count-requires Inv-loop μ-loop
-count-requires c κs = search needs
+μ-loop out₀ s rs n p₀ out p = n - p
 
 loop-holds : tie.Need-loop-holds Inv-loop μ-loop
 loop-holds c = (omega arith, puts-none)
 
-mul-slot : tie.Need-mul-slot Inv-loop μ-loop
-mul-slot c = omega arith
-
-array-copy-out-slot : tie.Need-array-copy-out-slot Inv-loop μ-loop
-array-copy-out-slot c = omega arith
+op-at-requires : tie.Need-op-at-requires Inv-loop μ-loop
+op-at-requires c κs = search needs
 
 target-in-requires : tie.Need-target-in-requires Inv-loop μ-loop
 target-in-requires c κs = search needs
@@ -51,24 +43,14 @@ loop-less c = omega arith
 loop-again : tie.Need-loop-again Inv-loop μ-loop
 loop-again c =
     let c4 = c .before .before .before .before in
-    let c8 = c4 .before .before .before .before in
-    let a = c8 .before .before .before in
-    let n = c8 .count .result in
-    let slots = a .args .lane .slots in
-    let room = slots-room (a .args .lane) _ (a .good .1 .0) in
-    let small : n ≤ length slots = omega (arith, room) in
-    let ops = map (λ x. x .op) (take n slots) in
-    let len-is : length ops ≡ n = cut-length (λ x. x .op) n slots small in
-    let whole : opsIn (a .args .lane) ≡ ops = slots-cut (λ x. x .op) (a .args .lane) n (c8 .count .ensures) room in
     let l = c4 .before .before .before .loop in
-    let test = c4 .before .before .loop-test .taken in
-    let op-is : getD ops (l .p) noOp ≡ getD slots (l .p) noSlot .op =
-    cut-at (λ x. x .op) n slots (l .p) noSlot noOp small test in
-    let fits : 8 * length ops ≤ length (a .args .out .now) =
-    omega (arith, rows-length ops, ap (λ z. length (opRows z)) whole, a .pre) in (
+    let a = c4 .before .before .before .before .before .before .before in
+    let ops = opsOf (a .args .s .now) (a .args .rs .now) in
+    let all = opsFrom-length (a .args .s .now) 0 (a .args .rs .now) in
+    let fits : 8 * length ops ≤ length (a .args .out .now) = omega (arith, rows-length ops, a .pre .1) in (
       omega arith,
-      row-put ops (l .p) (c4 .target-in .result) (l .inv .1) (omega (arith, len-is, test)) fits op-is
-          (c4 .target-in .ensures) (c .before .before .put-op .ensures),
+      row-put ops (l .p) (c4 .target-in .result) (l .inv .1) (omega (arith, all, c4 .before .before .loop-test .taken))
+          fits (sym (c4 .before .op-at .ensures)) (c4 .target-in .ensures) (c .before .before .put-op .ensures),
     )
 
 mul-result : tie.Need-mul-result Inv-loop μ-loop
@@ -80,17 +62,11 @@ same-length c = puts-length (c .before .loop .inv .1)
 returns : tie.Need-returns Inv-loop μ-loop
 returns c =
     let a = c .before .before .before .before .before in
-    let n = c .before .before .count .result in
-    let slots = a .args .lane .slots in
-    let room = slots-room (a .args .lane) _ (a .good .1 .0) in
-    let small : n ≤ length slots = omega (arith, room) in
-    let ops = map (λ x. x .op) (take n slots) in
-    let len-is : length ops ≡ n = cut-length (λ x. x .op) n slots small in
-    let whole : opsIn (a .args .lane) ≡ ops =
-    slots-cut (λ x. x .op) (a .args .lane) n (c .before .before .count .ensures) room in
     let l = c .before .loop in
-    let all = rows-all ops (l .p) (omega (arith, len-is, c .loop-test .left)) in
-    puts-end (puts-as (all ∙ ap opRows (sym whole)) (l .inv .1)) (omega (arith, c .loop-test .left))
+    let ops = opsOf (a .args .s .now) (a .args .rs .now) in
+    let all = opsFrom-length (a .args .s .now) 0 (a .args .rs .now) in
+    puts-end (puts-as (rows-all ops (l .p) (omega (arith, all, c .loop-test .left))) (l .inv .1))
+    (omega (arith, c .loop-test .left))
 
 pub write-chain-spec : {M : Type 1} → statement M
 write-chain-spec =
@@ -98,10 +74,8 @@ write-chain-spec =
     (tie.spec
     Inv-loop
     μ-loop
-    count-requires
     loop-holds
-    mul-slot
-    array-copy-out-slot
+    op-at-requires
     target-in-requires
     mul-put-op
     put-op-requires

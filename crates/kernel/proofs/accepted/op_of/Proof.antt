@@ -1,6 +1,6 @@
 -- `kernel::accepted::op_of` meets its contract.
 use borrow.Author.Tests.{eq-eqb, ne-eqb}
-use mathlib.Core.Path.{refl}
+use mathlib.Core.Path.{refl, ap}
 use Rattle.kernel.specs.Accepted.{opOf}
 use borrow.Author.Needs.{needs}
 use Rattle.kernel.proofs.accepted.op_of.Statement.{statement}
@@ -12,26 +12,8 @@ mul-at c = search needs
 add-at : tie.Need-add-at
 add-at c = search needs
 
-byte-at-requires : tie.Need-byte-at-requires
-byte-at-requires c κs = search needs
-
-add-byte-at : tie.Need-add-byte-at
-add-byte-at c = search needs
-
-byte-at-requires-2 : tie.Need-byte-at-requires-2
-byte-at-requires-2 c κs = search needs
-
-cast-a : tie.Need-cast-a
-cast-a c = search needs
-
-add-byte-at-2 : tie.Need-add-byte-at-2
-add-byte-at-2 c = search needs
-
-byte-at-requires-3 : tie.Need-byte-at-requires-3
-byte-at-requires-3 c κs = search needs
-
-cast-b : tie.Need-cast-b
-cast-b c = search needs
+four-at-requires : tie.Need-four-at-requires
+four-at-requires c κs = search needs
 
 add-quad-at : tie.Need-add-quad-at
 add-quad-at c = search needs
@@ -44,75 +26,87 @@ cast-t15 c = search needs
 
 returns : tie.Need-returns
 unfolding opOf
-returns c = rw (
-  c .quad-at .ensures .0,
-  c .before .before .before .byte-at2 .ensures .0,
-  ← (c .before .before .before .before .byte-at .ensures .0),
-  eq-eqb _ _ (c .before .if1 .taken),
-)
+returns c =
+    let bytes = c .before .before .four-at .ensures in
+    rw (
+      c .quad-at .ensures .0,
+      ap (λ x. x .b) bytes,
+      ← ap (λ x. x .a) bytes,
+      eq-eqb _ _ (c .before .if1 .taken),
+    )
     refl
 
 returns-2 : tie.Need-returns-2
 unfolding opOf
-returns-2 c = rw (
-  c .before .before .byte-at3 .ensures .0,
-  c .before .before .before .byte-at2 .ensures .0,
-  ← (c .before .before .before .before .byte-at .ensures .0),
-  ne-eqb _ _ (c .before .if1 .left),
-  eq-eqb _ _ (c .if2 .taken),
-)
+returns-2 c =
+    let bytes = c .before .before .four-at .ensures in
+    rw (
+      ap (λ x. x .b) bytes,
+      ap (λ x. x .c) bytes,
+      ← ap (λ x. x .a) bytes,
+      ne-eqb _ _ (c .before .if1 .left),
+      eq-eqb _ _ (c .if2 .taken),
+    )
     refl
 
 returns-3 : tie.Need-returns-3
 unfolding opOf
-returns-3 c = rw (
-  c .before .before .before .byte-at3 .ensures .0,
-  c .before .before .before .before .byte-at2 .ensures .0,
-  ← (c .before .before .before .before .before .byte-at .ensures .0),
-  ne-eqb _ _ (c .before .before .if1 .left),
-  ne-eqb _ _ (c .before .if2 .left),
-  eq-eqb _ _ (c .if3 .taken),
-)
+returns-3 c =
+    let bytes = c .before .before .before .four-at .ensures in
+    rw (
+      ap (λ x. x .b) bytes,
+      ap (λ x. x .c) bytes,
+      ← ap (λ x. x .a) bytes,
+      ne-eqb _ _ (c .before .before .if1 .left),
+      ne-eqb _ _ (c .before .if2 .left),
+      eq-eqb _ _ (c .if3 .taken),
+    )
     refl
 
 returns-4 : tie.Need-returns-4
 unfolding opOf
-returns-4 c = rw (
-  c .before .before .before .before .byte-at3 .ensures .0,
-  c .before .before .before .before .before .byte-at2 .ensures .0,
-  ← (c .before .before .before .before .before .before .byte-at .ensures .0),
-  ne-eqb _ _ (c .before .before .before .if1 .left),
-  ne-eqb _ _ (c .before .before .if2 .left),
-  ne-eqb _ _ (c .before .if3 .left),
-  eq-eqb _ _ (c .if4 .taken),
-)
+returns-4 c =
+    let bytes = c .before .before .before .before .four-at .ensures in
+    rw (
+      ap (λ x. x .b) bytes,
+      ap (λ x. x .c) bytes,
+      ← ap (λ x. x .a) bytes,
+      ne-eqb _ _ (c .before .before .before .if1 .left),
+      ne-eqb _ _ (c .before .before .if2 .left),
+      ne-eqb _ _ (c .before .if3 .left),
+      eq-eqb _ _ (c .if4 .taken),
+    )
     refl
 
 returns-5 : tie.Need-returns-5
 unfolding opOf
-returns-5 c = rw (
-  c .before .before .before .before .before .byte-at3 .ensures .0,
-  ← (c .before .before .before .before .before .before .before .byte-at .ensures .0),
-  ne-eqb _ _ (c .before .before .before .before .if1 .left),
-  ne-eqb _ _ (c .before .before .before .if2 .left),
-  ne-eqb _ _ (c .before .before .if3 .left),
-  ne-eqb _ _ (c .before .if4 .left),
-  eq-eqb _ _ (c .if5 .taken),
-)
+returns-5 c =
+    let bytes = c .before .before .before .before .before .four-at .ensures in
+    rw (
+      ap (λ x. x .c) bytes,
+      ← ap (λ x. x .a) bytes,
+      ne-eqb _ _ (c .before .before .before .before .if1 .left),
+      ne-eqb _ _ (c .before .before .before .if2 .left),
+      ne-eqb _ _ (c .before .before .if3 .left),
+      ne-eqb _ _ (c .before .if4 .left),
+      eq-eqb _ _ (c .if5 .taken),
+    )
     refl
 
 returns-6 : tie.Need-returns-6
 unfolding opOf
-returns-6 c = rw (
-  c .before .before .before .before .before .before .byte-at3 .ensures .0,
-  ← (c .before .before .before .before .before .before .before .before .byte-at .ensures .0),
-  ne-eqb _ _ (c .before .before .before .before .before .if1 .left),
-  ne-eqb _ _ (c .before .before .before .before .if2 .left),
-  ne-eqb _ _ (c .before .before .before .if3 .left),
-  ne-eqb _ _ (c .before .before .if4 .left),
-  ne-eqb _ _ (c .before .if5 .left),
-  eq-eqb _ _ (c .if6 .taken),
-)
+returns-6 c =
+    let bytes = c .before .before .before .before .before .before .four-at .ensures in
+    rw (
+      ap (λ x. x .c) bytes,
+      ← ap (λ x. x .a) bytes,
+      ne-eqb _ _ (c .before .before .before .before .before .if1 .left),
+      ne-eqb _ _ (c .before .before .before .before .if2 .left),
+      ne-eqb _ _ (c .before .before .before .if3 .left),
+      ne-eqb _ _ (c .before .before .if4 .left),
+      ne-eqb _ _ (c .before .if5 .left),
+      eq-eqb _ _ (c .if6 .taken),
+    )
     refl
 
 add-q : tie.Need-add-q
@@ -130,23 +124,25 @@ position-of-requires c κs = search needs
 add-q-2 : tie.Need-add-q-2
 add-q-2 c = search needs
 
-cast-t18 : tie.Need-cast-t18
-cast-t18 c = search needs
+cast-t19 : tie.Need-cast-t19
+cast-t19 c = search needs
 
 returns-7 : tie.Need-returns-7
 unfolding opOf
-returns-7 c = rw (
-  c .position-of .ensures .0,
-  c .before .word-at .ensures .0,
-  c .before .before .before .before .before .before .before .before .before .byte-at2 .ensures .0,
-  ← (c .before .before .before .before .before .before .before .before .before .before .byte-at .ensures .0),
-  ne-eqb _ _ (c .before .before .before .before .before .before .before .if1 .left),
-  ne-eqb _ _ (c .before .before .before .before .before .before .if2 .left),
-  ne-eqb _ _ (c .before .before .before .before .before .if3 .left),
-  ne-eqb _ _ (c .before .before .before .before .if4 .left),
-  ne-eqb _ _ (c .before .before .before .if5 .left),
-  ne-eqb _ _ (c .before .before .if6 .left),
-)
+returns-7 c =
+    let bytes = c .before .before .before .before .before .before .before .before .four-at .ensures in
+    rw (
+      c .position-of .ensures .0,
+      c .before .word-at .ensures .0,
+      ap (λ x. x .b) bytes,
+      ← ap (λ x. x .a) bytes,
+      ne-eqb _ _ (c .before .before .before .before .before .before .before .if1 .left),
+      ne-eqb _ _ (c .before .before .before .before .before .before .if2 .left),
+      ne-eqb _ _ (c .before .before .before .before .before .if3 .left),
+      ne-eqb _ _ (c .before .before .before .before .if4 .left),
+      ne-eqb _ _ (c .before .before .before .if5 .left),
+      ne-eqb _ _ (c .before .before .if6 .left),
+    )
     refl
 
 pub op-of-spec : {M : Type 1} → statement M
@@ -155,13 +151,7 @@ op-of-spec =
     (tie.spec
     mul-at
     add-at
-    byte-at-requires
-    add-byte-at
-    byte-at-requires-2
-    cast-a
-    add-byte-at-2
-    byte-at-requires-3
-    cast-b
+    four-at-requires
     add-quad-at
     quad-at-requires
     cast-t15
@@ -176,5 +166,5 @@ op-of-spec =
     word-at-requires
     position-of-requires
     add-q-2
-    cast-t18
+    cast-t19
     returns-7)

@@ -1,6 +1,6 @@
 -- `kernel::rules::record_rule` meets its contract.
 use borrow.Author.Needs.{needs}
-use Rattle.kernel.specs.Rules.{recordRule}
+use Rattle.kernel.specs.Rules.{recordRule, limitA, limitB, limitConstant, limitTarget}
 use Rattle.kernel.proofs.rules.record_rule.Statement.{statement}
 use Rattle.kernel.proofs.rules.record_rule.Tie as tie
 
@@ -10,41 +10,23 @@ mul-at c = search needs
 add-at : tie.Need-add-at
 add-at c = search needs
 
-byte-at-requires : tie.Need-byte-at-requires
-byte-at-requires c κs = search needs
+four-at-requires : tie.Need-four-at-requires
+four-at-requires c κs = search needs
 
-byte-at-requires-2 : tie.Need-byte-at-requires-2
-byte-at-requires-2 c κs = search needs
+wide-requires : tie.Need-wide-requires
+wide-requires c κs = search needs
 
-byte-at-requires-3 : tie.Need-byte-at-requires-3
-byte-at-requires-3 c κs = search needs
+wide-requires-2 : tie.Need-wide-requires-2
+wide-requires-2 c κs = search needs
 
-word-at-requires : tie.Need-word-at-requires
-word-at-requires c κs = search needs
+limit-requires : tie.Need-limit-requires
+limit-requires c κs = search needs
 
-add-byte-at : tie.Need-add-byte-at
-add-byte-at c = search needs
+wide-requires-3 : tie.Need-wide-requires-3
+wide-requires-3 c κs = search needs
 
-byte-at-requires-4 : tie.Need-byte-at-requires-4
-byte-at-requires-4 c κs = search needs
-
-limit-a-requires : tie.Need-limit-a-requires
-limit-a-requires c κs = search needs
-
-add-byte-at-2 : tie.Need-add-byte-at-2
-add-byte-at-2 c = search needs
-
-byte-at-requires-5 : tie.Need-byte-at-requires-5
-byte-at-requires-5 c κs = search needs
-
-limit-b-requires : tie.Need-limit-b-requires
-limit-b-requires c κs = search needs
-
-add-byte-at-3 : tie.Need-add-byte-at-3
-add-byte-at-3 c = search needs
-
-byte-at-requires-6 : tie.Need-byte-at-requires-6
-byte-at-requires-6 c κs = search needs
+limit-requires-2 : tie.Need-limit-requires-2
+limit-requires-2 c κs = search needs
 
 add-quad-at : tie.Need-add-quad-at
 add-quad-at c = search needs
@@ -52,17 +34,17 @@ add-quad-at c = search needs
 quad-at-requires : tie.Need-quad-at-requires
 quad-at-requires c κs = search needs
 
-limit-constant-requires : tie.Need-limit-constant-requires
-limit-constant-requires c κs = search needs
+limit-requires-3 : tie.Need-limit-requires-3
+limit-requires-3 c κs = search needs
 
 add-word-at : tie.Need-add-word-at
 add-word-at c = search needs
 
-word-at-requires-2 : tie.Need-word-at-requires-2
-word-at-requires-2 c κs = search needs
+word-at-requires : tie.Need-word-at-requires
+word-at-requires c κs = search needs
 
-limit-target-requires : tie.Need-limit-target-requires
-limit-target-requires c κs = search needs
+limit-requires-4 : tie.Need-limit-requires-4
+limit-requires-4 c κs = search needs
 
 next-of-requires : tie.Need-next-of-requires
 next-of-requires c κs = search needs
@@ -86,33 +68,35 @@ both-requires-6 : tie.Need-both-requires-6
 both-requires-6 c κs = search needs
 
 returns : tie.Need-returns
-unfolding recordRule
+unfolding recordRule limitA limitB limitConstant limitTarget
 returns c =
-    let c4 = c .before .before .before .before in
-    let c8 = c4 .before .before .before .before in
-    let c12 = c8 .before .before .before .before in
-    let c16 = c12 .before .before .before .before in
+    let c5 = c .before .before .before .before .before in
+    let c10 = c5 .before .before .before .before .before in
+    let c15 = c10 .before .before .before .before .before in
+    let limits = c15 .before .before .before .before .before .before .before .before .pre .1 in
     rw (
       c .both6 .ensures,
       c .before .both5 .ensures,
       c .before .before .both4 .ensures,
       c .before .before .before .both3 .ensures,
-      c4 .both2 .ensures,
-      c4 .before .both .ensures,
-      c4 .before .before .next-of .ensures .0,
-      c4 .before .before .before .limit-target .ensures,
-      c8 .word-at2 .ensures .0,
-      c8 .before .limit-constant .ensures,
-      c8 .before .before .quad-at .ensures .0,
-      c8 .before .before .before .byte-at6 .ensures .0,
-      c12 .limit-b .ensures,
-      c12 .before .byte-at5 .ensures .0,
-      c12 .before .before .limit-a .ensures,
-      c12 .before .before .before .byte-at4 .ensures .0,
-      c16 .word-at .ensures .0,
-      c16 .before .byte-at3 .ensures .0,
-      c16 .before .before .byte-at2 .ensures .0,
-      c16 .before .before .before .byte-at .ensures .0,
+      c .before .before .before .before .both2 .ensures,
+      c5 .both .ensures,
+      c5 .before .next-of .ensures .0,
+      c5 .before .before .limit4 .ensures,
+      c5 .before .before .before .word-at .ensures .0,
+      c5 .before .before .before .before .limit3 .ensures,
+      c10 .quad-at .ensures .0,
+      c10 .before .before .limit2 .ensures,
+      c10 .before .before .before .wide3 .ensures .0,
+      c10 .before .before .before .before .limit .ensures,
+      c15 .wide2 .ensures .0,
+      c15 .before .wide .ensures .0,
+      c15 .before .before .four-at .ensures,
+      limits .target-row,
+      limits .constant-row,
+      limits .b-row,
+      limits .a-row,
+      limits .counted,
     )
 
 pub record-rule-spec : {M : Type 1} → statement M
@@ -121,24 +105,18 @@ record-rule-spec =
     (tie.spec
     mul-at
     add-at
-    byte-at-requires
-    byte-at-requires-2
-    byte-at-requires-3
-    word-at-requires
-    add-byte-at
-    byte-at-requires-4
-    limit-a-requires
-    add-byte-at-2
-    byte-at-requires-5
-    limit-b-requires
-    add-byte-at-3
-    byte-at-requires-6
+    four-at-requires
+    wide-requires
+    wide-requires-2
+    limit-requires
+    wide-requires-3
+    limit-requires-2
     add-quad-at
     quad-at-requires
-    limit-constant-requires
+    limit-requires-3
     add-word-at
-    word-at-requires-2
-    limit-target-requires
+    word-at-requires
+    limit-requires-4
     next-of-requires
     both-requires
     both-requires-2

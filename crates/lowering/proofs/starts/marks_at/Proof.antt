@@ -1,34 +1,29 @@
 -- `lowering::starts::marks_at` meets its contract.
-use Rattle.lowering.proofs.Laws.Starts.{nothing-behind}
 use borrow.Author.Needs.{needs}
 use Rattle.lowering.proofs.starts.marks_at.Statement.{statement}
 use Rattle.lowering.proofs.starts.marks_at.Tie as tie
 
-element-copy-out-t8 : tie.Need-element-copy-out-t8
-element-copy-out-t8 c = search needs
+bit-at-requires : tie.Need-bit-at-requires
+bit-at-requires c κs = search needs
 
-element-copy-out-t11 : tie.Need-element-copy-out-t11
-element-copy-out-t11 c = search needs
+bit-at-requires-2 : tie.Need-bit-at-requires-2
+bit-at-requires-2 c κs = search needs
 
-element-copy-out-t14 : tie.Need-element-copy-out-t14
-element-copy-out-t14 c = search needs
+bit-at-requires-3 : tie.Need-bit-at-requires-3
+bit-at-requires-3 c κs = search needs
 
-element-copy-out-t17 : tie.Need-element-copy-out-t17
-element-copy-out-t17 c = search needs
+bit-at-requires-4 : tie.Need-bit-at-requires-4
+bit-at-requires-4 c κs = search needs
 
 returns : tie.Need-returns
-returns c = search needs
-
-returns-2 : tie.Need-returns-2
-returns-2 c = nothing-behind (c .before .args .t1) _ (c .before .good .0) (c .before .args .p) (c .if1 .left)
+returns c =
+    λ i. record {
+      ll = c .before .before .before .bit-at .ensures i;
+      ls = c .before .before .bit-at2 .ensures i;
+      ss = c .before .bit-at3 .ensures i;
+      sl = c .bit-at4 .ensures i;
+    }
 
 pub marks-at-spec : {M : Type 1} → statement M
 marks-at-spec =
-    tie.close
-    (tie.spec
-    element-copy-out-t8
-    element-copy-out-t11
-    element-copy-out-t14
-    element-copy-out-t17
-    returns
-    returns-2)
+    tie.close (tie.spec bit-at-requires bit-at-requires-2 bit-at-requires-3 bit-at-requires-4 returns)

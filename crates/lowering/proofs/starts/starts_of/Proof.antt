@@ -1,5 +1,5 @@
 -- `lowering::starts::starts_of` meets its contract. The positions in place are those of the operations passed.
-use Prim.Native.Nat.{min, _≤_, _-_, suc, _+_}
+use Prim.Native.Nat.{_≤_, _-_, suc, _+_}
 use lib.ListN.{length, getD}
 use mathlib.Core.Path.{_≡_, refl, ap, _∙_}
 use native.Mathlib.Omega.{arith}
@@ -12,13 +12,10 @@ use Rattle.lowering.proofs.starts.starts_of.Statement.{statement}
 use Rattle.lowering.proofs.starts.starts_of.Tie as tie
 
 abbrev Inv-loop : tie.InvT-loop
-Inv-loop len placement n at₀ p₀ at p = (p ≤ n) × StartsTo (standing placement) p at
+Inv-loop n placement at₀ p₀ at p = (p ≤ n) × StartsTo (standing placement) p at
 
 abbrev μ-loop : tie.MeasureT-loop
-μ-loop len placement n at₀ p₀ at p = n - p
-
-count-requires : tie.Need-count-requires Inv-loop μ-loop
-count-requires c κs = search needs
+μ-loop n placement at₀ p₀ at p = n - p
 
 loop-holds : tie.Need-loop-holds Inv-loop μ-loop
 loop-holds c = (omega arith, filled-start _ _ refl refl)
@@ -40,14 +37,13 @@ add-p c = omega arith
 
 add-at : tie.Need-add-at Inv-loop μ-loop
 add-at c =
-    let c4 = c .before .before .before .before in
     let l = c .before .before .before .loop in
+    let a = c .before .before .before .before in
     omega (
       arith,
       l .inv .1 .each (l .p) (omega arith),
-      start-small (c4 .before .args .placement) (l .p),
-      c .width
-          .ensures .1,
+      start-small (a .args .placement) (l .p),
+      c .width .ensures .1,
     )
 
 mul-at : tie.Need-mul-at Inv-loop μ-loop
@@ -61,19 +57,19 @@ loop-less c = omega arith
 
 loop-again : tie.Need-loop-again Inv-loop μ-loop
 loop-again c =
-    let l = c .before .before .before .loop in (
+    let l = c .before .before .before .loop in
+    let a = c .before .before .before .before in (
       omega arith,
       filled-on _ (l .p) (l .at) (l .inv .1) (omega arith)
           (ap (λ w. getD (l .at) (l .p) 0 + w)
           (c .width .ensures .0 ∙ ap (λ m. suc (length (chosen (marked m)))) (c .before .marks-at .ensures))
-          ∙ ap (λ n. n + suc (length (standing (c .before .before .before .before .before .args .placement) (l .p))))
-          (l .inv .1 .each (l .p) (omega arith))),
+          ∙ ap (λ n. n + suc (length (standing (a .args .placement) (l .p)))) (l .inv .1 .each (l .p) (omega arith))),
     )
 
 returns : tie.Need-returns Inv-loop μ-loop
 returns c =
     let l = c .before .loop in
-    let last : min (c .before .before .before .args .len) 64 ≡ l .p = omega arith in
+    let last : c .before .before .args .n ≡ l .p = omega arith in
     rw last (l .inv .1)
 
 pub starts-of-spec : {M : Type 1} → statement M
@@ -82,7 +78,6 @@ starts-of-spec =
     (tie.spec
     Inv-loop
     μ-loop
-    count-requires
     loop-holds
     mul-here
     array-read-here

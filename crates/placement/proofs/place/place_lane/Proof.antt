@@ -1,22 +1,24 @@
--- `placement::place::place_lane` meets its contract, by what `steps_of` ensures, and `place` for each barrier.
-use Prim.Native.Nat.{ℕ}
-use mathlib.Core.Path.{_≡_, _∙_}
-use lib.ListN.{take}
-use Rattle.kernel.specs.Accepted.{isVolatile}
-use Rattle.kernel.specs.Stored.{opsIn}
-use Rattle.placement.specs.Cookbook.{Barrier, LL, LS, SS, SL}
-use Rattle.placement.specs.Chain.{at}
-use Rattle.placement.specs.Place.{stands}
+-- `placement::place::place_lane` meets its contract: nothing stands in an empty lane.
+use native.Mathlib.Omega.{arith}
+use mathlib.Core.Path.{sym, ap, _∙_}
+use lib.ListN.{length}
+use Rattle.kernel.specs.Accepted.{isVolatile, opsOf}
 use Rattle.placement.specs.Steps.{steps}
-use Rattle.placement.proofs.Laws.Rows.{stands-same}
-use Rattle.kernel.proofs.Laws.Sets.{slots-room}
-use Rattle.placement.proofs.Laws.Steps.{steps-taken}
+use Rattle.placement.proofs.Laws.Bits.{bit-zero}
+use Rattle.placement.proofs.Laws.Bytes.{none-flags, bytes-are}
+use Rattle.placement.proofs.Laws.Rows.{stands-behind}
+use Rattle.placement.proofs.Laws.Steps.{length-steps, length-bytes, lane-front}
 use borrow.Author.Needs.{needs}
 use Rattle.placement.proofs.place.place_lane.Statement.{statement}
 use Rattle.placement.proofs.place.place_lane.Tie as tie
 
-count-requires : tie.Need-count-requires
-count-requires c κs = search needs
+returns : tie.Need-returns
+returns c =
+    let a = c .before .before .before .args in
+    let vol = isVolatile (a .mask) in
+    let s = steps vol (opsOf (a .s .now) (a .rs .now)) in
+    λ b j. rw (none-flags b)
+    (bit-zero j ∙ sym (stands-behind s b j (omega (arith, length-steps vol (a .s .now) (a .rs .now)))))
 
 steps-of-requires : tie.Need-steps-of-requires
 steps-of-requires c κs = search needs
@@ -24,60 +26,49 @@ steps-of-requires c κs = search needs
 rows-requires : tie.Need-rows-requires
 rows-requires c κs = search needs
 
+array-share-prefix-steps : tie.Need-array-share-prefix-steps
+array-share-prefix-steps c = search needs
+
+slice-aggregate-place : tie.Need-slice-aggregate-place
+slice-aggregate-place c =
+    let a = c .before .before .before .before .before .before .args in
+    let vol = isVolatile (a .mask) in
+    let r = c .before .before .steps-of in
+    let front = lane-front vol (a .s .now) (a .rs .now) (r .result) (r .ensures) in
+    sym (ap length front ∙ length-bytes vol (a .s .now) (a .rs .now))
+
+slice-aggregate-place-2 : tie.Need-slice-aggregate-place-2
+slice-aggregate-place-2 c = search needs
+
 place-requires : tie.Need-place-requires
-place-requires c κs = search needs
+place-requires c κs =
+    let a = c .before .before .before .before .before .before .before .args in
+    let vol = isVolatile (a .mask) in
+    let r = c .before .before .before .steps-of in
+    let front = lane-front vol (a .s .now) (a .rs .now) (r .result) (r .ensures) in (
+      bytes-are (steps vol (opsOf (a .s .now) (a .rs .now))) _ front
+          (omega (arith, ap length front, length-bytes vol (a .s .now) (a .rs .now))),
+      ap length (c .before .before .rows .ensures),
+    )
 
-rows-requires-2 : tie.Need-rows-requires-2
-rows-requires-2 c κs = search needs
-
-place-requires-2 : tie.Need-place-requires-2
-place-requires-2 c κs = search needs
-
-rows-requires-3 : tie.Need-rows-requires-3
-rows-requires-3 c κs = search needs
-
-place-requires-3 : tie.Need-place-requires-3
-place-requires-3 c κs = search needs
-
-rows-requires-4 : tie.Need-rows-requires-4
-rows-requires-4 c κs = search needs
-
-place-requires-4 : tie.Need-place-requires-4
-place-requires-4 c κs = search needs
-
-returns : tie.Need-returns
-returns c =
-    let at-ls = c .before .before .before .before in
-    let at-ll = at-ls .before .before in
-    let r = at-ll .before .before .steps-of in
-    let n = at-ll .before .before .before .count in
-    let entry = at-ll .before .before .before .before in
-    let vol = isVolatile (entry .args .mask) in
-    let lane = entry .args .lane in
-    let same : (j : ℕ) → at (take (n .result) (r .result)) j ≡ at (steps vol (opsIn lane)) j =
-    rw (n .ensures) (steps-taken vol lane (r .result) (slots-room lane _ (entry .good .0)) (r .ensures)) in
-    let s = steps vol (opsIn lane) in
-    let stood : (b : Barrier) (j : ℕ) → stands (take (n .result) (r .result)) b j ≡ stands s b j =
-    stands-same (take (n .result) (r .result)) s same in
-    λ b. elim b [
-      | LL ↦ λ j. at-ll .place .ensures LL (at-ll .before .rows .ensures) j ∙ stood LL j
-      | LS ↦ λ j. at-ls .place2 .ensures LS (at-ls .before .rows2 .ensures) j ∙ stood LS j
-      | SS ↦ λ j. c .before .before .place3 .ensures SS (c .before .before .before .rows3 .ensures) j ∙ stood SS j
-      | SL ↦ λ j. c .place4 .ensures SL (c .before .rows4 .ensures) j ∙ stood SL j
-    ]
+returns-2 : tie.Need-returns-2
+returns-2 c =
+    let a = c .before .before .before .before .before .before .before .before .args in
+    let vol = isVolatile (a .mask) in
+    let r = c .before .before .before .before .steps-of in
+    let front = lane-front vol (a .s .now) (a .rs .now) (r .result) (r .ensures) in
+    let table = c .before .before .before .rows .ensures in
+    λ b. c .place .ensures (steps vol (opsOf (a .s .now) (a .rs .now))) b front table
 
 pub place-lane-spec : {M : Type 1} → statement M
 place-lane-spec =
     tie.close
     (tie.spec
-    count-requires
+    returns
     steps-of-requires
     rows-requires
+    array-share-prefix-steps
+    slice-aggregate-place
+    slice-aggregate-place-2
     place-requires
-    rows-requires-2
-    place-requires-2
-    rows-requires-3
-    place-requires-3
-    rows-requires-4
-    place-requires-4
-    returns)
+    returns-2)

@@ -1,47 +1,20 @@
--- `placement::place::raises` meets its contract: the row is found by the number of its class.
-use native.Mathlib.Omega.{arith}
-use Rattle.placement.proofs.Laws.Cookbook.{number-small}
+-- `placement::place::raises` meets its contract: an access's row is found by its byte.
+use Rattle.placement.proofs.Laws.Bytes.{row-raises, none-raises}
 use borrow.Author.Needs.{needs}
 use Rattle.placement.proofs.place.raises.Statement.{statement}
 use Rattle.placement.proofs.place.raises.Tie as tie
 
-enum-known-x : tie.Need-enum-known-x
-enum-known-x c = search needs
-
-number-requires : tie.Need-number-requires
-number-requires c κs = search needs
-
 mul-result : tie.Need-mul-result
-mul-result c = omega (arith, c .number .ensures, number-small (c .before .before .x .given .0 .0))
+mul-result c = search needs
 
-array-copy-out-result : tie.Need-array-copy-out-result
-array-copy-out-result c = omega (arith, c .number .ensures, number-small (c .before .before .x .given .0 .0))
-
-enum-told : tie.Need-enum-told
-enum-told c = search needs
-
-enum-told-2 : tie.Need-enum-told-2
-enum-told-2 c = search needs
+shared-slice-read-result : tie.Need-shared-slice-read-result
+shared-slice-read-result c = search needs
 
 returns : tie.Need-returns
-returns c = rw (c .before .before .before .x .given .1, c .before .number .ensures)
+returns c = λ s b er ex d. rw (er, ex) (row-raises b s (rw ex at (c .before .if1 .taken)) d)
 
 returns-2 : tie.Need-returns-2
-returns-2 c = rw (c .enum-told .given .1)
-
-returns-3 : tie.Need-returns-3
-returns-3 c = rw (c .enum-told2 .given .1)
+returns-2 c = λ s b er ex d. none-raises b s (rw ex at (c .if1 .left)) d
 
 pub raises-spec : {M : Type 1} → statement M
-raises-spec =
-    tie.close
-    (tie.spec
-    enum-known-x
-    number-requires
-    mul-result
-    array-copy-out-result
-    enum-told
-    enum-told-2
-    returns
-    returns-2
-    returns-3)
+raises-spec = tie.close (tie.spec mul-result shared-slice-read-result returns returns-2)

@@ -1,49 +1,43 @@
 -- `placement::steps::steps_of` meets its contract.
--- The loop's invariant: out has the lane's steps below p, and Other from there on.
-use Prim.Native.Nat.{_<_, _≤_, _-_, min}
+-- The loop's invariant: out has the bytes of the first p steps, and zeros behind them.
+use Prim.Native.Nat.{_<_, _≤_, _-_}
 use native.Mathlib.Omega.{arith}
-use mathlib.Core.Path.{_≡_, sym, _∙_}
-use lib.ListN.{length}
-use Rattle.kernel.specs.Accepted.{isVolatile}
-use Rattle.kernel.specs.Stored.{opsIn, noSlot}
-use Rattle.placement.specs.Chain.{Other, at}
-use Rattle.placement.specs.Steps.{steps}
-use Rattle.placement.proofs.Laws.Lists.{Filled, filled-none, filled-more, filled-at}
-use Rattle.kernel.proofs.Laws.Sets.{slots-room}
-use Rattle.placement.proofs.Laws.Steps.{step-at, step-behind}
+use mathlib.Core.Path.{_≡_, refl, sym, ap, _∙_}
+use mathlib.Core.List.{map}
+use lib.ListN.{length, getD, take, set, length-set}
+use lib.Seq.{take-all}
+use Rattle.kernel.specs.Accepted.{isVolatile, opsOf}
+use Rattle.kernel.specs.Stored.{filled}
+use Rattle.kernel.proofs.Laws.Lists.{fill-on}
+use Rattle.placement.specs.Placed.{stepByte}
+use Rattle.placement.specs.Steps.{stepOf, steps}
+use Rattle.placement.proofs.Laws.Steps.{length-bytes, lane-byte}
 use borrow.Author.Needs.{needs}
 use Rattle.placement.proofs.steps.steps_of.Statement.{statement}
 use Rattle.placement.proofs.steps.steps_of.Tie as tie
 
 abbrev Inv-loop : tie.InvT-loop
-Inv-loop mask lane out₀ n p₀ out p =
-    (p ≤ n) × (n ≡ min (lane .len) 64) × Filled (at (steps (isVolatile mask) (opsIn lane))) Other 64 out p
+Inv-loop s rs mask out₀ p₀ out p =
+    (p ≤ length rs) × (length out ≡ 64)
+    × (out ≡ filled 64 0 (take p (map stepByte (steps (isVolatile mask) (opsOf s rs)))))
 
 abbrev μ-loop : tie.MeasureT-loop
-μ-loop mask lane out₀ n p₀ out p = n - p
-
-count-requires : tie.Need-count-requires Inv-loop μ-loop
-count-requires c κs = search needs
+μ-loop s rs mask out₀ p₀ out p = length rs - p
 
 loop-holds : tie.Need-loop-holds Inv-loop μ-loop
-loop-holds c =
-    let a = c .before .args in
-    (search needs, c .count .ensures, filled-none (at (steps (isVolatile (a .mask)) (opsIn (a .t1)))) Other 64)
+loop-holds c = (search needs, refl, refl)
 
-mul-slot : tie.Need-mul-slot Inv-loop μ-loop
-mul-slot c = search needs
-
-element-copy-out-slot : tie.Need-element-copy-out-slot Inv-loop μ-loop
-element-copy-out-slot c = search needs
+op-at-requires : tie.Need-op-at-requires Inv-loop μ-loop
+op-at-requires c κs = search needs
 
 step-of-requires : tie.Need-step-of-requires Inv-loop μ-loop
 step-of-requires c κs = search needs
 
-mul-out : tie.Need-mul-out Inv-loop μ-loop
-mul-out c = search needs
+byte-of-requires : tie.Need-byte-of-requires Inv-loop μ-loop
+byte-of-requires c κs = search needs
 
-array-set-from-out : tie.Need-array-set-from-out Inv-loop μ-loop
-array-set-from-out c = search needs
+array-write-out : tie.Need-array-write-out Inv-loop μ-loop
+array-write-out c = search needs
 
 add-p : tie.Need-add-p Inv-loop μ-loop
 add-p c = search needs
@@ -53,20 +47,29 @@ loop-less c = search needs
 
 loop-again : tie.Need-loop-again Inv-loop μ-loop
 loop-again c =
-    let a = c .before .before .before .before .before .args in
-    let l = c .before .before .before .loop in
-    let g = c .before .before .before .before .before .good .0 in
-    let inside : l .p < length (a .t1 .slots) = omega (arith, slots-room (a .t1) _ g) in (
-      search needs,
-      l .inv .1,
-      filled-more (l .inv .2) (omega arith)
-          (c .step-of .ensures ∙ sym (step-at (isVolatile (a .mask)) (a .t1) (l .p) noSlot (omega arith) inside)),
+    let l = c .before .before .before .before .loop in
+    let a = c .before .before .before .before .before .before .before .args in
+    let bytes = map stepByte (steps (isVolatile (a .mask)) (opsOf (a .s .now) (a .rs .now))) in
+    let byte-is = lane-byte (isVolatile (a .mask)) (a .s .now) (a .rs .now) (l .p) (omega arith) in
+    let result-is : c .byte-of .result ≡ stepByte (stepOf (isVolatile (a .mask)) (c .before .before .op-at .result)) =
+    c .byte-of .ensures ∙ ap stepByte (c .before .step-of .ensures) in
+    let here : getD bytes (l .p) 0 ≡ c .byte-of .result =
+    byte-is ∙ sym (rw (c .before .before .op-at .ensures) at result-is) in
+    let inside : l .p < length bytes =
+    omega (arith, length-bytes (isVolatile (a .mask)) (a .s .now) (a .rs .now)) in (
+      omega arith,
+      simp length-set (l .inv .1),
+      ap (λ x. set x (l .p) (c .byte-of .result)) (l .inv .2) ∙ fill-on 64 (l .p) bytes 0 _ (omega arith) inside here,
     )
 
 returns : tie.Need-returns Inv-loop μ-loop
-returns c = λ j h.
-    let a = c .before .before .before .args in
-    filled-at (c .before .loop .inv .2) j (λ b. step-behind (isVolatile (a .mask)) (a .t1) j (omega arith))
+returns c =
+    let l = c .before .loop in
+    let a = c .before .before .before .before .args in
+    let bytes = map stepByte (steps (isVolatile (a .mask)) (opsOf (a .s .now) (a .rs .now))) in
+    let whole : take (l .p) bytes ≡ bytes =
+    take-all (l .p) bytes (omega (arith, length-bytes (isVolatile (a .mask)) (a .s .now) (a .rs .now))) in
+    l .inv .2 ∙ ap (filled 64 0) whole
 
 pub steps-of-spec : {M : Type 1} → statement M
 steps-of-spec =
@@ -74,13 +77,11 @@ steps-of-spec =
     (tie.spec
     Inv-loop
     μ-loop
-    count-requires
     loop-holds
-    mul-slot
-    element-copy-out-slot
+    op-at-requires
     step-of-requires
-    mul-out
-    array-set-from-out
+    byte-of-requires
+    array-write-out
     add-p
     loop-less
     loop-again

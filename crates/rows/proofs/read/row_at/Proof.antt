@@ -1,14 +1,27 @@
 -- `rows::read::row_at` meets its contract.
-use mathlib.Core.Path.{refl, sym, ap}
-use lib.ListN.{drop-of-length-le}
+use Prim.Native.Nat.{_+_}
+use mathlib.Core.Path.{refl, sym, ap, _∙_}
+use lib.ListN.{length, drop-of-length-le}
+use borrow.Author.Tests.{leb-true}
 use Rattle.rows.specs.Rows.{rowIn}
 use Rattle.rows.proofs.Laws.Read.{row-is}
 use borrow.Author.Needs.{needs}
 use Rattle.rows.proofs.read.row_at.Statement.{statement}
 use Rattle.rows.proofs.read.row_at.Tie as tie
 
-shared-slice-read-t7 : tie.Need-shared-slice-read-t7
-shared-slice-read-t7 c = search needs
+fits-requires : tie.Need-fits-requires
+fits-requires c κs = search needs
+
+whole-row-requires : tie.Need-whole-row-requires
+whole-row-requires c κs =
+    let a = c .before .before .before .args in
+    leb-true (a .at + 8) (length (a .s .now)) (sym (c .before .fits2 .ensures) ∙ c .if1 .taken)
+
+returns : tie.Need-returns
+returns c = search needs
+
+shared-slice-read-t8 : tie.Need-shared-slice-read-t8
+shared-slice-read-t8 c = search needs
 
 add-byte-at : tie.Need-add-byte-at
 add-byte-at c = search needs
@@ -28,25 +41,28 @@ add-quad-at c = search needs
 quad-at-requires : tie.Need-quad-at-requires
 quad-at-requires c κs = search needs
 
-returns : tie.Need-returns
-returns c =
-    let s = c .before .before .before .before .before .before in
+returns-2 : tie.Need-returns-2
+returns-2 c =
+    let s = c .before .before .before .before .before .before .before .before in
     row-is (s .args .s .now) (s .args .at) refl (c .before .before .byte-at .ensures) (c .before .byte-at2 .ensures)
     (c .quad-at .ensures)
 
-returns-2 : tie.Need-returns-2
-returns-2 c = sym (ap rowIn (drop-of-length-le (c .before .before .args .s .now) (c .if1 .left)))
+returns-3 : tie.Need-returns-3
+returns-3 c = sym (ap rowIn (drop-of-length-le (c .before .before .before .before .args .s .now) (c .if2 .left)))
 
 pub row-at-spec : {M : Type 1} → statement M
 row-at-spec =
     tie.close
     (tie.spec
-    shared-slice-read-t7
+    fits-requires
+    whole-row-requires
+    returns
+    shared-slice-read-t8
     add-byte-at
     byte-at-requires
     add-byte-at-2
     byte-at-requires-2
     add-quad-at
     quad-at-requires
-    returns
-    returns-2)
+    returns-2
+    returns-3)

@@ -1,0 +1,6 @@
+-- Laws by subject.
+pub mod Flags
+pub mod Programs
+pub mod Start
+pub mod Runs
+pub mod Files

@@ -1,0 +1,113 @@
+-- Laws of the answer on a file and a schedule, by what its program's rows and the tests say.
+use Prim.Native.Nat.{ℕ, _%_, _≤_, _<_}
+use mathlib.Core.Path.{_≡_, refl, sym, ap, ap₂, _∙_}
+use mathlib.Core.Bool.{Bool, true, false}
+use mathlib.Core.List.{List}
+use native.Mathlib.Omega.{arith}
+use borrow.Author.Tests.{lt-ltb, le-ltb, eq-eqb, ne-eqb}
+use lib.ListN.{length, getD, drop}
+use Rattle.kernel.specs.Fields.{word}
+use Rattle.kernel.specs.Accepted.{Program}
+use Rattle.kernel.specs.Lawful.{Lawful}
+use Rattle.verdict.specs.Verdict.{verdict, accepted}
+use Rattle.verdict.proofs.Laws.Verdict.{accepted-as}
+use Rattle.sheet.specs.declared.Lowered.{Lowered}
+use Rattle.sheet.specs.declared.Lowered.the-variants.{Wrote, Refuses}
+use Rattle.sheet.proofs.Answers.{BytesIn, refuses-by, wrote-by}
+use Rattle.sheet.proofs.Sizes.{sheet2-small}
+use Rattle.chaining.proofs.ChainsBack.{chains-small}
+use Rattle.machine.specs.Rules.{Machine}
+use Rattle.machine.specs.Schedule.{Move, limit, legal}
+use Rattle.machine.specs.State.{Outcome, ran, refused}
+use Rattle.machine.specs.Run.{answerOf, startOf, programFor, runOn, runProgram}
+use Rattle.machine.specs.Moves.{movesIn}
+use Rattle.reached.proofs.Answered.{not-refused}
+use Rattle.pending.specs.declared.rules.Machine.{Machine as Coded}
+use Rattle.pending.specs.declared.rules.Machine.the-variants.{Source, Tso}
+use Rattle.pending.specs.Machines.{machineIn}
+use Rattle.calling.specs.Programs.{programBytes, programBy}
+use Rattle.calling.specs.Calls.{runInto, runFileBy}
+use Rattle.calling.specs.Setup.{ProgramIn, ranInto}
+use Rattle.calling.proofs.Laws.Programs.{header-read}
+
+-- a legal schedule's run is no refusal
+pub ran-number : (s : List ℕ) (k : Program) → verdict s ≡ accepted k → (m : Machine) (mvs : List Move)
+    → legal (length (k .lanes)) (limit m) mvs ≡ true → runProgram m k mvs .number ≡ 0
+ran-number s k e m mvs le = rw le (go (runOn m k mvs) refl)
+  where
+    go : (o : Outcome) → runOn m k mvs ≡ o → answerOf (programFor m k) (k .records) (startOf k) o .number ≡ 0
+    go (ran r) h = refl
+    go (refused t p) h = absurd (not-refused s k e m mvs le t p h)
+
+program-small : (m : Coded) (k : Program) → Lawful k → length (programBytes (machineIn m) k) ≤ 4112
+program-small Source k w = omega (arith, chains-small k w)
+program-small Tso k w = sheet2-small k w
+
+-- a machine's program, in a buffer that takes every program
+module _ (m : Coded) (s own : List ℕ) (big : 4112 ≤ length own) where
+  pub file-refused : {n r : ℕ} {after : List ℕ} → (Refuses n r, after) ≡ programBy (machineIn m) (verdict s) own
+      → (moves out : List ℕ) → (Refuses n r, out) ≡ runFileBy (machineIn m) (verdict s) moves out
+  file-refused p moves out =
+      sym (ap (λ v. runFileBy (machineIn m) v moves out)
+      (refuses-by (programBytes (machineIn m)) 4112 (program-small m) s own big p))
+
+  pub file-accepted : {n : ℕ} {after : List ℕ} → (Wrote n, after) ≡ programBy (machineIn m) (verdict s) own
+      → BytesIn (programBytes (machineIn m)) s own after
+  file-accepted = wrote-by (programBytes (machineIn m)) 4112 (program-small m) s own big
+
+-- a run that takes place: what it starts from, and its answer
+pub record Takes (m : Coded) (mask : ℕ) (rows moves s out : List ℕ) : Type 0 where
+  pub kernel : Program
+  pub program : ProgramIn m mask rows moves s kernel
+  pub answers : ranInto m kernel moves out ≡ runFileBy (machineIn m) (verdict s) moves out
+
+-- ## an accepted file, whose program's bytes stand at the front of the rows
+module _ (m : Coded) {s own rows : List ℕ} (b : BytesIn (programBytes (machineIn m)) s own rows)
+    (moves out : List ℕ) where
+  abbrev k : Program
+  k = b .kernel
+
+  abbrev Answers : Lowered × List ℕ → Type 0
+  Answers a = a ≡ runFileBy (machineIn m) (verdict s) moves out
+
+  by-run : {a : Lowered × List ℕ} → runInto (machineIn m) k moves out ≡ a → Answers a
+  by-run e = sym (ap (λ v. runFileBy (machineIn m) v moves out) (b .accepts) ∙ e)
+
+  pub short-buffer : length out < 2280 → Answers (Refuses 9 0, out)
+  short-buffer h = by-run (rw (lt-ltb (length out) 2280 h))
+
+  module _ (room : 2280 ≤ length out) where
+    pub odd-moves : length moves % 2 ≡ 1 → Answers (Refuses 10 0, out)
+    odd-moves h = by-run (rw (le-ltb (length out) 2280 room, eq-eqb (length moves % 2) 1 h))
+
+    -- the schedule, judged by the rows' first byte and the machine's highest choice
+    module _ (even : ¬ length moves % 2 ≡ 1) {n c : ℕ} {ok : Bool} (ne : n ≡ getD rows 0 0)
+        (ce : c ≡ limit (machineIn m)) (judged : ok ≡ legal n c (movesIn moves)) where
+      lets : ok ≡ legal (length (k .lanes)) (limit (machineIn m)) (movesIn moves)
+      lets =
+          let first = ap (λ x. getD x 0 0) (b .front)
+          ∙ header-read k m (drop (length (programBytes (machineIn m) k)) own) .0 in
+          judged ∙ ap₂ (λ x y. legal x y (movesIn moves)) (ne ∙ first) ce
+
+      pub illegal-moves : ok ≡ false → Answers (Refuses 10 0, out)
+      illegal-moves bad =
+          by-run (rw (le-ltb (length out) 2280 room, ne-eqb (length moves % 2) 1 even, sym lets ∙ bad))
+
+      pub takes-place : {mask : ℕ} → ok ≡ true → mask ≡ word s 4 → 4112 ≤ length own → Takes m mask rows moves s out
+      takes-place good e big =
+          let let-through = sym lets ∙ good in
+          record {
+            kernel = k;
+            program = record {
+              schedule = record { accepts = b .accepts; lets = let-through };
+              masked = e ∙ ap (λ (x : Program). x .mask) (accepted-as s k (b .accepts) .1);
+              own = own;
+              room = big;
+              front = b .front;
+            };
+            answers = by-run (rw (
+              le-ltb (length out) 2280 room,
+              ne-eqb (length moves % 2) 1 even,
+              ran-number s k (b .accepts) (machineIn m) (movesIn moves) let-through,
+            ));
+          }

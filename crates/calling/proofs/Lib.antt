@@ -1,0 +1,2 @@
+-- Laws of runs from bytes.
+pub mod Laws
