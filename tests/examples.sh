@@ -1,4 +1,4 @@
-# The program and the C example on the shipped kernels, held to the listings and counts of the reference.
+# The programs and the C example on the shipped kernels, held to the listings and counts of the reference.
 set -eu
 cd "$(dirname "$0")/.."
 built=$(mktemp -d)
@@ -19,4 +19,17 @@ printf 'refused 1 record 0\n' > "$built/stub"
 target/bin/lanetext < /dev/null | cmp - "$built/stub"
 printf 'refused 3 record 0\n' > "$built/long"
 { cat examples/store-buffering-mask-3.kernel; head -c 100000 /dev/zero; } | target/bin/lanetext | cmp - "$built/long"
+# schedules by hand: a move that no machine has, a line that is no move, a refused kernel, a file that is not there
+last_line() {
+    target/bin/lanerun "$1" "$2" "$3" | tail -n 1 | grep -Fxq "$4" || { echo "lanerun $1 $2 $3: not '$4'"; exit 1; }
+}
+kernel=examples/store-buffering-mask-3.kernel
+printf '0 0\n2 0\n' > "$built/third-lane.moves"
+printf '# a move, then half of one\n0 0\n1\n' > "$built/half.moves"
+last_line $kernel source examples/store-buffering.moves ran
+last_line $kernel tso "$built/third-lane.moves" 'refused 10 record 0'
+last_line $kernel tso "$built/half.moves" 'schedule line 3 is not a move'
+last_line examples/damaged.kernel tso examples/store-buffering.moves 'refused 5 record 3'
+last_line $kernel tso "$built/none.moves" "cannot read $built/none.moves"
+last_line $kernel both examples/store-buffering.moves 'usage: lanerun KERNEL source|tso SCHEDULE'
 echo "examples: $(ls examples/*.kernel | wc -l) kernels listed, lowered and run as the reference has them"

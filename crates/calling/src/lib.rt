@@ -1,4 +1,4 @@
 // A kernel file and a schedule, both of whatever bytes, run into an output buffer of whatever length.
 pub mod call;
-mod program;
+pub mod program;
 mod run;

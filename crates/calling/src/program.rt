@@ -10,7 +10,7 @@ use relowering::lower::lower2;
 use sheet::Lowered;
 
 // The rows at the front of `rows`: the chains for the source machine, the level 2 sheet for the tso machine.
-pub(crate) fn program_of(machine: Machine, file: &[u8], rows: &mut [u8]) -> Lowered
+pub fn program_of(machine: Machine, file: &[u8], rows: &mut [u8]) -> Lowered
     ensures { λ r. ⌜ (r, now (rows .exit)) ≡ programBy (machineIn machine) (verdict (now (file .entry)))
         (now (rows .entry)) ⌝ }
 {

@@ -12,7 +12,7 @@ use Rattle.placement.specs.Place.{stands, due, rowsTo}
 use Rattle.sheet.specs.Bytes.{sheetBytes}
 use Rattle.sheet.specs.Read.{readSheet}
 use lib.Count.{onesIn}
-use Rattle.listing.specs.Decimal.{digits, decimal}
+use Rattle.texts.specs.Decimal.{digits, decimal}
 use Rattle.listing.specs.Line.{instrText, lineOf, firstLine}
 use Rattle.listing.specs.Listing.{ones, laneLines, sheetLines, listing}
 use Rattle.examples.specs.Table.{table, Each, end, _▸_}

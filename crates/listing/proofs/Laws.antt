@@ -1,4 +1,3 @@
 -- Small laws by subject.
-pub mod Decimal
 pub mod Line
 pub mod Sheet

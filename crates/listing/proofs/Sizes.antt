@@ -17,7 +17,7 @@ use Rattle.sheet.proofs.Fitting.{Fits, LaneFits, lanes-fit}
 use Rattle.sheet.proofs.Sizes.{sheet-size, sheet2-small}
 use Rattle.listing.specs.Line.{lineOf, firstLine, refusalLine}
 use Rattle.listing.specs.Listing.{ones, laneLines, sheetLines, listing}
-use Rattle.listing.proofs.Laws.Decimal.{decimal-few}
+use Rattle.texts.proofs.Laws.Decimal.{decimal-few}
 use Rattle.listing.proofs.Laws.Line.{line-few}
 
 module _ (lane : ℕ) (few : lane < 2 ^ 32) where

@@ -4,7 +4,7 @@ use mathlib.Core.List.{[], _∷_}
 use Rattle.kernel.specs.declared.accepted.Op.the-variants.{Set, Unlock, Skip}
 use Rattle.verdict.specs.Verdict.{structureThen, refusalOf}
 use Rattle.sheet.specs.Layout.{op}
-use Rattle.listing.specs.Decimal.{digits, decimal}
+use Rattle.texts.specs.Decimal.{digits, decimal}
 use Rattle.listing.specs.Line.{instrText, lineOf, refusalLine}
 use Rattle.listing.specs.Listing.{printed}
 

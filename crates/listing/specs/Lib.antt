@@ -1,5 +1,4 @@
--- The text of a level 2 sheet. Decimal: numbers; Line: one line; Listing: the whole.
-pub mod Decimal
+-- The text of a level 2 sheet. Line: one line; Listing: the whole.
 pub mod Line
 pub mod Listing
 pub mod Examples

@@ -6,13 +6,8 @@ use Rattle.kernel.specs.declared.accepted.Op.the-variants.{Set, Add, Load, Stor
 use Rattle.placement.specs.declared.cookbook.Barrier.{Barrier}
 use Rattle.placement.specs.declared.cookbook.Barrier.the-variants.{LL, LS, SS, SL}
 use Rattle.sheet.specs.Layout.{Instr, op, barrier}
-use Rattle.listing.specs.Decimal.{decimal}
-
-abbrev pub space : ℕ
-space = 32
-
-abbrev pub newline : ℕ
-newline = 10
+use Rattle.texts.specs.Decimal.{decimal}
+use Rattle.texts.specs.Words.{space, newline, named}
 
 -- "SET ", "ADD ", "LOAD ", "STORE ", "LOCK ", "UNLOCK ", "SKIP "
 abbrev pub nameOf : Op → List ℕ
@@ -66,10 +61,6 @@ volatileWord = space ∷ 118 ∷ 111 ∷ 108 ∷ 97 ∷ 116 ∷ 105 ∷ 108 ∷ 
 
 abbrev pub locksWord : List ℕ
 locksWord = space ∷ 108 ∷ 111 ∷ 99 ∷ 107 ∷ 115 ∷ space ∷ []
-
--- a word and its number
-abbrev pub named : List ℕ → ℕ → List ℕ
-named w n = w ++ decimal n
 
 -- lanes T locations L volatile V locks K
 unfoldable pub firstLine : ℕ → ℕ → ℕ → ℕ → List ℕ

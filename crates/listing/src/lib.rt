@@ -1,6 +1,5 @@
 // The text of a level 2 sheet, as bytes.
-mod line;
-mod put;
+pub mod line;
 mod whole;
 
 pub use whole::list_refusal;

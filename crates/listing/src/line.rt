@@ -1,13 +1,13 @@
 // One line of a listing, laid into a buffer.
-use super::put::put;
-use super::put::put_decimal;
-use super::put::put_text;
 use rows::read::row_at;
+use texts::put::put;
+use texts::put::put_decimal;
+use texts::put::put_one;
+use texts::put::put_text;
 ghost use Prim.Native.Nat.{_+_, _≤_, _^_};
 ghost use mathlib.Core.List.{_++_};
 ghost use lib.ListN.{length, drop};
 ghost use Rattle.sheet.specs.Read.{instrBy, readInstr};
-ghost use Rattle.listing.specs.Decimal.{decimal};
 ghost use Rattle.sheet.specs.Put.{Puts};
 ghost use Rattle.listing.specs.Line.{pair, instrText, lineOf};
 
@@ -29,18 +29,8 @@ fn put_two(out: &mut [u8], at: usize, name: &[u8], a: u32, b: u32) -> usize
     put_pair(out, i, a, b)
 }
 
-// A name and one number.
-pub(crate) fn put_one(out: &mut [u8], at: usize, name: &[u8], b: u32) -> usize
-    requires { ⌜ at + length (now name) + 10 ≤ 2 ^ 62 ⌝ }
-    ensures { λ r. ⌜ (r ≤ at + length (now (name .entry)) + 10)
-        × Puts (now (out .entry)) at (now (name .entry) ++ decimal b) (now (out .exit)) r ⌝ }
-{
-    let i = put_text(out, at, name);
-    put_decimal(out, i, b)
-}
-
 // The instruction of a code, with its fields.
-pub(crate) fn put_instr(out: &mut [u8], at: usize, o: u32, a: u32, b: u32, c: u32) -> usize
+pub fn put_instr(out: &mut [u8], at: usize, o: u32, a: u32, b: u32, c: u32) -> usize
     requires { ⌜ at + 28 ≤ 2 ^ 62 ⌝ }
     ensures { λ r. ⌜ Puts (now (out .entry)) at (instrText (instrBy o a b c)) (now (out .exit)) r ⌝ }
 {

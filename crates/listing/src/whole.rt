@@ -1,10 +1,10 @@
 // The whole listing of a level 2 sheet, from the sheet's bytes and the kernel's mask.
 use super::line::put_line;
-use super::line::put_one;
-use super::put::put;
 use rows::read::byte_at;
 use rows::read::word_at;
 use sheet::Lowered;
+use texts::put::put;
+use texts::put::put_one;
 ghost use mathlib.Core.Path.{_≡_};
 ghost use Prim.Native.Nat.{_+_, _*_, _≤_, _<_, _^_};
 ghost use lib.ListN.{length, drop};

@@ -8,8 +8,6 @@ use Rattle.placement.specs.declared.cookbook.Barrier.the-variants.{LL, LS, SS, 
 use Rattle.placement.specs.declared.place.Placement.{Placement}
 use Rattle.placement.specs.Place.{chosen}
 use Rattle.placement.specs.Placed.{bit}
-use Rattle.placement.specs.Sheet.{start as startBy}
-use Rattle.rows.specs.Filled.{FilledTo}
 use Rattle.lowering.specs.declared.steps.Marks.{Marks}
 use Rattle.sheet.specs.Layout.{Placed, op, barrier, aim, sheet}
 use Rattle.sheet.specs.Levels.{level1}
@@ -32,10 +30,6 @@ standingMarks r p = record { ll = bit (r .ll) p; ls = bit (r .ls) p; ss = bit (r
 
 abbrev pub standing : Placement → ℕ → List Barrier
 standing r p = chosen (marked (standingMarks r p))
-
--- the array of the positions at which the operations up to the n-th begin
-abbrev pub StartsTo : (ℕ → List Barrier) → ℕ → List ℕ → Type 0
-StartsTo pre = FilledTo 65 (startBy pre)
 
 -- the operations of a chain, the first of which stands at position p, with the barriers that pre puts before each
 abbrev pub placedBy : (ℕ → List Barrier) → ℕ → List Op → List Placed

@@ -3,7 +3,7 @@ ghost use mathlib.Core.Path.{_≡_};
 ghost use Prim.Native.Nat.{_<_};
 ghost use Rattle.kernel.specs.Fields.{mask as maskOf};
 ghost use Rattle.lowering.specs.Plan.{PlannedAt};
-use crate::starts::size_of;
+use crate::starts::start_of;
 use kernel::accepted::chain_from;
 use kernel::fields::head_of;
 use placement::place::Placement;
@@ -23,6 +23,6 @@ pub(crate) fn plan_of(s: &[u8], t: usize, mask: u16) -> Plan
     let records = chain.records;
     let len = chain.len;
     let placement = place_lane(s, &records[..len], mask);
-    let size = size_of(len, placement);
+    let size = start_of(placement, len) as usize;
     Plan { placement, size }
 }

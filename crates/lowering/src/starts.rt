@@ -1,19 +1,12 @@
-// The sheet position at which each operation of a lane begins, at level 1.
+// The barriers before each operation of a lane, and the sheet position at which it begins, at level 1.
 ghost use mathlib.Core.Path.{_≡_};
-ghost use Prim.Native.Nat.{suc, _≤_};
-ghost use lib.ListN.{length};
-ghost use Rattle.placement.specs.Place.{chosen};
+ghost use Prim.Native.Nat.{_+_, _%_, _^_, _<_, _≤_};
+ghost use lib.Count.{ones};
 ghost use Rattle.placement.specs.Placed.{bit};
 ghost use Rattle.placement.specs.Sheet.{start as startBy};
-ghost use Rattle.lowering.specs.Put.{marked, standingMarks, standing, StartsTo};
+ghost use Rattle.lowering.specs.Put.{standingMarks, standing};
 use crate::steps::Marks;
 use placement::place::Placement;
-use rows::number::one;
-
-// The position of each operation's first barrier, and behind the last operation the count of instructions.
-pub struct Starts {
-    pub at: [u32; 65],
-}
 
 // Bit p of a number.
 fn bit_at(n: u64, p: usize) -> bool
@@ -34,39 +27,24 @@ pub(crate) fn marks_at(placement: Placement, p: usize) -> Marks
     }
 }
 
-// How many instructions an operation makes, with its barriers.
-fn width(m: Marks) -> u32
-    ensures { λ r. ⌜ (r ≡ suc (length (chosen (marked m)))) × (r ≤ 5) ⌝ }
+// How many of the bits below p are set.
+fn ones_below(n: u64, p: usize) -> u32
+    ensures { λ r. ⌜ (r ≡ ones (n % 2 ^ p)) × (r ≤ 64) ⌝ }
 {
-    1 + one(m.ll) + one(m.ls) + one(m.ss) + one(m.sl)
+    if p < 64 {
+        u64::count_ones(n % (1u64 << p))
+    } else {
+        u64::count_ones(n)
+    }
 }
 
-// Where each of n operations begins.
-pub(crate) fn starts_of(n: usize, placement: Placement) -> Starts
-    requires { ⌜ n ≤ 64 ⌝ }
-    ensures { λ r. ⌜ StartsTo (standing placement) n (r .at) ⌝ }
+// The sheet position at which operation p begins, that is, its first barrier: behind the operations before p and the
+// barriers before those.
+pub(crate) fn start_of(placement: Placement, p: usize) -> u32
+    requires { ⌜ p < 65536 ⌝ }
+    ensures { λ r. ⌜ (r ≡ startBy (standing placement) p) × (r ≤ p + 256) ⌝ }
 {
-    let mut at = [0u32; 65];
-    let mut p = 0;
-    while p < n {
-        let here = at[p];
-        let w = width(marks_at(placement, p));
-        p += 1;
-        at[p] = here + w;
-    }
-    Starts { at }
-}
-
-// How many instructions n operations make, with their barriers.
-pub(crate) fn size_of(n: usize, placement: Placement) -> usize
-    requires { ⌜ n ≤ 64 ⌝ }
-    ensures { λ r. ⌜ (r ≡ startBy (standing placement) n) × (r ≤ 320) ⌝ }
-{
-    let mut size = 0;
-    let mut p = 0;
-    while p < n {
-        size += width(marks_at(placement, p)) as usize;
-        p += 1;
-    }
-    size
+    let behind_loads = ones_below(placement.ll, p) + ones_below(placement.ls, p);
+    let behind_stores = ones_below(placement.ss, p) + ones_below(placement.sl, p);
+    p as u32 + behind_loads + behind_stores
 }

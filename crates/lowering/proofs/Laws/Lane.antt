@@ -15,7 +15,7 @@ use Rattle.sheet.specs.Layout.{Instr, op, barrier, Placed, start, aim, cells, s
 use Rattle.sheet.specs.Levels.{level1}
 use Rattle.sheet.specs.Bytes.{laneBytes}
 use Rattle.sheet.specs.Items.{TargetsWithin}
-use Rattle.lowering.specs.Put.{placedBy, StartsTo, stepBytes}
+use Rattle.lowering.specs.Put.{placedBy, stepBytes}
 use Rattle.sheet.proofs.Laws.Aim.{aim-agrees}
 use Rattle.sheet.proofs.Laws.Rows.{lane-bytes, bytes-append}
 use Rattle.sheet.specs.Put.{Puts}
@@ -120,16 +120,15 @@ module _ (pre : ℕ → List Barrier) where
         ∙ bytes-append level1 (firstCells p) (map barrier (pre p) ++ (op (aim aims (getD ops p noOp)) ∷ []))
         ∙ ap (λ o. firstBytes p ++ laneBytes level1 (map barrier (pre p) ++ (op o ∷ []))) (sym e)
 
-    -- the target that the code reads from its array of positions
-    pub target-aims : (n : ℕ) (positions : List ℕ) (p v : ℕ) → n ≡ length ops → StartsTo pre n positions
-        → TargetsWithin n ops → p < length ops
-        → aim (λ t. v) (getD ops p noOp) ≡ aim (λ t. getD positions t 0) (getD ops p noOp)
+    -- the target that the code counts is where the operation there begins
+    pub target-aims : (n p v : ℕ) → n ≡ length ops → TargetsWithin n ops → p < length ops
+        → aim (λ t. v) (getD ops p noOp) ≡ aim (startBy pre) (getD ops p noOp)
         → aim (λ t. v) (getD ops p noOp) ≡ aim aims (getD ops p noOp)
-    target-aims n positions p v e s within h same =
+    target-aims n p v e within h same =
         same
-        ∙ aim-agrees (λ t. getD positions t 0) aims (getD ops p noOp)
+        ∙ aim-agrees (startBy pre) aims (getD ops p noOp)
         (λ t j. let l = within p (getD ops p noOp) t (at-some ops p noOp h) j in
-        s .each t l ∙ sym (starts-are ops t (omega arith)))
+        sym (starts-are ops t (omega arith)))
 
     -- all of them
     cells-all : (p : ℕ) → length ops ≤ p → firstCells p ≡ sheet (placedBy pre 0 ops)

@@ -1,7 +1,7 @@
 -- `listing::line::put_pair` meets its contract.
 use native.Mathlib.Omega.{arith}
 use Rattle.sheet.proofs.Laws.Put.{puts-on}
-use Rattle.listing.proofs.Laws.Decimal.{decimal-few}
+use Rattle.texts.proofs.Laws.Decimal.{decimal-few}
 use borrow.Author.Needs.{needs}
 use Rattle.listing.proofs.line.put_pair.Statement.{statement}
 use Rattle.listing.proofs.line.put_pair.Tie as tie

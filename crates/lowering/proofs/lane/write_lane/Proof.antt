@@ -17,23 +17,17 @@ use Rattle.lowering.proofs.lane.write_lane.Statement.{statement}
 use Rattle.lowering.proofs.lane.write_lane.Tie as tie
 
 abbrev Inv-loop : tie.InvT-loop
-Inv-loop out₀ s rs placement n positions at₀ p₀ out at p =
+Inv-loop out₀ s rs placement n at₀ p₀ out at p =
     (p ≤ n) × Puts out₀ 0 (firstBytes (standing placement) (opsOf s rs) p) out at
 
 abbrev μ-loop : tie.MeasureT-loop
-μ-loop out₀ s rs placement n positions at₀ p₀ out at p = n - p
-
-starts-of-requires : tie.Need-starts-of-requires Inv-loop μ-loop
-starts-of-requires c κs = search needs
+μ-loop out₀ s rs placement n at₀ p₀ out at p = n - p
 
 loop-holds : tie.Need-loop-holds Inv-loop μ-loop
 loop-holds c = (omega arith, puts-none)
 
 op-at-requires : tie.Need-op-at-requires Inv-loop μ-loop
 op-at-requires c κs = search needs
-
-slice-aggregate-target-of : tie.Need-slice-aggregate-target-of Inv-loop μ-loop
-slice-aggregate-target-of c = search needs
 
 target-of-requires : tie.Need-target-of-requires Inv-loop μ-loop
 target-of-requires c κs = search needs
@@ -44,10 +38,9 @@ marks-at-requires c κs = search needs
 put-step-requires : tie.Need-put-step-requires Inv-loop μ-loop
 put-step-requires c κs =
     let g = c .before .before in
-    let o = g .before .before in
+    let o = g .before in
     let l = o .before .before .loop in
-    let f = o .before .before .before .before .starts-of in
-    let a = o .before .before .before .before .before .before .before .before in
+    let a = o .before .before .before .before .before .before in
     let s = a .args .s .now in
     let rs = a .args .rs .now in
     let ops = opsOf s rs in
@@ -55,7 +48,7 @@ put-step-requires c κs =
     let all : length rs ≡ length ops = sym (opsFrom-length s 0 rs) in
     let inside : l .p < length ops = omega (arith, all, o .before .loop-test .taken) in
     let v = g .target-of .result in
-    let aims = target-aims pre ops (length rs) (f .result .at) (l .p) v all (f .ensures) (targets-inside s rs) inside
+    let aims = target-aims pre ops (length rs) (l .p) v all (targets-inside s rs) inside
     (rw (o .op-at .ensures) at (g .target-of .ensures)) in
     let room = lane-room pre ops (l .p) v inside aims in
     rw (c .marks-at .ensures, o .op-at .ensures)
@@ -71,10 +64,9 @@ loop-again : tie.Need-loop-again Inv-loop μ-loop
 loop-again c =
     let m = c .before .before .before in
     let g = m .before .before in
-    let o = g .before .before in
+    let o = g .before in
     let l = o .before .before .loop in
-    let f = o .before .before .before .before .starts-of in
-    let a = o .before .before .before .before .before .before .before .before in
+    let a = o .before .before .before .before .before .before in
     let s = a .args .s .now in
     let rs = a .args .rs .now in
     let ops = opsOf s rs in
@@ -82,7 +74,7 @@ loop-again c =
     let all : length rs ≡ length ops = sym (opsFrom-length s 0 rs) in
     let inside : l .p < length ops = omega (arith, all, o .before .loop-test .taken) in
     let v = g .target-of .result in
-    let aims = target-aims pre ops (length rs) (f .result .at) (l .p) v all (f .ensures) (targets-inside s rs) inside
+    let aims = target-aims pre ops (length rs) (l .p) v all (targets-inside s rs) inside
     (rw (o .op-at .ensures) at (g .target-of .ensures)) in
     let step : stepBytes (chosen (marked (m .marks-at .result))) (o .op-at .result) v
     ≡ stepBytes (pre (l .p)) (getD ops (l .p) noOp) v =
@@ -96,7 +88,7 @@ same-length c = puts-length (c .before .loop .inv .1)
 returns : tie.Need-returns Inv-loop μ-loop
 returns c =
     let l = c .before .loop in
-    let a = c .before .before .before .before .before .before .before in
+    let a = c .before .before .before .before .before in
     let s = a .args .s .now in
     let rs = a .args .rs .now in
     puts-as
@@ -110,10 +102,8 @@ write-lane-spec =
     (tie.spec
     Inv-loop
     μ-loop
-    starts-of-requires
     loop-holds
     op-at-requires
-    slice-aggregate-target-of
     target-of-requires
     marks-at-requires
     put-step-requires

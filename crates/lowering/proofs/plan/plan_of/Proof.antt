@@ -35,8 +35,11 @@ place-lane-requires c κs =
       ap length (chained-front _ _ _ (f .ensures)),
     )
 
-size-of-requires : tie.Need-size-of-requires
-size-of-requires c κs = chained-small _ _ _ (c .before .before .before .chain-from .ensures)
+start-of-requires : tie.Need-start-of-requires
+start-of-requires c κs = omega (arith, chained-small _ _ _ (c .before .before .before .chain-from .ensures))
+
+cast-size : tie.Need-cast-size
+cast-size c = search needs
 
 returns : tie.Need-returns
 returns c =
@@ -46,7 +49,8 @@ returns c =
     let ops = walked-ops _ _ (f .chain-from .result) at (f .chain-from .ensures) in
     let count = walked-count _ _ (f .chain-from .result) at (f .chain-from .ensures) in
     planned-by (a .args .s .now) (a .args .t) (c .before .place-lane .result) (c .before .place-lane .ensures)
-    (a .pre .1) ops count (c .size-of .ensures .0) (c .size-of .ensures .1)
+    (a .pre .1) ops count (c .start-of .ensures .0)
+    (omega (arith, chained-small _ _ _ (f .chain-from .ensures), c .start-of .ensures .1))
 
 pub plan-of-spec : {M : Type 1} → statement M
 plan-of-spec =
@@ -57,5 +61,6 @@ plan-of-spec =
     array-share-prefix-records
     slice-aggregate-place-lane
     place-lane-requires
-    size-of-requires
+    start-of-requires
+    cast-size
     returns)

@@ -1,0 +1,24 @@
+// Runs a schedule of text on a kernel file and tells each move and the state at the end. The last line says how it
+// ended: `ran`, the line of a refusal, or what could not be read.
+mod files;
+mod tell;
+
+use console::print::say;
+use files::run_files;
+use pending::rules::Machine;
+
+fn main() {
+    let mut name = io::buffer();
+    let n = os::arg(2, &mut name);
+    if os::arg_count() == 4 {
+        if check::same(&name[..n], b"source") {
+            run_files(Machine::Source);
+            return;
+        }
+        if check::same(&name[..n], b"tso") {
+            run_files(Machine::Tso);
+            return;
+        }
+    }
+    say(b"usage: lanerun KERNEL source|tso SCHEDULE\n");
+}

@@ -1,0 +1,2 @@
+-- What is proved of schedules as text: small laws.
+pub mod Laws

@@ -1,0 +1,3 @@
+-- A schedule as text.
+pub mod Text
+pub mod Examples

@@ -1,0 +1,2 @@
+-- What is proved of a run's text: small laws.
+pub mod Laws

@@ -1,0 +1,2 @@
+-- What is proved of texts: small laws.
+pub mod Laws
