@@ -1,4 +1,2 @@
--- Programs: what each machine reads; Setup: what a run over rows starts from; Calls: a run from bytes to the record.
-pub mod Programs
-pub mod Setup
+-- Calls: a run from the bytes of a kernel file and a schedule to the record.
 pub mod Calls

@@ -5,12 +5,12 @@ ghost use Rattle.pending.specs.Machines.{machineIn};
 ghost use Rattle.calling.specs.Calls.{runFileBy};
 use crate::program::limit_of;
 use crate::program::program_of;
-use crate::run::run_rows;
+use judging::judge::legal_moves;
 use pending::rules::Machine;
-use recording::judge::legal_moves;
 use rows::read::byte_at;
 use rows::read::word_at;
 use sheet::Lowered;
+use starting::run::run_rows;
 
 // The state record at the front of `out`; a refusal leaves `out` as it was. 10 is looked for in the whole schedule
 // before its first move. A machine's rows are at most 4,112 bytes.

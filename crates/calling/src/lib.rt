@@ -1,4 +1,3 @@
 // A kernel file and a schedule, both of whatever bytes, run into an output buffer of whatever length.
 pub mod call;
 pub mod program;
-mod run;

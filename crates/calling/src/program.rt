@@ -3,7 +3,7 @@ ghost use mathlib.Core.Path.{_≡_};
 ghost use Rattle.verdict.specs.Verdict.{verdict};
 ghost use Rattle.machine.specs.Schedule.{limit};
 ghost use Rattle.pending.specs.Machines.{machineIn};
-ghost use Rattle.calling.specs.Programs.{programBy};
+ghost use Rattle.starting.specs.Programs.{programBy};
 use chaining::file::chain_file;
 use pending::rules::Machine;
 use relowering::lower::lower2;

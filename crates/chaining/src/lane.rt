@@ -8,7 +8,7 @@ ghost use Rattle.sheet.specs.Put.{Puts};
 ghost use Rattle.chaining.specs.Chains.{opRows};
 use kernel::accepted::Op;
 use kernel::accepted::op_at;
-use rows::put::put_op;
+use writing::put::put_op;
 
 // The position that a SKIP leads to; 0 for another operation.
 fn target_in(op: Op) -> u32

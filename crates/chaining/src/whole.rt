@@ -12,11 +12,11 @@ ghost use Rattle.chaining.specs.Chains.{chainAt, chainBytes};
 use crate::lane::write_chain;
 use kernel::accepted::chain_from;
 use kernel::fields::head_of;
-use rows::put::put_counts;
-use rows::put::put_first;
 use rows::read::byte_at;
 use rows::read::word_at;
 use sheet::Lowered;
+use writing::put::put_counts;
+use writing::put::put_first;
 
 // Writes the four lanes behind the header.
 fn write_chains(out: &mut [u8], s: &[u8])

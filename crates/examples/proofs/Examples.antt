@@ -13,7 +13,7 @@ use Rattle.sheet.specs.Bytes.{sheetBytes}
 use Rattle.sheet.specs.Read.{readSheet}
 use lib.Count.{onesIn}
 use Rattle.texts.specs.Decimal.{digits, decimal}
-use Rattle.listing.specs.Line.{instrText, lineOf, firstLine}
+use Rattle.lines.specs.Line.{instrText, lineOf, firstLine}
 use Rattle.listing.specs.Listing.{ones, laneLines, sheetLines, listing}
 use Rattle.examples.specs.Table.{table, Each, end, _▸_}
 use Rattle.examples.proofs.Never.{never-on-tso, never-on-source}

@@ -7,9 +7,9 @@ use console::print::say;
 use console::print::say_part;
 use console::print::say_refusal;
 use pending::rules::Machine;
-use reporting::tell_move;
 use reporting::tell_state;
 use sheet::Lowered;
+use telling::tell_move;
 
 // The whole schedule first: a refusal carries out nothing.
 pub(crate) fn run_moves(machine: Machine, file: &[u8], moves: &[u8])

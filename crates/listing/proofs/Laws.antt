@@ -1,3 +1,2 @@
 -- Small laws by subject.
-pub mod Line
 pub mod Sheet

@@ -11,7 +11,7 @@ use Rattle.verdict.proofs.Lawful.{accepted-lawful}
 use Rattle.sheet.specs.Levels.{level2}
 use Rattle.sheet.specs.Bytes.{sheetBytes}
 use Rattle.sheet.proofs.ReadBack.{lawful-back}
-use Rattle.listing.specs.Line.{firstLine}
+use Rattle.lines.specs.Line.{firstLine}
 use Rattle.listing.specs.Listing.{ones, sheetLines, listing, sheetText}
 
 pub lawful-text : (k : Program) (rest : List ℕ) → Lawful k

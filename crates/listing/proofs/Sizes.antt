@@ -15,10 +15,10 @@ use Rattle.sheet.proofs.Laws.Cells.{Each}
 use Rattle.sheet.proofs.Laws.Rows.{total}
 use Rattle.sheet.proofs.Fitting.{Fits, LaneFits, lanes-fit}
 use Rattle.sheet.proofs.Sizes.{sheet-size, sheet2-small}
-use Rattle.listing.specs.Line.{lineOf, firstLine, refusalLine}
+use Rattle.lines.specs.Line.{lineOf, firstLine, refusalLine}
 use Rattle.listing.specs.Listing.{ones, laneLines, sheetLines, listing}
 use Rattle.texts.proofs.Laws.Decimal.{decimal-few}
-use Rattle.listing.proofs.Laws.Line.{line-few}
+use Rattle.lines.proofs.Laws.Line.{line-few}
 
 module _ (lane : ℕ) (few : lane < 2 ^ 32) where
   -- the line of an instruction that fits its bytes

@@ -1,4 +1,3 @@
--- The text of a level 2 sheet. Line: one line; Listing: the whole.
-pub mod Line
+-- The text of a level 2 sheet, whole, and of a refusal.
 pub mod Listing
 pub mod Examples

@@ -8,7 +8,7 @@ use Rattle.verdict.specs.Verdict.{Verdict, refused, accepted, verdict}
 use Rattle.sheet.specs.Layout.{Instr}
 use Rattle.sheet.specs.Levels.{level2, sheetLanes}
 use Rattle.sheet.specs.Read.{readSheet}
-use Rattle.listing.specs.Line.{lineOf, firstLine, refusalLine}
+use Rattle.lines.specs.Line.{lineOf, firstLine, refusalLine}
 
 -- the ones in a mask of 16 bits
 unfoldable pub ones : ℕ → ℕ

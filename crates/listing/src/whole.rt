@@ -1,5 +1,5 @@
 // The whole listing of a level 2 sheet, from the sheet's bytes and the kernel's mask.
-use super::line::put_line;
+use lines::line::put_line;
 use rows::read::byte_at;
 use rows::read::word_at;
 use sheet::Lowered;
@@ -13,7 +13,7 @@ ghost use Rattle.sheet.specs.Read.{readRows, readSheet, counts};
 ghost use Rattle.sheet.specs.Put.{Puts};
 ghost use Rattle.listing.specs.Listing.{ones, laneLines, sheetLines, sheetText};
 ghost use Rattle.sheet.specs.Bytes.{writeInto};
-ghost use Rattle.listing.specs.Line.{firstLine, refusalLine};
+ghost use Rattle.lines.specs.Line.{firstLine, refusalLine};
 
 // The lines of a lane of `count` instructions, whose bytes begin at `from`.
 fn put_lane(out: &mut [u8], start: usize, lane: u32, count: u32, sheet: &[u8], from: usize) -> usize

@@ -13,10 +13,10 @@ use crate::plan::plan_of;
 use kernel::accepted::chain_from;
 use kernel::fields::head_of;
 use placement::place::Placement;
-use rows::put::put_counts;
-use rows::put::put_first;
 use rows::read::byte_at;
 use rows::read::word_at;
+use writing::put::put_counts;
+use writing::put::put_first;
 
 // Writes lane t from `at` on; the position behind it.
 fn put_lane(out: &mut [u8], at: usize, s: &[u8], t: usize, placement: Placement) -> usize

@@ -5,8 +5,8 @@ ghost use Rattle.placement.specs.Place.{chosen};
 ghost use Rattle.sheet.specs.Put.{Puts};
 ghost use Rattle.lowering.specs.Put.{rowIf, marked, stepBytes};
 use kernel::accepted::Op;
-use rows::put::put_op;
-use rows::put::put_row;
+use writing::put::put_op;
+use writing::put::put_row;
 
 // Which barriers stand directly before an operation.
 pub struct Marks {

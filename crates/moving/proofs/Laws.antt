@@ -1,4 +1,3 @@
--- Laws: States rows of lanes, Turns what a turn makes of them, Commits what a commit does.
+-- Laws: States rows of lanes, Turns what a turn makes of them.
 pub mod States
 pub mod Turns
-pub mod Commits

@@ -10,8 +10,8 @@ use Rattle.machine.specs.Step.{Core, Turn, waits, refuses, passes, does, execut
 use Rattle.machine.specs.State.{Lane, State, setLane}
 use Rattle.pending.specs.declared.lane.Lane.{Lane as Stored}
 use Rattle.pending.specs.declared.rules.Machine.{Machine as Coded}
-use Rattle.moving.specs.declared.step.Moved.{Moved}
-use Rattle.moving.specs.declared.step.Moved.the-variants.{Waited, Done, ReleaseNotHeld}
+use Rattle.moving.specs.declared.Moved.{Moved}
+use Rattle.moving.specs.declared.Moved.the-variants.{Waited, Done, ReleaseNotHeld}
 use Rattle.pending.specs.Lanes.{laneIn}
 use Rattle.pending.specs.Machines.{machineIn}
 

@@ -1,5 +1,9 @@
-// One move of a lane of a state that is borrowed as rows: an operation, a barrier, a commit.
-pub mod commit;
+// The state of four lanes borrowed as rows: a lane taken from it and put back, and what a move came to.
 pub mod held;
-pub mod local;
-pub mod step;
+
+// What a move came to; an UNLOCK of a lock that the lane does not hold is refused.
+pub enum Moved {
+    Waited,
+    Done,
+    ReleaseNotHeld,
+}

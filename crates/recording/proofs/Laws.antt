@@ -1,6 +1,4 @@
 -- Laws by subject.
-pub mod Legal
-pub mod Ended
 pub mod Put
 pub mod Entries
 pub mod Lanes

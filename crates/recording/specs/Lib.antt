@@ -1,4 +1,3 @@
--- Record: the bytes of the state record; Stored: what the code writes of it; Counts: the lengths of the programs.
+-- Record: the bytes of the state record; Stored: what the code writes of it.
 pub mod Record
 pub mod Stored
-pub mod Counts

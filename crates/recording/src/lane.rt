@@ -11,7 +11,7 @@ ghost use Rattle.recording.specs.Stored.{storedOf};
 use crate::put::put_table;
 use crate::put::put_words;
 use kernel::accepted::count;
-use rows::put::put_row;
+use writing::put::put_row;
 
 // A pending entry: kind 1 is a store, 2 the release of a lock.
 fn write_entry(out: &mut [u8], at: usize, cell: u8, value: u32) -> usize

@@ -1,5 +1,4 @@
-// The state record of a run, written for C, and the tests of a run: is its schedule legal, has it finished.
-pub mod judge;
+// The state record of a run, written for C.
 mod lane;
 mod put;
 pub mod state;

@@ -7,6 +7,7 @@ ghost use Rattle.sheet.specs.Bytes.{word, quad};
 ghost use Rattle.sheet.specs.Put.{Puts, inTurn};
 ghost use Rattle.recording.specs.Record.{double};
 use rows::number::low;
+use rows::number::wide;
 
 pub(crate) fn put_four(out: &mut [u8], at: usize, a: u8, b: u8, c: u8, d: u8) -> usize
     requires { ⌜ at + 4 ≤ length (now out) ⌝ }
@@ -42,12 +43,6 @@ pub(crate) fn put_double(out: &mut [u8], at: usize, n: usize) -> usize
 {
     let next = put_quad(out, at, n);
     put_quad(out, next, n / 4294967296)
-}
-
-pub(crate) fn wide(x: u32) -> usize
-    ensures { λ r. ⌜ r ≡ x ⌝ }
-{
-    x as usize
 }
 
 // Word i of a row; 0 past its end.

@@ -2,4 +2,5 @@
 pub mod Positions
 pub mod Lane
 pub mod Whole
+pub mod Proper
 pub mod Lower

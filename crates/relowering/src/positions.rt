@@ -1,17 +1,12 @@
 // Which rows of a level 1 lane stay at level 2, and where they come to stand.
 ghost use mathlib.Core.Path.{_≡_};
-ghost use Prim.Native.Nat.{_*_, _≤_};
+ghost use Prim.Native.Nat.{_*_, _≤_, _<_};
 ghost use lib.ListN.{length};
 ghost use Rattle.sheet.specs.Levels.{level2};
 ghost use Rattle.sheet.specs.Read.{readRows};
 ghost use Rattle.sheet.specs.Relower.{relower};
 ghost use Rattle.relowering.specs.Rows.{staysBy, PositionsTo};
 use rows::number::one;
-
-// The position of each row among those that stay, and behind the last row how many stay.
-pub struct Positions {
-    pub at: [u32; 321],
-}
 
 // Whether a row of this code stays: 11 to 13 are dropped.
 pub(crate) fn stays(code: u8) -> bool
@@ -25,19 +20,19 @@ pub(crate) fn stays(code: u8) -> bool
     }
 }
 
-pub(crate) fn positions_of(rows: &[u8], n: usize) -> Positions
-    requires { ⌜ (n ≤ 320) × (8 * n ≤ length (now rows)) ⌝ }
-    ensures { λ r. ⌜ PositionsTo n (now (rows .entry)) n (r .at) ⌝ }
+// The position of each row among those that stay, and behind the last row how many stay.
+pub(crate) fn find_positions(rows: &[u8], n: usize, new: &mut [u32])
+    requires { ⌜ (n ≤ 320) × (8 * n ≤ length (now rows)) × (n < length (now new)) ⌝ }
+    ensures { λ _. ⌜ PositionsTo n (now (rows .entry)) n (now (new .exit)) ⌝ }
 {
-    let mut at = [0u32; 321];
+    new[0] = 0;
     let mut p = 0;
     while p < n {
-        let here = at[p];
+        let here = new[p];
         let kept = one(stays(rows[8 * p]));
         p += 1;
-        at[p] = here + kept;
+        new[p] = here + kept;
     }
-    Positions { at }
 }
 
 // How many of n rows stay.

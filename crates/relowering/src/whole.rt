@@ -7,15 +7,15 @@ ghost use Rattle.rows.specs.Rows.{partsIn};
 ghost use Rattle.sheet.specs.Bytes.{writeInto};
 ghost use Rattle.sheet.specs.Put.{inTurn};
 ghost use Rattle.sheet.specs.Relower.{relowerBytes};
-ghost use Rattle.relowering.specs.Rows.{Readable, laneAt2, rowsAt2};
+ghost use Rattle.relowering.specs.Rows.{Readable, Fitting, laneAt2, rowsAt2};
 use crate::lane::relower_lane;
 use crate::positions::count_kept;
 use rows::parts::Parts;
 use rows::parts::parts_of;
-use rows::put::put_counts;
-use rows::put::put_first;
 use rows::read::byte_at;
 use sheet::Lowered;
+use writing::put::put_counts;
+use writing::put::put_first;
 
 // How many rows of lane t stay.
 fn kept_at(sheet: &[u8], parts: Parts, t: usize) -> usize
@@ -29,8 +29,8 @@ fn kept_at(sheet: &[u8], parts: Parts, t: usize) -> usize
 }
 
 // Writes the four lanes behind the header.
-fn relower_lanes(out: &mut [u8], sheet: &[u8], parts: Parts)
-    requires { ⌜ Readable (now sheet) × (parts ≡ partsIn (now sheet)) ⌝ }
+fn relower_lanes(out: &mut [u8], sheet: &[u8], parts: Parts, new: &mut [u32])
+    requires { ⌜ Readable (now sheet) × (parts ≡ partsIn (now sheet)) × Fitting (now sheet) (now new) ⌝ }
     requires { ⌜ 16 + length (inTurn (rowsAt2 (now sheet)) 4) ≤ length (now out) ⌝ }
     ensures { λ r. ⌜ now (out .exit) ≡ sets (now (out .entry)) 16 (inTurn (rowsAt2 (now (sheet .entry))) 4) ⌝ }
 {
@@ -40,14 +40,15 @@ fn relower_lanes(out: &mut [u8], sheet: &[u8], parts: Parts)
     let mut t = 0;
     while t < 4 {
         let first = from[t];
-        at += relower_lane(&mut out[at..], &sheet[first..], count[t]);
+        at += relower_lane(&mut out[at..], &sheet[first..], count[t], new);
         t += 1;
     }
 }
 
-// The level 2 sheet at the front of `out`; 9, and `out` as it was, where it does not fit.
-pub(crate) fn relower(sheet: &[u8], out: &mut [u8]) -> Lowered
-    requires { ⌜ Readable (now sheet) ⌝ }
+// The level 2 sheet at the front of `out`; 9, and `out` as it was, where it does not fit. `new` is room for the
+// positions of one lane.
+pub(crate) fn relower(sheet: &[u8], out: &mut [u8], new: &mut [u32]) -> Lowered
+    requires { ⌜ Readable (now sheet) × Fitting (now sheet) (now new) ⌝ }
     ensures { λ r. ⌜ (r, now (out .exit)) ≡ writeInto (relowerBytes (now (sheet .entry))) (now (out .entry)) ⌝ }
 {
     let parts = parts_of(sheet);
@@ -68,6 +69,6 @@ pub(crate) fn relower(sheet: &[u8], out: &mut [u8]) -> Lowered
         0,
     );
     put_counts(out, a, b, c, d);
-    relower_lanes(out, sheet, parts);
+    relower_lanes(out, sheet, parts, new);
     Lowered::Wrote(size)
 }

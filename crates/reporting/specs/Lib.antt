@@ -1,5 +1,3 @@
--- The text of a run: a line for each move, and the state at its end.
-pub mod Words
-pub mod Moves
+-- The text of the state at the end of a run, and an example.
 pub mod States
 pub mod Examples

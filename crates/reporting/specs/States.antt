@@ -7,9 +7,9 @@ use Rattle.kernel.specs.Fields.{byte, word, quad}
 use Rattle.sheet.specs.Put.{inTurn}
 use Rattle.texts.specs.Decimal.{decimal}
 use Rattle.texts.specs.Words.{space, newline, named}
-use Rattle.reporting.specs.Words.{doneCount, waitedCount, finishedYes, finishedNo, memoryWord, locksWord}
-use Rattle.reporting.specs.Words.{laneStart, positionWord, registersWord, pendingWord}
-use Rattle.reporting.specs.Moves.{laneFrom, positionIn, registerIn, entryFrom, entryText}
+use Rattle.fields.specs.Words.{doneCount, waitedCount, finishedYes, finishedNo, memoryWord, locksWord}
+use Rattle.fields.specs.Words.{laneStart, positionWord, registersWord, pendingWord}
+use Rattle.fields.specs.Places.{laneFrom, positionIn, registerIn, entryFrom, entryText}
 
 -- n numbers, each behind a space
 abbrev pub spaced : (ℕ → ℕ) → ℕ → List ℕ

@@ -1,8 +1,4 @@
-// The text of a run, for the integrator.
-mod entry;
-mod moves;
-mod places;
+// The text of the state at the end of a run, for the integrator.
 mod states;
 
-pub use moves::tell_move;
 pub use states::tell_state;

@@ -1,5 +1,6 @@
 -- Laws by subject.
-pub mod Put
+pub mod Fits
 pub mod Read
+pub mod Lanes
 pub mod Parts
 pub mod Filled

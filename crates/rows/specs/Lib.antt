@@ -1,3 +1,5 @@
--- Rows: the fields of an instruction, and where the rows of each lane lie; Filled: an array of positions.
+-- Rows: the fields of an instruction, and where the rows of each lane lie; Lanes: a lane's operations as rows;
+-- Filled: an array of positions.
 pub mod Rows
+pub mod Lanes
 pub mod Filled

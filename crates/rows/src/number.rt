@@ -1,7 +1,8 @@
-// Numbers as bytes and tests as numbers.
+// Numbers as bytes, tests as numbers, and whether eight bytes fit.
 ghost use mathlib.Core.Path.{_≡_};
 ghost use mathlib.Core.Bool.{cond};
-ghost use Prim.Native.Nat.{_%_, _≤_};
+ghost use Prim.Native.Nat.{_+_, _%_, _≤_};
+ghost use lib.Dec.{leb};
 
 // The lowest byte of a number.
 pub fn low(n: usize) -> u8
@@ -15,4 +16,18 @@ pub fn one(b: bool) -> u32
     ensures { λ r. ⌜ (r ≡ cond b 1 0) × (r ≤ 1) ⌝ }
 {
     if b { 1 } else { 0 }
+}
+
+// A number of 32 bits, as wide as an index.
+pub fn wide(x: u32) -> usize
+    ensures { λ r. ⌜ r ≡ x ⌝ }
+{
+    x as usize
+}
+
+// Eight bytes from `at` on fit.
+pub fn fits(len: usize, at: usize) -> bool
+    ensures { λ r. ⌜ r ≡ leb (at + 8) len ⌝ }
+{
+    if len < 8 { false } else { at <= len - 8 }
 }

@@ -4,7 +4,7 @@ ghost use Prim.Native.Nat.{_+_, _<_, _≤_};
 ghost use lib.ListN.{length, drop};
 ghost use Rattle.kernel.specs.Fields.{byte, word, quad};
 ghost use Rattle.rows.specs.Rows.{rowIn};
-use crate::put::fits;
+use crate::number::fits;
 
 // The fields of an instruction: its code, a, b, and the constant or the target's position.
 pub struct Row {

@@ -7,8 +7,8 @@ ghost use Rattle.pending.specs.Lanes.{flags};
 ghost use Rattle.moving.specs.Ready.{Movable};
 ghost use Rattle.moving.specs.States.{rowsOf, heldIn, Made};
 use crate::carry::carry;
-use moving::commit::commit;
-use moving::step::Moved;
+use accessing::commit::commit;
+use moving::Moved;
 use pending::rules::Machine;
 use rows::read::row_at;
 

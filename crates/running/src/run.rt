@@ -7,7 +7,7 @@ ghost use Rattle.machine.specs.Moves.{movesIn};
 ghost use Rattle.running.specs.Runs.{Runs, Runnable, Ends};
 ghost use Rattle.moving.specs.States.{rowsOf, heldIn, Sized};
 use crate::moves::move_lane;
-use moving::step::Moved;
+use moving::Moved;
 use pending::rules::Machine;
 
 // The counts of moves done and waited, or the lane and the position of an UNLOCK that was refused.

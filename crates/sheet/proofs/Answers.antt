@@ -37,6 +37,49 @@ pub record BytesIn (bytes : Program → List ℕ) (s own after : List ℕ) : Typ
   pub accepts : verdict s ≡ accepted kernel
   pub front : after ≡ over (bytes kernel) own
 
+-- in a buffer of whatever length: bytes were written, or the file is refused, but for 9
+module _ (bytes : Program → List ℕ) (s own : List ℕ) where
+  -- what is answered to an accepted file, by whether the buffer is too short
+  abbrev outcome : Program → Bool → Lowered × List ℕ
+  outcome k b = cond b (Refuses 9 0, own) (Wrote (length (bytes k)), over (bytes k) own)
+
+  pub wrote-any : {n : ℕ} {after : List ℕ} → (Wrote n, after) ≡ answerBy bytes (verdict s) own
+      → BytesIn bytes s own after
+  wrote-any {n} {after} p = go (verdict s) refl p
+    where
+      by : (k : Program) (b : Bool) → _≡_ {A = Lowered × List ℕ} (Wrote n, after) (outcome k b)
+          → after ≡ over (bytes k) own
+      by k true x =
+          let clash : _≡_ {A = ℕ} 0 1 = ap (λ (z : Lowered × List ℕ). kindOf (z .0)) x in
+          absurd (omega arith)
+      by k false x = ap (λ (z : Lowered × List ℕ). z .1) x
+
+      go : (v : Verdict) → verdict s ≡ v → (Wrote n, after) ≡ answerBy bytes v own → BytesIn bytes s own after
+      go (refused m q) e x =
+          let clash : _≡_ {A = ℕ} 0 1 = ap (λ (z : Lowered × List ℕ). kindOf (z .0)) x in
+          absurd (omega arith)
+      go (accepted k) e x =
+          record { kernel = k; accepts = e; front = by k (ltb (length own) (length (bytes k))) x }
+
+  pub refuses-any : {n r : ℕ} {after : List ℕ} → (n ≡ 9 → ⊥) → (Refuses n r, after) ≡ answerBy bytes (verdict s) own
+      → verdict s ≡ refused n r
+  refuses-any {n} {r} {after} other p = go (verdict s) refl p
+    where
+      by : (k : Program) (b : Bool)
+          → _≡_ {A = Lowered × List ℕ} (Refuses n r, after) (outcome k b) → ⊥
+      by k true x = other (ap (λ (z : Lowered × List ℕ). numberIn (z .0)) x)
+      by k false x =
+          let clash : _≡_ {A = ℕ} 1 0 = ap (λ (z : Lowered × List ℕ). kindOf (z .0)) x in
+          absurd (omega arith)
+
+      go : (v : Verdict) → verdict s ≡ v → (Refuses n r, after) ≡ answerBy bytes v own → verdict s ≡ refused n r
+      go (refused m q) e x =
+          e
+          ∙ ap₂ refused (ap (λ (z : Lowered × List ℕ). numberIn (z .0)) (sym x))
+          (ap (λ (z : Lowered × List ℕ). recordIn (z .0)) (sym x))
+      go (accepted k) e x = absurd (by k (ltb (length own) (length (bytes k))) x)
+
+-- in a buffer that takes the bytes of every kernel
 module _
     (bytes : Program → List ℕ) (size : ℕ) (small : (k : Program) → Lawful k → length (bytes k) ≤ size)
     (s own : List ℕ) (big : size ≤ length own) where
@@ -59,17 +102,7 @@ module _
 
   pub wrote-by : {n : ℕ} {after : List ℕ} → (Wrote n, after) ≡ answerBy bytes (verdict s) own
       → BytesIn bytes s own after
-  wrote-by {n} {after} p = go (verdict s) refl p
-    where
-      go : (v : Verdict) → verdict s ≡ v → (Wrote n, after) ≡ answerBy bytes v own → BytesIn bytes s own after
-      go (refused m q) e x =
-          let clash : _≡_ {A = ℕ} 0 1 = ap (λ (z : Lowered × List ℕ). kindOf (z .0)) x in
-          absurd (omega arith)
-      go (accepted k) e x = record {
-        kernel = k;
-        accepts = e;
-        front = ap (λ (z : Lowered × List ℕ). z .1) (x ∙ written-by k e);
-      }
+  wrote-by = wrote-any bytes s own
 
 -- a buffer of 10,256 bytes takes every sheet
 module _ (l : Level) (s own : List ℕ) (big : 10256 ≤ length own) where

@@ -11,12 +11,12 @@ use Rattle.placement.specs.declared.cookbook.Barrier.the-variants.{LL, LS, SS, 
 use Rattle.sheet.specs.Layout.{Instr, op, barrier, sheet}
 use Rattle.sheet.specs.Levels.{Level, level1, level2, placed, placedLanes, sheetLanes, volatileIn}
 use Rattle.sheet.specs.Bytes.{instrBytes, joined, laneBytes, levelNumber, maskAt, headerBy, sheetBytes}
-use Rattle.sheet.specs.Read.{readInstr, readRows, pastRows, readLanes, readSheet}
+use Rattle.sheet.specs.Read.{readInstr, readRows, pastRows, readLanes, counts, readSheet}
 use Rattle.sheet.proofs.Laws.Cells.{Each}
 use Rattle.sheet.proofs.Laws.Rows.{word-back, quad-back}
 use Rattle.sheet.proofs.Fitting.{Fits, LaneFits, lanes-fit}
 
-read-back : (l : Level) (i : Instr) (rest : List ℕ) → Fits i
+pub read-back : (l : Level) (i : Instr) (rest : List ℕ) → Fits i
     → (readInstr (instrBytes l i ++ rest) ≡ i) × (drop 8 (instrBytes l i ++ rest) ≡ rest)
 read-back l (op (Set a c)) rest h = (ap (λ n. op (Set a n)) (quad-back c (h .1)), refl)
 read-back l (op (Add a b)) rest h = (refl, refl)
@@ -76,16 +76,22 @@ taken (x ∷ y ∷ z ∷ u ∷ []) few h =
     cc (count-back x (h .0), count-back y (h .1 .0), count-back z (h .1 .1 .0), count-back u (h .1 .1 .1 .0))
 taken (x ∷ y ∷ z ∷ u ∷ v ∷ xs) few h = absurd (omega arith)
 
--- what is read of a buffer that begins with a header and the bytes of its lanes are those lanes
-pub header-back : (l : Level) (t ls ks level mask : ℕ) (xs : List (List Instr)) (rest : List ℕ) → t ≡ length xs
-    → length xs ≤ 4 → Each LaneFits xs
-    → readSheet (headerBy t ls ks level mask xs ++ joined (map (laneBytes l) xs) ++ rest) ≡ xs
-unfolding readSheet
-header-back l t ls ks level mask xs rest e few h =
-    let body : List ℕ = joined (map (laneBytes l) xs) in
-    ap readSheet (append-assoc (headerBy t ls ks level mask xs) body rest)
-    ∙ ap (λ ns. readLanes ns (body ++ rest)) (ap (λ n. take n (fourCounts xs)) e ∙ taken xs few h)
-    ∙ lanes-back l xs rest h
+-- a buffer that begins with a header and the bytes of its lanes: the counts in it, and what is read of it
+module _ (l : Level) (t ls ks level mask : ℕ) (xs : List (List Instr)) (rest : List ℕ) (e : t ≡ length xs)
+    (few : length xs ≤ 4)
+    (h : Each LaneFits xs) where
+  pub counts-back : counts (headerBy t ls ks level mask xs ++ joined (map (laneBytes l) xs) ++ rest) ≡ map length xs
+  counts-back =
+      ap counts (append-assoc (headerBy t ls ks level mask xs) (joined (map (laneBytes l) xs)) rest)
+      ∙ ap (λ n. take n (fourCounts xs)) e ∙ taken xs few h
+
+  pub header-back : readSheet (headerBy t ls ks level mask xs ++ joined (map (laneBytes l) xs) ++ rest) ≡ xs
+  unfolding readSheet
+  header-back =
+      let body : List ℕ = joined (map (laneBytes l) xs) in
+      ap readSheet (append-assoc (headerBy t ls ks level mask xs) body rest)
+      ∙ ap (λ ns. readLanes ns (body ++ rest)) (ap (λ n. take n (fourCounts xs)) e ∙ taken xs few h)
+      ∙ lanes-back l xs rest h
 
 pub sheet-back : (l : Level) (k : Program) (rest : List ℕ) → length (k .lanes) ≤ 4 → Each LaneFits (sheetLanes l k)
     → readSheet (sheetBytes l k ++ rest) ≡ sheetLanes l k

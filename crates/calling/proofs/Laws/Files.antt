@@ -25,10 +25,10 @@ use Rattle.reached.proofs.Answered.{not-refused}
 use Rattle.pending.specs.declared.rules.Machine.{Machine as Coded}
 use Rattle.pending.specs.declared.rules.Machine.the-variants.{Source, Tso}
 use Rattle.pending.specs.Machines.{machineIn}
-use Rattle.calling.specs.Programs.{programBytes, programBy}
+use Rattle.starting.specs.Programs.{programBytes, programBy}
 use Rattle.calling.specs.Calls.{runInto, runFileBy}
-use Rattle.calling.specs.Setup.{ProgramIn, ranInto}
-use Rattle.calling.proofs.Laws.Programs.{header-read}
+use Rattle.starting.specs.Setup.{ProgramIn, ranInto}
+use Rattle.starting.proofs.Laws.Programs.{header-read}
 
 -- a legal schedule's run is no refusal
 pub ran-number : (s : List ℕ) (k : Program) → verdict s ≡ accepted k → (m : Machine) (mvs : List Move)

@@ -12,7 +12,7 @@ use Rattle.kernel.specs.Fields.{word}
 use Rattle.sheet.specs.Read.{readInstr, readRows, pastRows, readLanes, counts}
 use Rattle.rows.proofs.Laws.Parts.{past, four-at}
 use Rattle.rows.proofs.Laws.Read.{rows-on}
-use Rattle.listing.specs.Line.{lineOf}
+use Rattle.lines.specs.Line.{lineOf}
 use Rattle.listing.specs.Listing.{ones, laneLines, sheetLines}
 
 -- one instruction more

@@ -10,7 +10,7 @@ use Rattle.sheet.specs.declared.Lowered.the-variants.{Wrote, Refuses}
 use Rattle.sheet.specs.Levels.{level2}
 use Rattle.sheet.specs.Bytes.{sheetBytes, lower2}
 use Rattle.sheet.proofs.Answers.{refuses-as, wrote-as}
-use Rattle.listing.specs.Line.{refusalLine}
+use Rattle.lines.specs.Line.{refusalLine}
 use Rattle.listing.specs.Listing.{printed, printedBy, sheetText}
 use Rattle.listing.proofs.SheetListing.{accepted-text}
 

@@ -2,58 +2,79 @@
 use Prim.Native.Nat.{ℕ, suc, min, _+_, _*_, _≤_, _<_}
 use mathlib.Core.Path.{_≡_, refl, sym, ap, _∙_, subst}
 use mathlib.Core.Bool.{true, false, cond}
+use Rattle.kernel.specs.declared.accepted.Op.the-variants.{Set, Add, Load, Store, Lock, Unlock, Skip}
 use mathlib.Core.List.{List, [], _∷_, _++_, append-nil}
 use native.Mathlib.Omega.{arith}
 use lib.Dec.{eqb}
-use lib.ListN.{length, drop, length-append}
-use borrow.Author.Tests.{ne-eqb}
+use lib.ListN.{length, getD, drop, length-append}
+use lib.Seq.{getD-take}
 use Rattle.kernel.specs.Fields.{byte, quad}
-use Rattle.placement.specs.declared.cookbook.Barrier.the-variants.{SL}
+use Rattle.placement.specs.declared.cookbook.Barrier.the-variants.{LL, LS, SS, SL}
 use Rattle.rows.specs.declared.read.Row.{Row}
 use Rattle.rows.specs.Rows.{rowIn}
-use Rattle.sheet.specs.Layout.{Instr, barrier}
-use Rattle.sheet.specs.Levels.{level2}
-use Rattle.sheet.specs.Bytes.{instrBytes, laneBytes}
+use Rattle.rows.specs.Lanes.{fieldsOf}
+use Rattle.sheet.specs.Layout.{Instr, op, barrier}
+use Rattle.sheet.specs.Levels.{level1, level2}
+use Rattle.sheet.specs.Bytes.{row, instrBytes, laneBytes}
 use Rattle.sheet.specs.Put.{Puts}
-use Rattle.sheet.specs.Read.{barrierBy, instrBy, readInstr, readRows}
-use Rattle.sheet.proofs.Laws.Codes.{other-code}
-use Rattle.sheet.specs.Relower.{newPosition, aimed, relowerBy}
-use Rattle.sheet.proofs.Laws.Put.{puts-on, puts-as}
+use Rattle.sheet.specs.Read.{instrBy, readInstr, readRows}
+use Rattle.sheet.specs.Relower.{stays, newPosition, aimed, relowerBy, relower}
+use Rattle.sheet.proofs.Laws.Put.{puts-on, puts-as, puts-length}
 use Rattle.sheet.proofs.Laws.Rows.{lane-bytes, bytes-append}
-use Rattle.relowering.specs.Rows.{staysBy, PositionsTo, aims, rowBytes}
-use Rattle.relowering.proofs.Laws.Positions.{stays-code, aimed-word, keptTo, kept-suc, kept-grow, position-end}
+use Rattle.relowering.specs.Rows.{staysBy, PositionsTo, Proper, aims, rowBytes}
+use Rattle.relowering.proofs.Laws.Positions.{stays-code, keptTo, kept-suc, kept-grow, position-end}
 
--- a code that stays and is no operation's is SL's
-not-dropped : (o : ℕ) → staysBy o ≡ true → (eqb o 11 ≡ false) × (eqb o 12 ≡ false) × (eqb o 13 ≡ false)
-not-dropped o h = (at 11 refl, at 12 refl, at 13 refl)
-  where
-    at : (k : ℕ) → staysBy k ≡ false → eqb o k ≡ false
-    at k f = ne-eqb o k (λ e. let z : _≡_ {A = ℕ} 0 1 = ap (λ b. cond b 0 1) (sym h ∙ ap staysBy e ∙ f) in omega arith)
+-- the constant or the target of an instruction
+abbrev wordIn : Instr → ℕ
+wordIn (op o) = fieldsOf o .word
+wordIn (barrier b) = 0
 
-pub other-kept : (o a b c : ℕ) → (o ≡ 1 → ⊥) → (o ≡ 2 → ⊥) → (o ≡ 3 → ⊥) → (o ≡ 4 → ⊥) → (o ≡ 5 → ⊥) → (o ≡ 6 → ⊥)
-    → (o ≡ 7 → ⊥) → staysBy o ≡ true → instrBy o a b c ≡ barrier SL
-other-kept o a b c n1 n2 n3 n4 n5 n6 n7 h =
-    let d = not-dropped o h in
-    let fence : barrierBy o ≡ SL = rw (d .0, d .1, d .2) refl in
-    sym (other-code o a b c n1 n2 n3 n4 n5 n6 n7) ∙ ap barrier fence
+-- the fields of an instruction's level 1 row make its level 2 row: SL becomes MFENCE, and a SKIP is aimed by r
+module _ (r : ℕ → ℕ) (o a b c : ℕ) where
+  abbrev level2Row : List ℕ
+  level2Row = row (cond (eqb o 14) 15 o) a b (cond (eqb o 7) (r c) c)
+
+  made : (i : Instr) → i ≡ instrBy o a b c → o ≡ getD (instrBytes level1 i) 0 0 → a ≡ getD (instrBytes level1 i) 1 0
+      → b ≡ getD (instrBytes level1 i) 2 0 → c ≡ quad (instrBytes level1 i) 4 → stays level2 i [] ≡ true
+      → level2Row ≡ instrBytes level2 (aimed r i)
+  made (op (Set x k)) e eo ea eb ec h =
+      let word : c ≡ k = sym (ap wordIn e ∙ ap (λ n. wordIn (instrBy n a b c)) eo) in
+      rw (eo, ea, eb, word) refl
+  made (op (Add x y)) e eo ea eb ec h = rw (eo, ea, eb, ec) refl
+  made (op (Load x y)) e eo ea eb ec h = rw (eo, ea, eb, ec) refl
+  made (op (Store x y)) e eo ea eb ec h = rw (eo, ea, eb, ec) refl
+  made (op (Lock y)) e eo ea eb ec h = rw (eo, ea, eb, ec) refl
+  made (op (Unlock y)) e eo ea eb ec h = rw (eo, ea, eb, ec) refl
+  made (op (Skip x t)) e eo ea eb ec h =
+      let word : c ≡ t = sym (ap wordIn e ∙ ap (λ n. wordIn (instrBy n a b c)) eo) in
+      rw (eo, ea, eb, word) refl
+  made (barrier LL) e eo ea eb ec h = let z : _≡_ {A = ℕ} 0 1 = ap (λ t. cond t 1 0) h in absurd (omega arith)
+  made (barrier LS) e eo ea eb ec h = let z : _≡_ {A = ℕ} 0 1 = ap (λ t. cond t 1 0) h in absurd (omega arith)
+  made (barrier SS) e eo ea eb ec h = let z : _≡_ {A = ℕ} 0 1 = ap (λ t. cond t 1 0) h in absurd (omega arith)
+  made (barrier SL) e eo ea eb ec h = rw (eo, ea, eb, ec) refl
 
 module _ (r : ℕ → ℕ) (s : List ℕ) where
-  abbrev fields : Row → Instr
-  fields x = instrBy (x .code) (x .a) (x .b) (x .word)
+  -- each byte of a proper row is its instruction's
+  at-row : Proper s → (j : ℕ) → j < 8 → byte s j ≡ getD (instrBytes level1 (readInstr s)) j 0
+  at-row e j h = sym (getD-take 8 s j 0 h) ∙ ap (λ l. getD l j 0) e
 
   -- the bytes of a row that stays, and of one that does not
-  kept : staysBy (byte s 0) ≡ true → instrBytes level2 (aimed (λ t. r (quad s 4)) (readInstr s)) ≡ rowBytes r s
-  kept h =
+  kept : Proper s → staysBy (byte s 0) ≡ true → level2Row r (byte s 0) (byte s 1) (byte s 2) (quad s 4) ≡ rowBytes r s
+  kept e h =
       let yes = stays-code (byte s 0) (byte s 1) (byte s 2) (quad s 4) ∙ h in
+      let at = at-row e in
+      let word : quad s 4 ≡ quad (instrBytes level1 (readInstr s)) 4 =
+      omega (arith, at 4 (omega arith), at 5 (omega arith), at 6 (omega arith), at 7 (omega arith)) in
       rw yes
-      (ap (instrBytes level2) (aimed-word r (quad s 4) (byte s 0) (byte s 1) (byte s 2))
+      (made r (byte s 0) (byte s 1) (byte s 2) (quad s 4) (readInstr s) refl (at 0 (omega arith)) (at 1 (omega arith))
+      (at 2 (omega arith)) word yes
       ∙ sym (append-nil (instrBytes level2 (aimed r (readInstr s)))))
 
-  pub row-kept : {x : Row} → x ≡ rowIn s → staysBy (x .code) ≡ true
-      → instrBytes level2 (aimed (λ t. r (x .word)) (fields x)) ≡ rowBytes r s
-  row-kept e =
-      subst (λ (x : Row). staysBy (x .code) ≡ true
-      → instrBytes level2 (aimed (λ t. r (x .word)) (fields x)) ≡ rowBytes r s) (sym e) kept
+  pub row-kept : {x : Row} → x ≡ rowIn s → Proper s → staysBy (x .code) ≡ true
+      → level2Row r (x .code) (x .a) (x .b) (x .word) ≡ rowBytes r s
+  row-kept e p =
+      subst (λ (x : Row). staysBy (x .code) ≡ true → level2Row r (x .code) (x .a) (x .b) (x .word) ≡ rowBytes r s)
+      (sym e) (kept p)
 
   pub row-dropped : {x : Row} → x ≡ rowIn s → staysBy (x .code) ≡ false → [] ≡ rowBytes r s
   row-dropped e h =
@@ -93,3 +114,18 @@ aims-are n s new f =
     let e : (t : ℕ) → aims new n t ≡ newPosition level2 (readRows n s) t =
     λ t. f .each (min t n) (omega arith) ∙ position-end n t s in
     λ i t. e t i
+
+-- there is room for row p where there is room for the lane, and the lane is whole after its last row
+module _ (n : ℕ) (s : List ℕ) {new : List ℕ} (f : PositionsTo n s n new) where
+  whole : laneTo (aims new n) s n ≡ laneBytes level2 (relower level2 (readRows n s))
+  whole = ap (λ (g : ℕ → ℕ). laneTo g s n) (aims-are n s new f)
+
+  pub row-room : (p : ℕ) {l m : List ℕ} {i : ℕ} → Puts l 0 (laneTo (aims new n) s p) m i → p < n
+      → length (laneBytes level2 (relower level2 (readRows n s))) ≤ length l
+      → i + length (rowBytes (aims new n) (drop (8 * p) s)) ≤ length m
+  row-room p put h room =
+      omega (arith, lane-room (aims new n) s p n h, ap length whole, room, put .behind, puts-length put)
+
+  pub lane-whole : (p : ℕ) {l m : List ℕ} {i : ℕ} → p ≡ n → Puts l 0 (laneTo (aims new n) s p) m i
+      → Puts l 0 (laneBytes level2 (relower level2 (readRows n s))) m i
+  lane-whole p last put = puts-as (ap (laneTo (aims new n) s) last ∙ whole) put

@@ -6,6 +6,7 @@ use native.Mathlib.Omega.{arith}
 use lib.ListN.{length, getD, drop, length-append, length-map}
 use Rattle.kernel.specs.Accepted.{Program}
 use Rattle.kernel.specs.Lawful.{Lawful}
+use Rattle.verdict.specs.Verdict.{refused, verdict}
 use Rattle.verdict.proofs.Lawful.{accepted-lawful}
 use Rattle.rows.specs.Rows.{countAt, partsIn}
 use Rattle.rows.proofs.Laws.Read.{rows-length}
@@ -16,11 +17,12 @@ use Rattle.sheet.specs.Levels.{level1, level2, placed, sheetLanes, volatileIn}
 use Rattle.sheet.specs.Bytes.{sheetBytes, writeInto, lowerBy, lower1, lower2}
 use Rattle.sheet.specs.Relower.{relowerBytes}
 use Rattle.sheet.proofs.Laws.Rows.{total-four}
-use Rattle.sheet.proofs.Answers.{refuses-as, wrote-as}
+use Rattle.sheet.proofs.Answers.{BytesIn, wrote-any}
 use Rattle.sheet.proofs.ReadBack.{lawful-back}
 use Rattle.sheet.proofs.RelowerBytes.{relowered-bytes}
 use Rattle.sheet.proofs.Sizes.{sheet-size, lane-few}
 use Rattle.relowering.specs.Rows.{Readable}
+use Rattle.relowering.proofs.Laws.Proper.{sheet-proper}
 
 -- a level 1 sheet can be read
 module _ (k : Program) (rest : List ℕ) (law : Lawful k) where
@@ -62,24 +64,31 @@ module _ (k : Program) (rest : List ℕ) (law : Lawful k) where
   inside (suc (suc (suc (suc t)))) h = absurd (omega arith)
 
   pub readable : Readable bytes
-  readable = record { few = λ t h. omega (arith, counted t h, lane-few level1 k law t); inside = inside }
+  readable = record {
+    few = λ t h. omega (arith, counted t h, lane-few level1 k law t);
+    proper = sheet-proper k rest law;
+    inside = inside;
+  }
 
-module _ (s own : List ℕ) (big : 10256 ≤ length own) where
-  pub first-refused : {n r : ℕ} {after : List ℕ} → (Refuses n r, after) ≡ lower1 s own → (out : List ℕ)
-      → (Refuses n r, out) ≡ lower2 s out
-  first-refused p out = ap (λ v. lowerBy level2 v out) (sym (refuses-as level1 s own big p))
+-- a refusal of the file, in a buffer that takes every sheet or by another number than 9
+pub first-refused : (s out : List ℕ) {n r : ℕ} → verdict s ≡ refused n r → (Refuses n r, out) ≡ lower2 s out
+first-refused s out e = ap (λ v. lowerBy level2 v out) (sym e)
 
-  pub first-readable : {n : ℕ} {after : List ℕ} → (Wrote n, after) ≡ lower1 s own → Readable after
-  first-readable p =
-      let w = wrote-as level1 s own big p in
-      let rest = drop (length (sheetBytes level1 (w .kernel))) own in
-      subst Readable (sym (w .front)) (readable (w .kernel) rest (accepted-lawful s (w .kernel) (w .accepts)))
+module _ (s own : List ℕ) {n : ℕ} {after : List ℕ} (p : (Wrote n, after) ≡ lower1 s own) where
+  first : BytesIn (sheetBytes level1) s own after
+  first = wrote-any (sheetBytes level1) s own p
 
-  pub first-written : {n : ℕ} {after : List ℕ} → (Wrote n, after) ≡ lower1 s own → (out : List ℕ)
-      → writeInto (relowerBytes after) out ≡ lower2 s out
-  first-written p out =
-      let w = wrote-as level1 s own big p in
-      let rest = drop (length (sheetBytes level1 (w .kernel))) own in
-      ap (λ b. writeInto (relowerBytes b) out) (w .front)
-      ∙ ap (λ b. writeInto b out) (relowered-bytes (w .kernel) rest (accepted-lawful s (w .kernel) (w .accepts)))
-      ∙ ap (λ v. lowerBy level2 v out) (sym (w .accepts))
+  abbrev behind : List ℕ
+  behind = drop (length (sheetBytes level1 (first .kernel))) own
+
+  pub first-readable : Readable after
+  first-readable =
+      subst Readable (sym (first .front)) (readable (first .kernel) behind (accepted-lawful s (first .kernel)
+      (first .accepts)))
+
+  pub first-written : (out : List ℕ) → writeInto (relowerBytes after) out ≡ lower2 s out
+  first-written out =
+      ap (λ b. writeInto (relowerBytes b) out) (first .front)
+      ∙ ap (λ b. writeInto b out) (relowered-bytes (first .kernel) behind (accepted-lawful s (first .kernel)
+      (first .accepts)))
+      ∙ ap (λ v. lowerBy level2 v out) (sym (first .accepts))

@@ -16,7 +16,7 @@ use Rattle.sheet.specs.Read.{readRows, readSheet}
 use Rattle.sheet.specs.Relower.{relower, relowerLanes, relowerBytes}
 use Rattle.sheet.proofs.Laws.Rows.{lane-bytes}
 use Rattle.sheet.proofs.Laws.Turn.{turn-all, turn-four}
-use Rattle.relowering.specs.Rows.{Readable, laneAt2, rowsAt2}
+use Rattle.relowering.specs.Rows.{Proper, Readable, Fitting, laneAt2, rowsAt2}
 
 -- what is known of lane t's part, and what is read of it
 module _ (s : List ℕ) (ok : Readable s) {p : Parts} (e : p ≡ partsIn s) (t : ℕ) (h : t < 4) where
@@ -38,6 +38,16 @@ module _ (s : List ℕ) (ok : Readable s) {p : Parts} (e : p ≡ partsIn s) (t :
       ap (readRows count) (part-from from s)
       ∙ ap (λ (q : Parts). readRows (getD (q .count) t 0) (drop (getD (q .from) t 0) s)) e
       ∙ sym (lane-rows s t h)
+
+  pub part-proper : (i : ℕ) → i < count → Proper (drop (8 * i) (take (length s - from) (drop from s)))
+  part-proper i l =
+      subst (λ b. Proper (drop (8 * i) b)) (sym (part-from from s))
+      (subst (λ (q : Parts). i < getD (q .count) t 0 → Proper (drop (8 * i) (drop (getD (q .from) t 0) s))) (sym e)
+      (ok .proper t i h) l)
+
+pub part-fits : (s new : List ℕ) → Fitting s new → {p : Parts} → p ≡ partsIn s → (t : ℕ) → t < 4
+    → getD (p .count) t 0 < length new
+part-fits s new f e t h = subst (λ (q : Parts). getD (q .count) t 0 < length new) (sym e) (f t h)
 
 module _ (s : List ℕ) where
   module _

@@ -34,7 +34,7 @@ past (suc n) s =
     past n (drop 8 s) ∙ drop-drop (8 * n) 8 s ∙ ap (λ k. drop k s) (sym e)
 
 -- the rows before lane t
-abbrev before : List ℕ → ℕ → ℕ
+abbrev pub before : List ℕ → ℕ → ℕ
 before ns zero = 0
 before [] (suc t) = 0
 before (n ∷ ns) (suc t) = n + before ns t
@@ -56,7 +56,7 @@ before-suc [] (suc t) = refl
 before-suc (n ∷ ns) zero = omega arith
 before-suc (n ∷ ns) (suc t) = omega (arith, before-suc ns t)
 
-begins : (s : List ℕ) (t : ℕ) → t < 4 → getD (partsIn s .from) t 0 ≡ 16 + 8 * before (counts s) t
+pub begins : (s : List ℕ) (t : ℕ) → t < 4 → getD (partsIn s .from) t 0 ≡ 16 + 8 * before (counts s) t
 begins s zero h = refl
 begins s (suc zero) h = omega (arith, before-suc (counts s) 0)
 begins s (suc (suc zero)) h = omega (arith, before-suc (counts s) 0, before-suc (counts s) 1)
@@ -64,7 +64,7 @@ begins s (suc (suc (suc zero))) h =
     omega (arith, before-suc (counts s) 0, before-suc (counts s) 1, before-suc (counts s) 2)
 begins s (suc (suc (suc (suc t)))) h = absurd (omega arith)
 
-many : (s : List ℕ) (t : ℕ) → t < 4 → getD (partsIn s .count) t 0 ≡ countAt s t
+pub many : (s : List ℕ) (t : ℕ) → t < 4 → getD (partsIn s .count) t 0 ≡ countAt s t
 many s zero h = refl
 many s (suc zero) h = refl
 many s (suc (suc zero)) h = refl

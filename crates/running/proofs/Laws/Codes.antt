@@ -10,7 +10,7 @@ use Rattle.sheet.specs.Layout.{Instr, barrier}
 use Rattle.rows.specs.declared.read.Row.{Row}
 use Rattle.sheet.specs.Read.{instrBy}
 use Rattle.pending.specs.declared.rules.Machine.{Machine as Coded}
-use Rattle.moving.specs.declared.step.Moved.{Moved}
+use Rattle.moving.specs.declared.Moved.{Moved}
 use Rattle.moving.specs.Ready.{Ready}
 use Rattle.moving.specs.States.{Rows, Held, Carried}
 

@@ -12,8 +12,8 @@ use Rattle.rows.proofs.Laws.Read.{rows-length}
 use Rattle.sheet.specs.Layout.{Instr}
 use Rattle.sheet.specs.Read.{readInstr, readRows}
 use Rattle.pending.specs.declared.rules.Machine.{Machine as Coded}
-use Rattle.moving.specs.declared.step.Moved.{Moved}
-use Rattle.moving.specs.declared.step.Moved.the-variants.{Waited}
+use Rattle.moving.specs.declared.Moved.{Moved}
+use Rattle.moving.specs.declared.Moved.the-variants.{Waited}
 use Rattle.moving.specs.Ready.{Ready, Movable}
 use Rattle.moving.specs.States.{Rows, Sized, Held, carries, Took, Committed, Made}
 use Rattle.moving.proofs.Laws.Turns.{took-wait}

@@ -19,8 +19,8 @@ use Rattle.machine.specs.State.{moveTurn, advance, run, begin}
 use Rattle.pending.specs.declared.rules.Machine.{Machine as Coded}
 use Rattle.running.specs.declared.run.Ended.{Ended}
 use Rattle.running.specs.declared.run.Ended.the-variants.{Ran, Refused}
-use Rattle.moving.specs.declared.step.Moved.{Moved}
-use Rattle.moving.specs.declared.step.Moved.the-variants.{Waited, Done, ReleaseNotHeld}
+use Rattle.moving.specs.declared.Moved.{Moved}
+use Rattle.moving.specs.declared.Moved.the-variants.{Waited, Done, ReleaseNotHeld}
 use Rattle.pending.specs.Machines.{machineIn}
 use Rattle.moving.specs.Ready.{LaneReady, Movable}
 use Rattle.running.specs.Runs.{Runs, outcomeBy, Ends}

@@ -3,7 +3,7 @@ use mathlib.Core.Path.{sym, ap, _∙_}
 use Rattle.verdict.specs.Verdict.{verdict}
 use Rattle.pending.specs.declared.rules.Machine.{Machine}
 use Rattle.pending.specs.Machines.{machineIn}
-use Rattle.calling.specs.Programs.{programBy}
+use Rattle.starting.specs.Programs.{programBy}
 use borrow.Author.Needs.{needs}
 use Rattle.calling.proofs.program.program_of.Statement.{statement}
 use Rattle.calling.proofs.program.program_of.Tie as tie

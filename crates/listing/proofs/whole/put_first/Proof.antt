@@ -1,8 +1,8 @@
 -- `listing::whole::put_first` meets its contract.
 use native.Mathlib.Omega.{arith}
-use Rattle.listing.specs.Line.{firstLine}
+use Rattle.lines.specs.Line.{firstLine}
 use Rattle.sheet.proofs.Laws.Put.{puts-as, puts-on}
-use Rattle.listing.proofs.Laws.Line.{first-same}
+use Rattle.lines.proofs.Laws.Line.{first-same}
 use Rattle.listing.proofs.Laws.Sheet.{ones-16}
 use borrow.Author.Needs.{needs}
 use Rattle.listing.proofs.whole.put_first.Statement.{statement}

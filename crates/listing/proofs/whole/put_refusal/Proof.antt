@@ -1,5 +1,5 @@
 -- `listing::whole::put_refusal` meets its contract.
-use Rattle.listing.specs.Line.{refusalLine}
+use Rattle.lines.specs.Line.{refusalLine}
 use Rattle.sheet.proofs.Laws.Put.{puts-on}
 use borrow.Author.Needs.{needs}
 use Rattle.listing.proofs.whole.put_refusal.Statement.{statement}

@@ -46,7 +46,7 @@ add-size-4 c = search needs
 returns : tie.Need-returns
 returns c =
     let k = c .before in
-    let a = k .before .before .before .before .before .before .before .args in
+    let a = k .before .before .before .before .before .before .before .before .args in
     let size = parts-size (a .sheet .now) _ _ _ _ (k .before .before .before .kept-at .ensures .0)
     (k .before .before .kept-at2 .ensures .0) (k .before .kept-at3 .ensures .0)
     (k .kept-at4 .ensures .0) in
@@ -69,9 +69,9 @@ put-counts-requires c κs = search needs
 
 relower-lanes-requires : tie.Need-relower-lanes-requires
 relower-lanes-requires c κs =
-    let i = c .before .before .before .before .before .before .before .before .before .before .before .before in
+    let i = c .before .before .before .before .before .before .before .before .before .before .before .before .before in
     let k = i .before in
-    let a = k .before .before .before .before .before .before .before in
+    let a = k .before .before .before .before .before .before .before .before in
     let s = a .args .sheet .now in
     let size = parts-size s _ _ _ _ (k .before .before .before .kept-at .ensures .0)
     (k .before .before .kept-at2 .ensures .0) (k .before .kept-at3 .ensures .0)
@@ -79,10 +79,10 @@ relower-lanes-requires c κs =
     let body = body-size s _ _ _ _ (k .before .before .before .kept-at .ensures .0)
     (k .before .before .kept-at2 .ensures .0) (k .before .kept-at3 .ensures .0)
     (k .kept-at4 .ensures .0) in
-    let c7 = c .before .before .before .before .before .before .before in
+    let c7 = c .before .before .before .before .before .before .before .before in
     let first = laid-length _ _ _ (c7 .put-first .ensures) in
-    let counts = laid-length _ _ _ (c .before .before .before .put-counts .ensures) in (
-      (a .pre, k .before .before .before .before .parts-of .ensures),
+    let counts = laid-length _ _ _ (c .before .before .before .before .put-counts .ensures) in (
+      (a .pre .0, k .before .before .before .before .parts-of .ensures, a .pre .1),
       omega
           (arith, size, body, i .if1 .left, first, counts),
     )
@@ -90,18 +90,20 @@ relower-lanes-requires c κs =
 same-length : tie.Need-same-length
 same-length c = search needs
 
+same-length-2 : tie.Need-same-length-2
+same-length-2 c = search needs
+
 returns-2 : tie.Need-returns-2
 returns-2 c =
-    let i = c .before .before .before .before .before .before .before .before .before .before .before .before .before
-    .before .before in
+    let i = c .before .before .before .before .before .before .before .before .before .before .before .before .before .before .before .before .before .before in
     let k = i .before in
-    let a = k .before .before .before .before .before .before .before in
+    let a = k .before .before .before .before .before .before .before .before in
     let s = a .args .sheet .now in
     let out = a .args .out .now in
     let size = parts-size s _ _ _ _ (k .before .before .before .kept-at .ensures .0)
     (k .before .before .kept-at2 .ensures .0) (k .before .kept-at3 .ensures .0)
     (k .kept-at4 .ensures .0) in
-    let c6 = c .before .before .before .before .before .before in
+    let c6 = c .before .before .before .before .before .before .before .before .before in
     let z = c6 .before .before .before .before in
     let first = z .put-first .ensures
     ∙ (λ j. laid out 0 (z .before .before .before .byte-at .ensures j ∷ z .before .before .byte-at2 .ensures j ∷ z
@@ -111,7 +113,7 @@ returns-2 c =
     (k .kept-at4 .ensures .0) in
     answer-full (relowerBytes s) out
     (whole-put out _ _ (inTurn (rowsAt2 s) 4) (relowerBytes s) refl refl whole (omega (arith, size, i .if1 .left)) first
-    (c6 .put-counts .ensures) (c .before .before .relower-lanes .ensures)) size (omega (arith, size, i .if1 .left))
+    (c6 .put-counts .ensures) (c .before .before .before .before .relower-lanes .ensures)) size (omega (arith, size, i .if1 .left))
 
 pub relower-spec : {M : Type 1} → statement M
 relower-spec =
@@ -135,4 +137,5 @@ relower-spec =
     put-counts-requires
     relower-lanes-requires
     same-length
+    same-length-2
     returns-2)

@@ -4,7 +4,7 @@ use native.Mathlib.Omega.{arith}
 use mathlib.Core.List.{[], _∷_, _++_}
 use Rattle.sheet.proofs.Laws.Put.{puts-as, puts-on}
 use Rattle.texts.specs.Words.{newline, named}
-use Rattle.reporting.specs.Words.{doneCount, waitedCount}
+use Rattle.fields.specs.Words.{doneCount, waitedCount}
 use borrow.Author.Needs.{needs}
 use Rattle.reporting.proofs.states.put_counts.Statement.{statement}
 use Rattle.reporting.proofs.states.put_counts.Tie as tie

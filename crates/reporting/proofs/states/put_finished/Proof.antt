@@ -3,7 +3,7 @@ use mathlib.Core.Path.{sym, _∙_}
 use native.Mathlib.Omega.{arith}
 use borrow.Author.Tests.{eq-eqb, ne-eqb}
 use Rattle.sheet.proofs.Laws.Put.{puts-as, puts-on}
-use Rattle.reporting.proofs.Laws.Moves.{first-text, second-text}
+use Rattle.fields.proofs.Laws.Entry.{first-text, second-text}
 use borrow.Author.Needs.{needs}
 use Rattle.reporting.proofs.states.put_finished.Statement.{statement}
 use Rattle.reporting.proofs.states.put_finished.Tie as tie

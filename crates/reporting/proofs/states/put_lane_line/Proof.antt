@@ -6,7 +6,7 @@ use native.Mathlib.Omega.{arith}
 use Rattle.kernel.specs.Fields.{word, quad}
 use Rattle.sheet.proofs.Laws.Put.{puts-as, puts-on}
 use Rattle.texts.specs.Words.{newline, named}
-use Rattle.reporting.specs.Words.{laneStart, positionWord, registersWord}
+use Rattle.fields.specs.Words.{laneStart, positionWord, registersWord}
 use Rattle.reporting.specs.States.{spaced}
 use borrow.Author.Needs.{needs}
 use Rattle.reporting.proofs.states.put_lane_line.Statement.{statement}

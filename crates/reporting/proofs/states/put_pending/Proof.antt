@@ -2,7 +2,7 @@
 use mathlib.Core.Path.{ap}
 use native.Mathlib.Omega.{arith}
 use Rattle.sheet.proofs.Laws.Put.{puts-as, puts-on}
-use Rattle.reporting.specs.Moves.{entryText}
+use Rattle.fields.specs.Places.{entryText}
 use borrow.Author.Needs.{needs}
 use Rattle.reporting.proofs.states.put_pending.Statement.{statement}
 use Rattle.reporting.proofs.states.put_pending.Tie as tie

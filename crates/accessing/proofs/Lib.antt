@@ -1,0 +1,2 @@
+-- Laws of moves that reach memory, locks or the pending list.
+pub mod Laws

@@ -1,0 +1,3 @@
+-- Small laws by subject.
+pub mod Places
+pub mod Entry

@@ -1,0 +1,2 @@
+-- Laws of the fields of a run's text.
+pub mod Laws

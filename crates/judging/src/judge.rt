@@ -1,0 +1,50 @@
+// Tests of a run: whether refusal 10 lets its schedule through, and whether every lane stands at its end.
+ghost use mathlib.Core.Path.{_≡_};
+ghost use mathlib.Core.Bool.{_&&_};
+ghost use mathlib.Core.List.{List};
+ghost use Prim.Native.Nat.{_≤_};
+ghost use lib.Dec.{leb, ltb};
+ghost use Rattle.sheet.specs.Layout.{Instr};
+ghost use Rattle.machine.specs.Schedule.{legal};
+ghost use Rattle.machine.specs.View.{finished};
+ghost use Rattle.machine.specs.Moves.{movesIn};
+ghost use Rattle.moving.specs.States.{Held, stateIn};
+ghost use Rattle.judging.specs.Counts.{Counts};
+use rows::number::wide;
+
+fn legal_move(lane: u8, choice: u8, n: usize, limit: u8) -> bool
+    ensures { λ r. ⌜ r ≡ (ltb lane n && leb choice limit) ⌝ }
+{
+    ((lane as usize) < n) & (choice <= limit)
+}
+
+// Whether each move names a lane below n and a choice up to the limit. A move is two bytes, lane first. With no early
+// return the loop is compiled to work on many moves at once.
+pub fn legal_moves(moves: &[u8], n: usize, limit: u8) -> bool
+    ensures { λ r. ⌜ r ≡ legal n limit (movesIn (now (moves .entry))) ⌝ }
+{
+    let pairs = moves.len() / 2;
+    let mut legal = true;
+    let mut k = 0;
+    while k < pairs {
+        legal = legal & legal_move(moves[2 * k], moves[2 * k + 1], n, limit);
+        k += 1;
+    }
+    legal
+}
+
+// Whether each of the first n lanes stands at its end; the program of lane t has count[t] instructions.
+pub fn ended(n: usize, at: &[u32; 4], count: &[usize; 4]) -> bool
+    requires { ⌜ n ≤ 4 ⌝ }
+    ensures { λ r. ⌜ ((prog : List (List Instr)) (s : Held) → Counts n (now (count .entry)) prog
+        → s .rows .at ≡ now (at .entry) → r ≡ finished prog (stateIn n s)) ⌝ }
+{
+    let mut t = 0;
+    while t < n {
+        if wide(at[t]) < count[t] {
+            return false;
+        }
+        t += 1;
+    }
+    true
+}

@@ -1,0 +1,2 @@
+-- What is proved of lines: small laws.
+pub mod Laws

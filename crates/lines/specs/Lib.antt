@@ -1,0 +1,3 @@
+-- The lines of a listing, and examples.
+pub mod Line
+pub mod Examples

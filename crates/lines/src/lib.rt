@@ -1,0 +1,2 @@
+// One line of a listing, as bytes.
+pub mod line;

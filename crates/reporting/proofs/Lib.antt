@@ -1,2 +1,0 @@
--- What is proved of a run's text: small laws.
-pub mod Laws

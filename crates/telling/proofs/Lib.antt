@@ -1,0 +1,2 @@
+-- What is proved of the line of a move: small laws.
+pub mod Laws

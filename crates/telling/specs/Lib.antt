@@ -1,0 +1,3 @@
+-- The line of a move, and examples.
+pub mod Moves
+pub mod Examples

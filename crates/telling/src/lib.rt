@@ -1,0 +1,4 @@
+// The line of a move, for the integrator.
+mod moves;
+
+pub use moves::tell_move;

@@ -1,0 +1,2 @@
+-- Laws of bytes written.
+pub mod Laws

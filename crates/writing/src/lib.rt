@@ -1,0 +1,2 @@
+// The bytes of a sheet written: a half of its header, or an instruction.
+pub mod put;

@@ -1,0 +1,96 @@
+// Writing eight bytes of a sheet: a half of its header, or an instruction. Where they do not fit, nothing is written.
+ghost use mathlib.Core.Path.{_≡_};
+ghost use mathlib.Core.List.{[], _∷_, _++_};
+ghost use Rattle.sheet.specs.Layout.{aim};
+ghost use Rattle.sheet.specs.Bytes.{word, row, opBytes};
+ghost use Rattle.sheet.specs.Put.{laid};
+use kernel::accepted::Op;
+use rows::number::fits;
+use rows::number::low;
+
+fn put_eight(out: &mut [u8], at: usize, a: u8, b: u8, c: u8, d: u8, e: u8, f: u8, g: u8, h: u8)
+    ensures { λ r.
+        ⌜ now (out .exit) ≡ laid (now (out .entry)) at (a ∷ b ∷ c ∷ d ∷ e ∷ f ∷ g ∷ h ∷ []) ⌝ }
+{
+    if fits(out.len(), at) {
+        out[at] = a;
+        out[at + 1] = b;
+        out[at + 2] = c;
+        out[at + 3] = d;
+        out[at + 4] = e;
+        out[at + 5] = f;
+        out[at + 6] = g;
+        out[at + 7] = h;
+    }
+}
+
+// The first half of the header: T, L, K, level, mask, two zero bytes.
+pub fn put_first(out: &mut [u8], t: u8, ls: u8, ks: u8, level: u8, mask: u16)
+    ensures { λ r. ⌜ now (out .exit) ≡ laid (now (out .entry)) 0 (t ∷ ls ∷ ks ∷ level ∷ word mask ++ 0 ∷ 0 ∷ []) ⌝ }
+{
+    put_eight(
+        out,
+        0,
+        t,
+        ls,
+        ks,
+        level,
+        low(mask as usize),
+        low(mask as usize / 256),
+        0,
+        0,
+    );
+}
+
+// The second half: four instruction counts.
+pub fn put_counts(out: &mut [u8], a: usize, b: usize, c: usize, d: usize)
+    ensures { λ r.
+        ⌜ now (out .exit) ≡ laid (now (out .entry)) 8 (word a ++ (word b ++ (word c ++ (word d ++ [])))) ⌝ }
+{
+    put_eight(
+        out,
+        8,
+        low(a),
+        low(a / 256),
+        low(b),
+        low(b / 256),
+        low(c),
+        low(c / 256),
+        low(d),
+        low(d / 256),
+    );
+}
+
+// Operation, a, b, zero and the four bytes of c from `at` on.
+pub fn put_row(out: &mut [u8], at: usize, o: u8, a: u8, b: u8, c: u32)
+    ensures { λ r. ⌜ now (out .exit) ≡ laid (now (out .entry)) at (row o a b c) ⌝ }
+{
+    let n = c as usize;
+    put_eight(
+        out,
+        at,
+        o,
+        a,
+        b,
+        0,
+        low(n),
+        low(n / 256),
+        low(n / 65536),
+        low(n / 65536 / 256),
+    );
+}
+
+// An operation from `at` on; a SKIP is aimed at the given position.
+pub fn put_op(out: &mut [u8], at: usize, op: Op, target: u32)
+    ensures { λ r. ⌜ now (out .exit) ≡ laid (now (out .entry)) at (opBytes (aim (λ t. target) op)) ⌝ }
+{
+    match op {
+        Op::Set(a, c) => put_row(out, at, 1, a, 0, c),
+        Op::Add(a, b) => put_row(out, at, 2, a, b, 0),
+        Op::Load(a, x) => put_row(out, at, 3, a, x, 0),
+        Op::Store(a, x) => put_row(out, at, 4, a, x, 0),
+        Op::Lock(l) => put_row(out, at, 5, 0, l, 0),
+        Op::Unlock(l) => put_row(out, at, 6, 0, l, 0),
+        Op::Skip(a, _) => put_row(out, at, 7, a, 0, target),
+    }
+}
