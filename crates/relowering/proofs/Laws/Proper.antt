@@ -38,8 +38,8 @@ rows-proper : (is : List Instr) (rest : List ℕ) → Each Fits is → properRow
 rows-proper [] rest h = tt
 rows-proper (i ∷ is) rest h =
     let more : List ℕ = laneBytes level1 is ++ rest in
-    subst (λ b. Proper b × properRows (length is) (drop 8 b)) (sym (append-assoc (instrBytes level1 i) (laneBytes level1 is)
-    rest)) (
+    let split = append-assoc (instrBytes level1 i) (laneBytes level1 is) rest in
+    subst (λ b. Proper b × properRows (length is) (drop 8 b)) (sym split) (
       proper-one i more (h .0),
       subst (properRows (length is)) (sym (read-back level1 i more (h .0) .1))
           (rows-proper is rest (h .1)),

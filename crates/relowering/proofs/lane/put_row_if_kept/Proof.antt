@@ -47,7 +47,8 @@ returns c =
     let kept = row-kept r s (x .ensures) (a .pre .0 .3)
     (sym (word .before .before .stays .ensures) ∙ word .before .if1 .taken) in
     let same = (λ i. row (code .code-of .ensures i) (w .a) (w .b) (word .word-of .ensures i)) ∙ kept in
-    laid-put (a .args .out .now) (a .args .at) (rowBytes r s) same (ap length (sym kept)) (a .pre .1) (put .put-row .ensures)
+    laid-put (a .args .out .now) (a .args .at) (rowBytes r s) same (ap length (sym kept)) (a .pre .1)
+    (put .put-row .ensures)
 
 returns-2 : tie.Need-returns-2
 returns-2 c =

@@ -27,7 +27,8 @@ put-row-if-kept-requires c κs =
     let f = c .before .before .before .before .before .before in
     let a = f .before .before .before .before .before in (
       (omega arith, omega arith, search needs, a .pre .1 .0 (l .p) (omega arith)),
-      row-room (a .args .n) (a .args .rows .now) (f .find-positions .ensures) (l .p) (l .inv .1) (omega arith) (a .pre .1 .1),
+      row-room (a .args .n) (a .args .rows .now) (f .find-positions .ensures) (l .p) (l .inv .1) (omega arith)
+          (a .pre .1 .1),
     )
 
 add-p : tie.Need-add-p Inv-loop μ-loop

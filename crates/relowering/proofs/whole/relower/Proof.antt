@@ -69,7 +69,8 @@ put-counts-requires c κs = search needs
 
 relower-lanes-requires : tie.Need-relower-lanes-requires
 relower-lanes-requires c κs =
-    let i = c .before .before .before .before .before .before .before .before .before .before .before .before .before in
+    let r = c .before .before .before .before .before .before .before .before in
+    let i = r .before .before .before .before .before in
     let k = i .before in
     let a = k .before .before .before .before .before .before .before .before in
     let s = a .args .sheet .now in
@@ -95,7 +96,8 @@ same-length-2 c = search needs
 
 returns-2 : tie.Need-returns-2
 returns-2 c =
-    let i = c .before .before .before .before .before .before .before .before .before .before .before .before .before .before .before .before .before .before in
+    let r = c .before .before .before .before .before .before .before .before .before .before .before .before .before in
+    let i = r .before .before .before .before .before in
     let k = i .before in
     let a = k .before .before .before .before .before .before .before .before in
     let s = a .args .sheet .now in
@@ -113,7 +115,8 @@ returns-2 c =
     (k .kept-at4 .ensures .0) in
     answer-full (relowerBytes s) out
     (whole-put out _ _ (inTurn (rowsAt2 s) 4) (relowerBytes s) refl refl whole (omega (arith, size, i .if1 .left)) first
-    (c6 .put-counts .ensures) (c .before .before .before .before .relower-lanes .ensures)) size (omega (arith, size, i .if1 .left))
+    (c6 .put-counts .ensures) (c .before .before .before .before .relower-lanes .ensures)) size
+    (omega (arith, size, i .if1 .left))
 
 pub relower-spec : {M : Type 1} → statement M
 relower-spec =

@@ -102,13 +102,14 @@ relower-lane-requires c κs =
 
 add-at : tie.Need-add-at Inv-loop μ-loop
 add-at c =
-    let a = c .before .before .before .before .before .before .before .before .before .before .before .before .before .before .before in
+    let put = c .before .before .before .before in
+    let a = put .before .before .before .before .before .before .before .before .before .before .before in
     let l = c .before .before .before .before .before .before .before .before .before .loop in
     let s = a .args .sheet .now in
     let rows = part-rows s (a .pre .0 .0) (a .pre .0 .1) (l .t) (omega arith) in
     let lane = ap (λ x. length (laneBytes level2 (relower level2 x))) rows in
     let next = turn-room (rowsAt2 s) 4 (l .t) (omega arith) in
-    omega (arith, lane, next, a .pre .1, a .good, l .inv .1 .behind, c .before .before .before .before .relower-lane .ensures .behind)
+    omega (arith, lane, next, a .pre .1, a .good, l .inv .1 .behind, put .relower-lane .ensures .behind)
 
 add-t : tie.Need-add-t Inv-loop μ-loop
 add-t c = search needs
@@ -118,7 +119,8 @@ loop-less c = omega arith
 
 loop-again : tie.Need-loop-again Inv-loop μ-loop
 loop-again c =
-    let a = c .before .before .before .before .before .before .before .before .before .before .before .before .before .before .before in
+    let put = c .before .before .before .before in
+    let a = put .before .before .before .before .before .before .before .before .before .before .before in
     let l = c .before .before .before .before .before .before .before .before .before .loop in
     let s = a .args .sheet .now in
     let rows = part-rows s (a .pre .0 .0) (a .pre .0 .1) (l .t) (omega arith) in
