@@ -25,7 +25,7 @@ pub(crate) fn byte_at(s: &[u8], i: usize) -> usize
 }
 
 // The 16-bit field at i.
-pub(crate) fn word_at(s: &[u8], i: usize) -> usize
+pub fn word_at(s: &[u8], i: usize) -> usize
     requires { ⌜ i < 2 ^ 32 ⌝ }
     ensures { λ r. ⌜ (r ≡ word (now (s .entry)) i) × (r < 65536) ⌝ }
 {
@@ -84,7 +84,7 @@ pub fn head_of(s: &[u8], t: usize) -> usize
 }
 
 // The record that follows record i.
-pub(crate) fn next_of(s: &[u8], i: usize) -> usize
+pub fn next_of(s: &[u8], i: usize) -> usize
     requires { ⌜ i < 65536 ⌝ }
     ensures { λ r. ⌜ (r ≡ next (now (s .entry)) i) × (r < 65536) ⌝ }
 {

@@ -49,7 +49,7 @@ pub fn quad_at(s: &[u8], i: usize) -> u32
 }
 
 // The instruction whose bytes begin at `at`, all eight of them.
-fn whole_row(s: &[u8], at: usize) -> Row
+pub fn whole_row(s: &[u8], at: usize) -> Row
     requires { ⌜ at + 8 ≤ length (now s) ⌝ }
     ensures { λ r. ⌜ r ≡ rowIn (drop at (now (s .entry))) ⌝ }
 {

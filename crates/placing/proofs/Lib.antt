@@ -1,0 +1,2 @@
+-- Laws of placing.
+pub mod Laws

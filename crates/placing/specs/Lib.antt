@@ -1,0 +1,2 @@
+-- The class of a step as a number.
+pub mod Classes
