@@ -62,7 +62,7 @@ fn carry_next(
 }
 
 // Choice 0 carries out the next instruction, choice k commits the k-th oldest entry.
-pub(crate) fn move_lane(
+pub fn move_lane(
     machine: Machine,
     volatile: &[bool],
     sheet: &[u8],

@@ -18,7 +18,7 @@ use running::run::run_moves;
 use sheet::Lowered;
 
 // The flags of the volatile locations.
-fn flags_of(mask: u32) -> [bool; 16]
+pub fn flags_of(mask: u32) -> [bool; 16]
     requires { ⌜ mask < 65536 ⌝ }
     ensures { λ r. ⌜ (16 ≡ length r) × (flags r ≡ isVolatile mask) ⌝ }
 {

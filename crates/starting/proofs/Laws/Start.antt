@@ -42,7 +42,8 @@ zeroed ls ks =
 zeroed-sized : (ls ks : ℕ) → Sized (zeroed ls ks .rows)
 zeroed-sized ls ks = record { at = refl; registers = refl; cells = refl; values = refl; len = refl }
 
-zeroed-start : (k : Program) → Lawful k → stateIn (length (k .lanes)) (zeroed (k .locations) (k .locks)) ≡ startOf k
+-- that is the start
+pub zeroed-start : (k : Program) → Lawful k → stateIn (length (k .lanes)) (zeroed (k .locations) (k .locks)) ≡ startOf k
 zeroed-start k w =
     let lanes = take-same (length (k .lanes)) 4 startLane (w .few-lanes) in
     let memory = take-same {A = ℕ} (k .locations) 16 0 (w .few-locations) in

@@ -1,0 +1,2 @@
+-- Laws of schedules over rows.
+pub mod Laws

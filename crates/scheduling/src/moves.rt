@@ -1,0 +1,23 @@
+// The moves of a schedule in turn.
+ghost use Rattle.scheduling.specs.Stands.{Follows};
+use crate::progress::Progress;
+use crate::progress::fold_move;
+
+// A lane and its choice.
+pub struct Move {
+    pub lane: u8,
+    pub choice: u8,
+}
+
+// Each move on what the one before it left.
+pub fn run_moves(rows: &[u8], ms: &[Move], mut x: Progress) -> Progress
+    ensures { λ r. ⌜ Follows (now (rows .entry)) (now (ms .entry)) x r ⌝ }
+{
+    let mut i = 0;
+    while i < ms.len() {
+        let m = ms[i];
+        x = fold_move(rows, m.lane, m.choice, x);
+        i += 1;
+    }
+    x
+}
