@@ -4,7 +4,7 @@ ghost use Rattle.verdict.specs.Verdict.{verdict};
 ghost use Rattle.machine.specs.Schedule.{limit};
 ghost use Rattle.pending.specs.Machines.{machineIn};
 ghost use Rattle.starting.specs.Programs.{programBy};
-use chaining::file::chain_file;
+use accepting::file::chain_file;
 use pending::rules::Machine;
 use relowering::lower::lower2;
 use sheet::Lowered;

@@ -1,3 +1,6 @@
 -- Laws by subject.
 pub mod Lane
+pub mod Row
+pub mod Records
 pub mod Whole
+pub mod Holds

@@ -2,7 +2,6 @@
 use Prim.Native.Nat.{ℕ}
 use mathlib.Core.List.{List, _++_, map}
 use lib.ListN.{length}
-use Rattle.kernel.specs.declared.accepted.Op.{Op}
 use Rattle.kernel.specs.Fields.{head}
 use Rattle.kernel.specs.Accepted.{Program, opsAt}
 use Rattle.verdict.specs.Verdict.{Verdict}
@@ -10,6 +9,7 @@ use Rattle.sheet.specs.declared.Lowered.{Lowered}
 use Rattle.sheet.specs.Layout.{Instr, op}
 use Rattle.sheet.specs.Levels.{level1}
 use Rattle.sheet.specs.Bytes.{joined, laneBytes, headerBy, answerBy}
+use Rattle.rows.specs.Lanes.{opRows}
 
 -- each lane's operations; a SKIP's target is a position of the chain
 abbrev pub chainLanes : Program → List (List Instr)
@@ -26,9 +26,6 @@ abbrev pub chainBy : Verdict → List ℕ → Lowered × List ℕ
 chainBy = answerBy chainBytes
 
 -- ## the same of the file's records
-
-abbrev pub opRows : List Op → List ℕ
-opRows ops = laneBytes level1 (map op ops)
 
 -- the rows of lane t
 abbrev pub chainAt : List ℕ → ℕ → List ℕ

@@ -1,40 +1,110 @@
-// A lane's operations as rows.
+// A lane's rows, written from the file's records.
 ghost use mathlib.Core.Path.{_≡_};
-ghost use Prim.Native.Nat.{_≤_};
-ghost use lib.ListN.{length};
+ghost use Prim.Native.Nat.{_+_, _*_, _-_, _<_, _≤_};
+ghost use lib.ListN.{length, getD, take, drop};
+ghost use lib.Seq.{sets};
+ghost use Rattle.kernel.specs.Fields.{word, target};
 ghost use Rattle.kernel.specs.Accepted.{opsOf};
-ghost use Rattle.sheet.specs.Layout.{aim};
+ghost use Rattle.linking.specs.Ordered.{landingIn};
 ghost use Rattle.sheet.specs.Put.{Puts};
-ghost use Rattle.chaining.specs.Chains.{opRows};
-use kernel::accepted::Op;
-use kernel::accepted::op_at;
-use writing::put::put_op;
+ghost use Rattle.rows.specs.Lanes.{opRows};
+ghost use Rattle.chaining.specs.Records.{eightIn, recordRow, RecordIn, LaneIn};
+use writing::put::store_eight;
 
-// The position that a SKIP leads to; 0 for another operation.
-fn target_in(op: Op) -> u32
-    ensures { λ r. ⌜ aim (λ t. r) op ≡ op ⌝ }
+fn wide(x: u8) -> usize
+    ensures { λ r. ⌜ (r ≡ x) × (r < 256) ⌝ }
 {
-    match op {
-        Op::Skip(_, q) => q as u32,
-        _ => 0,
+    x as usize
+}
+
+fn wide_word(x: u16) -> usize
+    ensures { λ r. ⌜ (r ≡ x) × (r < 65536) ⌝ }
+{
+    x as usize
+}
+
+// The position in a lane of n records, the first at `begin` in the order, to which target x leads.
+fn landing(place: &[u16; 257], begin: usize, n: usize, x: usize) -> usize
+    requires { ⌜ (x ≤ 256) × (¬ x ≡ 0 → begin + 1 ≤ getD (now place) x 0) ⌝ }
+    ensures { λ r. ⌜ r ≡ landingIn (now (place .entry)) begin n x ⌝ }
+{
+    if x == 0 {
+        n
+    } else {
+        wide_word(place[x]) - 1 - begin
     }
 }
 
-// Writes the lane of these records from the front of `out`, which begins behind the header and the earlier lanes; the
-// bytes it wrote.
-pub(crate) fn write_chain(out: &mut [u8], s: &[u8], rs: &[u16]) -> usize
-    requires rows { ⌜ length (now rs) ≤ 64 ⌝ }
-    requires room { ⌜ length (opRows (opsOf (now s) (now rs))) ≤ length (now out) ⌝ }
-    ensures { λ r.
-        ⌜ Puts (now (out .entry)) 0 (opRows (opsOf (now (s .entry)) (now (rs .entry)))) (now (out .exit)) r ⌝ }
+// The 16-bit field at i.
+fn word_in(s: &[u8], i: usize) -> usize
+    requires { ⌜ i + 2 ≤ length (now s) ⌝ }
+    ensures { λ r. ⌜ r ≡ word (now (s .entry)) i ⌝ }
 {
-    let n = rs.len();
+    wide(s[i]) + 256 * wide(s[i + 1])
+}
+
+// Eight bytes of the file, copied.
+fn copy_eight(out: &mut [u8], at: usize, s: &[u8], i: usize)
+    requires { ⌜ (at + 8 ≤ length (now out)) × (i + 8 ≤ length (now s)) ⌝ }
+    ensures { λ q. ⌜ now (out .exit) ≡ sets (now (out .entry)) at (eightIn (now (s .entry)) i) ⌝ }
+{
+    store_eight(
+        out,
+        at,
+        s[i],
+        s[i + 1],
+        s[i + 2],
+        s[i + 3],
+        s[i + 4],
+        s[i + 5],
+        s[i + 6],
+        s[i + 7],
+    );
+}
+
+// The row of record r from `at` on: its first eight bytes, of a SKIP with the position that it leads to.
+fn put_record(
+    out: &mut [u8],
+    at: usize,
+    s: &[u8],
+    r: usize,
+    place: &[u16; 257],
+    begin: usize,
+    n: usize,
+)
+    requires room { ⌜ at + 8 ≤ length (now out) ⌝ }
+    requires known { ⌜ RecordIn (now s) (now place) begin n r ⌝ }
+    ensures { λ q. ⌜ now (out .exit) ≡ sets (now (out .entry)) at
+        (recordRow (now (s .entry)) r (landingIn (now (place .entry)) begin n (target (now (s .entry)) r))) ⌝ }
+{
+    let from = 4 + 12 * r;
+    copy_eight(out, at, s, from);
+    if s[from] == 7 {
+        out[at + 4] = landing(place, begin, n, word_in(s, from + 8)) as u8;
+    }
+}
+
+// Writes the rows of the lane whose records stand in the order from `begin` up to `end`; the row of the record at j
+// begins at byte 16 + 8 * j.
+pub(crate) fn write_chain(
+    out: &mut [u8],
+    s: &[u8],
+    order: &[u16; 257],
+    place: &[u16; 257],
+    begin: usize,
+    end: usize,
+)
+    requires room { ⌜ 16 + 8 * end ≤ length (now out) ⌝ }
+    requires lane { ⌜ LaneIn (now s) (now order) (now place) begin end ⌝ }
+    ensures { λ q. ⌜ Puts (now (out .entry)) (16 + 8 * begin)
+        (opRows (opsOf (now (s .entry)) (take (end - begin) (drop begin (now (order .entry)))))) (now (out .exit))
+        (16 + 8 * end) ⌝ }
+{
+    let n = end - begin;
     let mut p = 0;
     while p < n {
-        let op = op_at(s, rs, p);
-        let target = target_in(op);
-        put_op(out, 8 * p, op, target);
+        let j = begin + p;
+        put_record(out, 16 + 8 * j, s, wide_word(order[j]), place, begin, n);
         p += 1;
     }
-    8 * n
 }

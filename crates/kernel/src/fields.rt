@@ -1,8 +1,8 @@
 // The fields of a kernel file, read from its bytes. Past the end of the file every byte reads as 0.
 ghost use mathlib.Core.Path.{_≡_};
 ghost use mathlib.Core.Bool.{false, cond};
-ghost use Prim.Native.Nat.{_+_, _<_, _^_};
-ghost use lib.ListN.{getD};
+ghost use Prim.Native.Nat.{_+_, _<_, _≤_, _^_};
+ghost use lib.ListN.{length, getD};
 ghost use Rattle.kernel.specs.Fields.{byte, word, four, quad, head, next};
 
 pub(crate) fn wide(x: u8) -> usize
@@ -24,13 +24,29 @@ pub(crate) fn byte_at(s: &[u8], i: usize) -> usize
     wide(octet_at(s, i))
 }
 
+// The 16-bit field at i, both bytes of which the file has.
+pub(crate) fn whole_word(s: &[u8], i: usize) -> usize
+    requires { ⌜ i + 2 ≤ length (now s) ⌝ }
+    ensures { λ r. ⌜ (r ≡ word (now (s .entry)) i) × (r < 65536) ⌝ }
+{
+    wide(s[i]) + 256 * wide(s[i + 1])
+}
+
+// The 32-bit field at i, all bytes of which the file has.
+pub(crate) fn whole_quad(s: &[u8], i: usize) -> usize
+    requires { ⌜ i + 4 ≤ length (now s) ⌝ }
+    ensures { λ r. ⌜ (r ≡ quad (now (s .entry)) i) × (r < 2 ^ 32) ⌝ }
+{
+    whole_word(s, i) + 65536 * whole_word(s, i + 2)
+}
+
 // The 16-bit field at i.
 pub fn word_at(s: &[u8], i: usize) -> usize
     requires { ⌜ i < 2 ^ 32 ⌝ }
     ensures { λ r. ⌜ (r ≡ word (now (s .entry)) i) × (r < 65536) ⌝ }
 {
     if i + 1 < s.len() {
-        wide(s[i]) + 256 * wide(s[i + 1])
+        whole_word(s, i)
     } else {
         byte_at(s, i) + 256 * byte_at(s, i + 1)
     }

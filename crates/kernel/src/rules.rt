@@ -1,7 +1,7 @@
 // The rules of a header and of a record (refusals 2 and 4).
 ghost use mathlib.Core.Path.{_≡_};
-ghost use mathlib.Core.Bool.{not};
-ghost use Prim.Native.Nat.{_+_, _*_, _<_, _^_};
+ghost use mathlib.Core.Bool.{not, cond};
+ghost use Prim.Native.Nat.{_+_, _*_, _<_, _≤_, _^_};
 ghost use lib.ListN.{length, getD};
 ghost use lib.Dec.{ltb, eqb};
 ghost use Rattle.kernel.specs.Fields.{recordCount};
@@ -12,6 +12,8 @@ use crate::fields::four_at;
 use crate::fields::head_of;
 use crate::fields::next_of;
 use crate::fields::quad_at;
+use crate::fields::whole_quad;
+use crate::fields::whole_word;
 use crate::fields::wide;
 use crate::fields::word_at;
 
@@ -20,6 +22,46 @@ fn limit(row: &[usize], op: usize) -> usize
     ensures { λ r. ⌜ r ≡ getD (now (row .entry)) op 0 ⌝ }
 {
     if op < row.len() { row[op] } else { 0 }
+}
+
+// The row of an operation; row 0, whose limits are 0, where there is no such operation.
+fn row_of(op: u8) -> usize
+    ensures { λ r. ⌜ (r ≡ cond (ltb op 8) op 0) × (r < 8) ⌝ }
+{
+    if op < 8 { wide(op) } else { 0 }
+}
+
+// The rule of record i, all bytes of which the file has.
+fn whole_rule(
+    s: &[u8],
+    i: usize,
+    n: usize,
+    a: &[usize],
+    b: &[usize],
+    constant: &[usize],
+    target: &[usize],
+) -> bool
+    requires { ⌜ (16 + 12 * i ≤ length (now s)) × Limits (now s) n (now a) (now b) (now constant) (now target) ⌝ }
+    ensures { λ r. ⌜ r ≡ recordRule (now (s .entry)) i ⌝ }
+{
+    let at = 4 + 12 * i;
+    let op = row_of(s[at]);
+    let in_a = wide(s[at + 1]) < a[op];
+    let in_b = wide(s[at + 2]) < b[op];
+    let reserved = s[at + 3] == 0;
+    let in_constant = whole_quad(s, at + 4) < constant[op];
+    let in_target = whole_word(s, at + 8) < target[op];
+    let next = whole_word(s, at + 10) <= n;
+    both(
+        in_a,
+        both(
+            in_b,
+            both(
+                reserved,
+                both(in_constant, both(in_target, both(next, true))),
+            ),
+        ),
+    )
 }
 
 // The rule of record i; the rows have the limits of register a, operand b, the constant and the target by operation.
@@ -35,6 +77,9 @@ fn record_rule(
     requires { ⌜ (i < 65536) × Limits (now s) n (now a) (now b) (now constant) (now target) ⌝ }
     ensures { λ r. ⌜ r ≡ recordRule (now (s .entry)) i ⌝ }
 {
+    if 16 + 12 * i <= s.len() {
+        return whole_rule(s, i, n, a, b, constant, target);
+    }
     let at = 4 + 12 * i;
     let first = four_at(s, at);
     let op = wide(first.a);

@@ -1,5 +1,5 @@
 -- What the code knows of a lane before it writes it, and the lanes and the sheet that it writes.
-use Prim.Native.Nat.{ℕ, _≤_}
+use Prim.Native.Nat.{ℕ}
 use mathlib.Core.Path.{_≡_}
 use mathlib.Core.Bool.{Bool}
 use mathlib.Core.List.{List}
@@ -7,7 +7,6 @@ use lib.ListN.{length}
 use Rattle.kernel.specs.declared.accepted.Op.{Op}
 use Rattle.kernel.specs.Fields.{mask, head}
 use Rattle.kernel.specs.Accepted.{isVolatile, opsAt, programOf}
-use Rattle.placement.specs.declared.place.Placement.{Placement}
 use Rattle.placement.specs.Steps.{steps}
 use Rattle.placement.specs.Place.{before}
 use Rattle.sheet.specs.Layout.{Instr, sheet}
@@ -31,12 +30,7 @@ lane1At s t = laneBytes level1 (instrs1At s t)
 abbrev pub sheet1 : List ℕ → List ℕ
 sheet1 s = sheetBytes level1 (programOf s)
 
--- before each operation of lane t stand the placement's barriers
-abbrev pub PlacedAt : List ℕ → ℕ → Placement → Type 0
-PlacedAt s t r = (p : ℕ) → standing r p ≡ before (steps (isVolatile (mask s)) (opsAt s (head s t))) p
-
--- the plan of lane t; at most 64 operations make five instructions each
-pub record PlannedAt (s : List ℕ) (t : ℕ) (r : Plan) : Type 0 where
-  pub stand : PlacedAt s t (r .placement)
-  pub counted : r .size ≡ length (instrs1At s t)
-  pub few : r .size ≤ 320
+-- the plan of a lane of these operations: before each stand the placement's barriers
+pub record Planned (vol : ℕ → Bool) (ops : List Op) (r : Plan) : Type 0 where
+  pub stand : (p : ℕ) → standing (r .placement) p ≡ before (steps vol ops) p
+  pub counted : r .size ≡ length (instrs1 vol ops)

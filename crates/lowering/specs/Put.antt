@@ -1,45 +1,67 @@
--- A lane's operations one after the other, as the code writes them.
-use Prim.Native.Nat.{ℕ, suc}
+-- A lane's operations one after the other, and the same as the code writes them, from the lane's rows.
+use Prim.Native.Nat.{ℕ, suc, _+_, _*_, _≤_}
+use mathlib.Core.Path.{_≡_}
 use mathlib.Core.Bool.{Bool, cond}
 use mathlib.Core.List.{List, [], _∷_, _++_, map}
+use lib.Dec.{eqb}
+use lib.ListN.{length, take, drop}
+use lib.Seq.{sets}
 use Rattle.kernel.specs.declared.accepted.Op.{Op}
+use Rattle.kernel.specs.Fields.{byte, word}
 use Rattle.placement.specs.declared.cookbook.Barrier.{Barrier}
-use Rattle.placement.specs.declared.cookbook.Barrier.the-variants.{LL, LS, SS, SL}
 use Rattle.placement.specs.declared.place.Placement.{Placement}
 use Rattle.placement.specs.Place.{chosen}
-use Rattle.placement.specs.Placed.{bit}
-use Rattle.lowering.specs.declared.steps.Marks.{Marks}
-use Rattle.sheet.specs.Layout.{Placed, op, barrier, aim, sheet}
+use Rattle.placement.specs.Placed.{bit, flags}
+use Rattle.placement.specs.Sheet.{start as startBy}
+use Rattle.sheet.specs.Layout.{Placed, op, barrier, sheet}
 use Rattle.sheet.specs.Levels.{level1}
 use Rattle.sheet.specs.Bytes.{row, laneBytes}
+use Rattle.sheet.specs.Put.{inTurn}
 
--- the row of a barrier's code where the barrier stands
-abbrev pub rowIf : Bool → ℕ → List ℕ
-rowIf b code = cond b (row code 0 0 0) []
-
--- which barriers stand before an operation
-abbrev pub marked : Marks → Barrier → Bool
-marked m LL = m .ll
-marked m LS = m .ls
-marked m SS = m .ss
-marked m SL = m .sl
-
--- what a placement says of position p, and the barriers that stand there
-abbrev pub standingMarks : Placement → ℕ → Marks
-standingMarks r p = record { ll = bit (r .ll) p; ls = bit (r .ls) p; ss = bit (r .ss) p; sl = bit (r .sl) p }
-
+-- the barriers that stand before position p
 abbrev pub standing : Placement → ℕ → List Barrier
-standing r p = chosen (marked (standingMarks r p))
+standing r p = chosen (λ b. bit (flags r b) p)
 
 -- the operations of a chain, the first of which stands at position p, with the barriers that pre puts before each
 abbrev pub placedBy : (ℕ → List Barrier) → ℕ → List Op → List Placed
 placedBy pre p [] = []
 placedBy pre p (o ∷ os) = record { before = pre p; oper = o } ∷ placedBy pre (suc p) os
 
--- the bytes of an operation at level 1, with these barriers before it, and a SKIP aimed at t
-abbrev pub stepBytes : List Barrier → Op → ℕ → List ℕ
-stepBytes bs o t = laneBytes level1 (map barrier bs ++ (op (aim (λ x. t) o) ∷ []))
+-- the bytes of an operation at level 1, with these barriers before it
+abbrev pub stepBytes : List Barrier → Op → List ℕ
+stepBytes bs o = laneBytes level1 (map barrier bs ++ (op o ∷ []))
 
 -- the bytes of a lane at level 1, with its barriers where the placement says
 abbrev pub laneWith : Placement → List Op → List ℕ
 laneWith r ops = laneBytes level1 (sheet (placedBy (standing r) 0 ops))
+
+-- ## from the lane's rows
+
+-- the row of a barrier's code where the barrier stands
+abbrev pub rowIf : Bool → ℕ → List ℕ
+rowIf b code = cond b (row code 0 0 0) []
+
+-- the rows of the barriers that stand before position p
+abbrev pub barrierRows : Placement → ℕ → List ℕ
+barrierRows r p =
+    rowIf (bit (r .ll) p) 11 ++ rowIf (bit (r .ls) p) 12 ++ rowIf (bit (r .ss) p) 13 ++ rowIf (bit (r .sl) p) 14
+
+-- the row at the front; a SKIP's is aimed at where its target begins
+unfoldable pub ownRow : Placement → List ℕ → List ℕ
+ownRow r s =
+    cond (eqb (byte s 0) 7) (row 7 (byte s 1) (byte s 2) (startBy (standing r) (word s 4))) (take 8 s)
+
+-- row p behind its barriers
+abbrev pub stepRows : Placement → List ℕ → ℕ → List ℕ
+stepRows r rows p = barrierRows r p ++ ownRow r (drop (8 * p) rows)
+
+-- n rows
+abbrev pub laneRows : Placement → List ℕ → ℕ → List ℕ
+laneRows r rows = inTurn (stepRows r rows)
+
+-- `after` is `before` with x from `at` on; from `end` on, the position behind x, up to eight bytes do not count
+pub record Begins (before : List ℕ) (at : ℕ) (x : List ℕ) (after : List ℕ) (end : ℕ) : Type 0 where
+  pub rest : List ℕ
+  pub short : length rest ≤ 8
+  pub bytes : after ≡ sets (sets before at x) end rest
+  pub behind : end ≡ at + length x

@@ -1,28 +1,41 @@
 // What is known of a lane before it is written: where its barriers stand, and how many instructions it makes.
-ghost use mathlib.Core.Path.{_≡_};
-ghost use Prim.Native.Nat.{_<_};
-ghost use Rattle.kernel.specs.Fields.{mask as maskOf};
-ghost use Rattle.lowering.specs.Plan.{PlannedAt};
+ghost use mathlib.Core.List.{List};
+ghost use Prim.Native.Nat.{_*_, _≤_};
+ghost use lib.ListN.{length};
+ghost use Rattle.kernel.specs.declared.accepted.Op.{Op};
+ghost use Rattle.kernel.specs.Accepted.{isVolatile};
+ghost use Rattle.rows.specs.Lanes.{Holds};
+ghost use Rattle.lowering.specs.Plan.{Planned};
 use crate::starts::start_of;
-use kernel::accepted::chain_from;
-use kernel::fields::head_of;
 use placement::place::Placement;
-use placement::place::place_lane;
+use placing::place::place_lane;
 
 pub struct Plan {
     pub placement: Placement,
     pub size: usize,
 }
 
-// The plan of lane t.
-pub(crate) fn plan_of(s: &[u8], t: usize, mask: u16) -> Plan
-    requires { ⌜ (t < 4) × (mask ≡ maskOf (now s)) ⌝ }
-    ensures { λ r. ⌜ PlannedAt (now (s .entry)) t r ⌝ }
+const NONE: Placement = Placement {
+    ll: 0,
+    ls: 0,
+    ss: 0,
+    sl: 0,
+};
+
+// The plan of the lane whose n rows are given; at most 64 operations make five instructions each.
+pub(crate) fn plan_of(rows: &[u8], n: usize, mask: u16) -> Plan
+    requires { ⌜ (n ≤ 64) × (8 * n ≤ length (now rows)) ⌝ }
+    ensures { λ r. ⌜
+        ((ops : List Op) → Holds (now (rows .entry)) n ops → Planned (isVolatile mask) ops r) × (r .size ≤ 320)
+        ⌝ }
 {
-    let chain = chain_from(s, head_of(s, t));
-    let records = chain.records;
-    let len = chain.len;
-    let placement = place_lane(s, &records[..len], mask);
-    let size = start_of(placement, len) as usize;
+    if n == 0 {
+        return Plan {
+            placement: NONE,
+            size: 0,
+        };
+    }
+    let placement = place_lane(rows, n, mask);
+    let size = start_of(placement, n) as usize;
     Plan { placement, size }
 }

@@ -1,30 +1,18 @@
-// The barriers before each operation of a lane, and the sheet position at which it begins, at level 1.
+// Where barriers stand in a lane, and the sheet position at which an operation begins, at level 1.
 ghost use mathlib.Core.Path.{_≡_};
 ghost use Prim.Native.Nat.{_+_, _%_, _^_, _<_, _≤_};
 ghost use lib.Count.{ones};
 ghost use Rattle.placement.specs.Placed.{bit};
 ghost use Rattle.placement.specs.Sheet.{start as startBy};
-ghost use Rattle.lowering.specs.Put.{standingMarks, standing};
-use crate::steps::Marks;
+ghost use Rattle.lowering.specs.Put.{standing};
 use placement::place::Placement;
 
 // Bit p of a number.
-fn bit_at(n: u64, p: usize) -> bool
+pub(crate) fn bit_at(n: u64, p: usize) -> bool
+    requires { ⌜ p < 64 ⌝ }
     ensures { λ r. ⌜ r ≡ bit n p ⌝ }
 {
-    if p < 64 { (n >> p) % 2 == 1 } else { false }
-}
-
-// Which barriers stand before position p.
-pub(crate) fn marks_at(placement: Placement, p: usize) -> Marks
-    ensures { λ r. ⌜ r ≡ standingMarks placement p ⌝ }
-{
-    Marks {
-        ll: bit_at(placement.ll, p),
-        ls: bit_at(placement.ls, p),
-        ss: bit_at(placement.ss, p),
-        sl: bit_at(placement.sl, p),
-    }
+    (n >> p) % 2 == 1
 }
 
 // How many of the bits below p are set.

@@ -1,6 +1,9 @@
 // Writing eight bytes of a sheet: a half of its header, or an instruction. Where they do not fit, nothing is written.
 ghost use mathlib.Core.Path.{_≡_};
 ghost use mathlib.Core.List.{[], _∷_, _++_};
+ghost use Prim.Native.Nat.{_+_, _≤_};
+ghost use lib.ListN.{length};
+ghost use lib.Seq.{sets};
 ghost use Rattle.sheet.specs.Layout.{aim};
 ghost use Rattle.sheet.specs.Bytes.{word, row, opBytes};
 ghost use Rattle.sheet.specs.Put.{laid};
@@ -8,19 +11,39 @@ use kernel::accepted::Op;
 use rows::number::fits;
 use rows::number::low;
 
+// Eight bytes from `at` on, where there is room for them.
+pub fn store_eight(
+    out: &mut [u8],
+    at: usize,
+    a: u8,
+    b: u8,
+    c: u8,
+    d: u8,
+    e: u8,
+    f: u8,
+    g: u8,
+    h: u8,
+)
+    requires { ⌜ at + 8 ≤ length (now out) ⌝ }
+    ensures { λ r.
+        ⌜ now (out .exit) ≡ sets (now (out .entry)) at (a ∷ b ∷ c ∷ d ∷ e ∷ f ∷ g ∷ h ∷ []) ⌝ }
+{
+    out[at] = a;
+    out[at + 1] = b;
+    out[at + 2] = c;
+    out[at + 3] = d;
+    out[at + 4] = e;
+    out[at + 5] = f;
+    out[at + 6] = g;
+    out[at + 7] = h;
+}
+
 fn put_eight(out: &mut [u8], at: usize, a: u8, b: u8, c: u8, d: u8, e: u8, f: u8, g: u8, h: u8)
     ensures { λ r.
         ⌜ now (out .exit) ≡ laid (now (out .entry)) at (a ∷ b ∷ c ∷ d ∷ e ∷ f ∷ g ∷ h ∷ []) ⌝ }
 {
     if fits(out.len(), at) {
-        out[at] = a;
-        out[at + 1] = b;
-        out[at + 2] = c;
-        out[at + 3] = d;
-        out[at + 4] = e;
-        out[at + 5] = f;
-        out[at + 6] = g;
-        out[at + 7] = h;
+        store_eight(out, at, a, b, c, d, e, f, g, h);
     }
 }
 

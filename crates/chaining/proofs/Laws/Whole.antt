@@ -1,22 +1,27 @@
--- Laws of the chains of an accepted file: how many bytes they take, and header and lanes together.
+-- Laws of the chains of a file with a valid header: how many bytes they take, and header and lanes together.
 use Prim.Native.Nat.{ℕ, _+_, _*_, _≤_}
-use mathlib.Core.Path.{_≡_, refl, sym, _∙_}
+use mathlib.Core.Path.{_≡_, refl, sym, ap, _∙_}
+use mathlib.Core.Bool.{true}
 use mathlib.Core.List.{List, [], _∷_, _++_, map}
-use lib.ListN.{length, length-map}
+use native.Mathlib.Omega.{arith}
+use lib.ListN.{length, getD, length-map}
 use lib.Seq.{sets}
 use Rattle.kernel.specs.Fields.{laneCount, locations, locks, mask, head}
+use Rattle.kernel.specs.Rules.{headerRule}
 use Rattle.kernel.specs.Accepted.{programOf, opsAt}
-use Rattle.verdict.specs.Verdict.{verdict, accepted}
-use Rattle.sheet.specs.declared.Lowered.the-variants.{Wrote}
 use Rattle.sheet.specs.Layout.{op}
-use Rattle.sheet.specs.Bytes.{word, writeInto}
+use Rattle.sheet.specs.Bytes.{word, over}
 use Rattle.sheet.specs.Put.{laid, inTurn}
-use Rattle.sheet.proofs.Laws.Loaded.{body-by, sizes-by, put-by}
-use Rattle.sheet.proofs.Laws.Written.{answer-full}
+use Rattle.sheet.proofs.Laws.Loaded.{sizes-by, put-by}
+use Rattle.sheet.proofs.Laws.Written.{written-all}
+use Rattle.linking.specs.Ordered.{countOf}
+use Rattle.linking.proofs.Laws.Places.{end-inside}
 use Rattle.chaining.specs.Chains.{chainBytes, chainAt}
+use Rattle.chaining.specs.Structured.{Structured}
+use Rattle.chaining.proofs.Laws.Records.{few, lane-count-is}
 
 module _
-    (s : List ℕ) (ok : verdict s ≡ accepted (programOf s)) {a b c d : ℕ} (ea : a ≡ length (opsAt s (head s 0)))
+    (s : List ℕ) (header : headerRule s ≡ true) {a b c d : ℕ} (ea : a ≡ length (opsAt s (head s 0)))
     (eb : b ≡ length (opsAt s (head s 1))) (ec : c ≡ length (opsAt s (head s 2)))
     (ed : d ≡ length (opsAt s (head s 3)))
   where
@@ -26,24 +31,48 @@ module _
     pub chains-size : 16 + 8 * (a + (b + (c + d))) ≡ length (chainBytes (programOf s))
     unfolding chainBytes
     chains-size =
-        sizes-by s ok 0 (map op) refl (chainAt s) (λ t h. refl) (rows-at 0 ea) (rows-at 1 eb) (rows-at 2 ec)
+        sizes-by s header 0 (map op) refl (chainAt s) (λ t h. refl) (rows-at 0 ea) (rows-at 1 eb) (rows-at 2 ec)
         (rows-at 3 ed)
 
-    pub chains-room : 16 + length (inTurn (chainAt s) 4) ≡ length (chainBytes (programOf s))
-    unfolding chainBytes
-    chains-room =
-        body-by s ok 0 (map op) refl (chainAt s) (λ t h. refl) (rows-at 0 ea) (rows-at 1 eb) (rows-at 2 ec)
-        (rows-at 3 ed)
-
-    pub chains-put : {n ls ks m : ℕ} → n ≡ laneCount s → ls ≡ locations s → ks ≡ locks s → m ≡ mask s
+    chains-put : {n ls ks m : ℕ} → n ≡ laneCount s → ls ≡ locations s → ks ≡ locks s → m ≡ mask s
         → {l₁ l₂ l₃ : List ℕ} (buffer : List ℕ) → length (chainBytes (programOf s)) ≤ length buffer
         → l₁ ≡ laid buffer 0 (n ∷ ls ∷ ks ∷ 0 ∷ word m ++ 0 ∷ 0 ∷ [])
         → l₂ ≡ laid l₁ 8 (word a ++ (word b ++ (word c ++ (word d ++ []))))
         → l₃ ≡ sets l₂ 16 (inTurn (chainAt s) 4)
-        → (Wrote (16 + 8 * (a + (b + (c + d)))), l₃) ≡ writeInto (chainBytes (programOf s)) buffer
+        → l₃ ≡ over (chainBytes (programOf s)) buffer
     unfolding chainBytes
     chains-put en els eks em buffer room e₁ e₂ e₃ =
-        answer-full (chainBytes (programOf s)) buffer
-        (put-by s ok 0 (map op) refl (chainAt s) (λ t h. refl) (rows-at 0 ea) (rows-at 1 eb) (rows-at 2 ec)
-        (rows-at 3 ed) en els eks em buffer room e₁ e₂ e₃)
-        chains-size room
+        put-by s header 0 (map op) refl (chainAt s) (λ t h. refl) (rows-at 0 ea) (rows-at 1 eb) (rows-at 2 ec)
+        (rows-at 3 ed) en els eks em buffer room e₁ e₂ e₃
+        ∙ ap (λ x. x .1) (written-all (chainBytes (programOf s)) buffer room)
+
+-- of a structured file
+module _ {s order place ends : List ℕ} (st : Structured s order place ends) where
+  first-is : getD ends 0 0 ≡ length (opsAt s (head s 0))
+  first-is = omega (arith, lane-count-is st 0 (omega arith))
+
+  -- 256 records take 2,064 bytes
+  pub chains-fit : length (chainBytes (programOf s)) ≤ 2064
+  chains-fit =
+      omega (
+        arith,
+        chains-size s (st .header) first-is (lane-count-is st 1 (omega arith)) (lane-count-is st 2 (omega arith))
+            (lane-count-is st 3 (omega arith)),
+        st .ordered .rising 1 (omega arith),
+        st .ordered .rising 2 (omega arith),
+        st .ordered .rising 3 (omega arith),
+        end-inside (st .ordered) 3 (omega arith),
+        few st,
+      )
+
+  -- the header with the counts of the lanes, and the lanes
+  pub chains-from : {n ls ks m : ℕ} → n ≡ laneCount s → ls ≡ locations s → ks ≡ locks s → m ≡ mask s
+      → {l₁ l₂ l₃ : List ℕ} (buffer : List ℕ) → 2064 ≤ length buffer
+      → l₁ ≡ laid buffer 0 (n ∷ ls ∷ ks ∷ 0 ∷ word m ++ 0 ∷ 0 ∷ [])
+      → l₂ ≡ laid l₁ 8 (word (getD ends 0 0) ++ (word (countOf ends 1) ++ (word (countOf ends 2)
+      ++ (word (countOf ends 3) ++ []))))
+      → l₃ ≡ sets l₂ 16 (inTurn (chainAt s) 4)
+      → l₃ ≡ over (chainBytes (programOf s)) buffer
+  chains-from en els eks em buffer room =
+      chains-put s (st .header) first-is (lane-count-is st 1 (omega arith)) (lane-count-is st 2 (omega arith))
+      (lane-count-is st 3 (omega arith)) en els eks em buffer (omega (arith, chains-fit))

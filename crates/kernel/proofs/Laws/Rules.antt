@@ -1,13 +1,18 @@
 -- What a header and a record that keep their rules have.
 use Prim.Native.Nat.{ℕ, zero, suc, _^_, _≤_, _<_}
-use mathlib.Core.Path.{_≡_}
-use mathlib.Core.List.{List}
+use mathlib.Core.Path.{_≡_, refl, sym, ap, ap₂, _∙_}
+use mathlib.Core.List.{List, [], _∷_}
 use mathlib.Core.Bool.{Bool, true, false, not, cond}
-use lib.Dec.{ltb}
+use lib.Dec.{ltb, leb, eqb}
+use lib.ListN.{length, getD, List·getD-eq-default}
 use native.Mathlib.Omega.{arith}
-use borrow.Author.Tests.{ltb-true, leb-true, le-ltb, not-false}
-use Rattle.kernel.specs.Fields.{laneCount, locations, locks, mask, recordCount, head, next}
+use borrow.Author.Tests.{ltb-true, ltb-false, leb-true, le-ltb, not-false}
+use Rattle.kernel.specs.Fields.{laneCount, locations, locks, mask, recordCount, head}
+use Rattle.kernel.specs.Fields.{operation, registerA, operandB, reserved, constant, target, next}
 use Rattle.kernel.specs.Rules.{headRule, headerTests, headerRule, recordTests, recordRule, badRecord}
+use Rattle.kernel.specs.Rules.{rowA, rowB, rowConstant, rowTarget, limitA, limitB, limitConstant, limitTarget}
+use Rattle.kernel.specs.Rules.{Limits}
+use Rattle.kernel.specs.Search.{all}
 use Rattle.kernel.proofs.Laws.Search.{all-at, nothing-found}
 
 module _ (s : List ℕ) (ok : headerRule s ≡ true) where
@@ -76,3 +81,48 @@ module _ (s : List ℕ) (ok : badRecord s ≡ 0) (i : ℕ) (lo : 1 ≤ i) (hi : 
   pub next-small : next s i ≤ recordCount s
   unfolding recordRule
   next-small = leb-true _ _ (all-at (recordTests s i) 5 record-rule)
+
+-- ## the limits of an operation
+
+-- row 0, whose limit is 0, stands for every operation that has no row
+row-limit : (row : List ℕ) → length row ≡ 8 → getD row 0 0 ≡ 0 → (op : ℕ)
+    → getD row (cond (ltb op 8) op 0) 0 ≡ getD row op 0
+row-limit row len none op = go (ltb op 8) refl
+  where
+    go : (b : Bool) → ltb op 8 ≡ b → getD row (cond b op 0) 0 ≡ getD row op 0
+    go true e = refl
+    go false e = none ∙ sym (List·getD-eq-default row 0 {n = op} (omega (arith, len, ltb-false op 8 e)))
+
+module _ {s : List ℕ} {n : ℕ} {a b constant target : List ℕ} (l : Limits s n a b constant target) where
+  -- there are eight rows
+  pub rows-eight : (length a ≡ 8) × (length b ≡ 8) × (length constant ≡ 8) × (length target ≡ 8)
+  rows-eight = (ap length (l .a-row), ap length (l .b-row), ap length (l .constant-row), ap length (l .target-row))
+
+  module _ {r : ℕ} (op : ℕ) (e : r ≡ cond (ltb op 8) op 0) where
+    pub limit-a : getD a r 0 ≡ limitA op
+    unfolding limitA
+    limit-a = ap₂ (λ x y. getD x y 0) (l .a-row) e ∙ row-limit rowA refl refl op
+
+    pub limit-b : getD b r 0 ≡ limitB (locations s) (locks s) op
+    unfolding limitB
+    limit-b = ap₂ (λ x y. getD x y 0) (l .b-row) e ∙ row-limit (rowB (locations s) (locks s)) refl refl op
+
+    pub limit-constant : getD constant r 0 ≡ limitConstant op
+    unfolding limitConstant
+    limit-constant = ap₂ (λ x y. getD x y 0) (l .constant-row) e ∙ row-limit rowConstant refl refl op
+
+    pub limit-target : getD target r 0 ≡ limitTarget (recordCount s) op
+    unfolding limitTarget
+    limit-target = ap₂ (λ x y. getD x y 0) (l .target-row) e ∙ row-limit (rowTarget (recordCount s)) refl refl op
+
+-- the six tests of a record together
+pub rule-by : (s : List ℕ) (i : ℕ) {t₁ t₂ t₃ t₄ t₅ t₆ : Bool}
+    → t₁ ≡ ltb (registerA s i) (limitA (operation s i))
+    → t₂ ≡ ltb (operandB s i) (limitB (locations s) (locks s) (operation s i))
+    → t₃ ≡ eqb (reserved s i) 0
+    → t₄ ≡ ltb (constant s i) (limitConstant (operation s i))
+    → t₅ ≡ ltb (target s i) (limitTarget (recordCount s) (operation s i))
+    → t₆ ≡ leb (next s i) (recordCount s)
+    → all (t₁ ∷ t₂ ∷ t₃ ∷ t₄ ∷ t₅ ∷ t₆ ∷ []) ≡ recordRule s i
+unfolding recordRule
+rule-by s i e₁ e₂ e₃ e₄ e₅ e₆ = λ j. all (e₁ j ∷ e₂ j ∷ e₃ j ∷ e₄ j ∷ e₅ j ∷ e₆ j ∷ [])

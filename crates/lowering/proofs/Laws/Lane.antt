@@ -1,9 +1,8 @@
 -- Laws of writing a lane's operations one after the other.
-use Prim.Native.Nat.{ℕ, zero, suc, _+_, _*_, _≤_, _<_}
+use Prim.Native.Nat.{ℕ, zero, suc, _+_, _≤_, _<_}
 use mathlib.Core.Path.{_≡_, refl, sym, ap, _∙_}
 use mathlib.Core.List.{List, [], _∷_, _++_, map, append-assoc}
 use native.Mathlib.Omega.{arith}
-use native.Mathlib.Decide.{decLe}
 use lib.ListN.{length, getD, take, length-append, length-map}
 use lib.Seq.{take-suc, take-all}
 use Rattle.kernel.specs.declared.accepted.Op.{Op}
@@ -17,9 +16,7 @@ use Rattle.sheet.specs.Bytes.{laneBytes}
 use Rattle.sheet.specs.Items.{TargetsWithin}
 use Rattle.lowering.specs.Put.{placedBy, stepBytes}
 use Rattle.sheet.proofs.Laws.Aim.{aim-agrees}
-use Rattle.sheet.proofs.Laws.Rows.{lane-bytes, bytes-append}
-use Rattle.sheet.specs.Put.{Puts}
-use Rattle.sheet.proofs.Laws.Put.{puts-on, puts-as}
+use Rattle.sheet.proofs.Laws.Rows.{bytes-append}
 use Rattle.sheet.proofs.LoweredLanes.{Stand, start-by}
 
 cells-append : (r : ℕ → ℕ) (xs ys : List Placed) → cells r (xs ++ ys) ≡ cells r xs ++ cells r ys
@@ -61,18 +58,6 @@ module _ (pre : ℕ → List Barrier) where
       let same : 0 + i ≡ i = omega arith in
       omega (arith, rw same at from)
 
-  starts-grow : (p n : ℕ) → p ≤ n → startBy pre p ≤ startBy pre n
-  starts-grow p zero h =
-      let z : p ≡ 0 = omega arith in
-      rw z (omega arith)
-  starts-grow p (suc n) h = go (decLe p n) (starts-grow p n)
-    where
-      go : Dec (p ≤ n) → (p ≤ n → startBy pre p ≤ startBy pre n) → startBy pre p ≤ startBy pre n + suc (length (pre n))
-      go (yes l) ih = omega (arith, ih l)
-      go (no l) ih =
-          let e : p ≡ suc n = omega arith in
-          rw e (omega arith)
-
   module _ (ops : List Op) where
     abbrev aims : ℕ → ℕ
     aims = start (placedBy pre 0 ops)
@@ -109,26 +94,20 @@ module _ (pre : ℕ → List Barrier) where
           length-map (pre p) barrier,
         )
 
-    first-length : (p : ℕ) → p ≤ length ops → length (firstBytes p) ≡ 8 * startBy pre p
-    first-length p h = lane-bytes level1 (firstCells p) ∙ ap (λ n. 8 * n) (first-count p h)
+    -- where an operation leads is where the operation there begins
+    aims-are : (p : ℕ) → TargetsWithin (length ops) ops → p < length ops
+        → aim (startBy pre) (getD ops p noOp) ≡ aim aims (getD ops p noOp)
+    aims-are p within h =
+        aim-agrees (startBy pre) aims (getD ops p noOp)
+        (λ t j. sym (starts-are ops t (within p (getD ops p noOp) t (at-some ops p noOp h) j)))
 
-    -- one operation more, whose target is v where it is a SKIP
-    first-suc : (p v : ℕ) → p < length ops → aim (λ t. v) (getD ops p noOp) ≡ aim aims (getD ops p noOp)
-        → firstBytes (suc p) ≡ firstBytes p ++ stepBytes (pre p) (getD ops p noOp) v
-    first-suc p v h e =
+    -- one operation more
+    pub first-suc : (p : ℕ) → TargetsWithin (length ops) ops → p < length ops
+        → firstBytes (suc p) ≡ firstBytes p ++ stepBytes (pre p) (aim (startBy pre) (getD ops p noOp))
+    first-suc p within h =
         ap (laneBytes level1) (cells-suc p h)
         ∙ bytes-append level1 (firstCells p) (map barrier (pre p) ++ (op (aim aims (getD ops p noOp)) ∷ []))
-        ∙ ap (λ o. firstBytes p ++ laneBytes level1 (map barrier (pre p) ++ (op o ∷ []))) (sym e)
-
-    -- the target that the code counts is where the operation there begins
-    pub target-aims : (n p v : ℕ) → n ≡ length ops → TargetsWithin n ops → p < length ops
-        → aim (λ t. v) (getD ops p noOp) ≡ aim (startBy pre) (getD ops p noOp)
-        → aim (λ t. v) (getD ops p noOp) ≡ aim aims (getD ops p noOp)
-    target-aims n p v e within h same =
-        same
-        ∙ aim-agrees (startBy pre) aims (getD ops p noOp)
-        (λ t j. let l = within p (getD ops p noOp) t (at-some ops p noOp h) j in
-        sym (starts-are ops t (omega arith)))
+        ∙ ap (λ o. firstBytes p ++ stepBytes (pre p) o) (sym (aims-are p within h))
 
     -- all of them
     cells-all : (p : ℕ) → length ops ≤ p → firstCells p ≡ sheet (placedBy pre 0 ops)
@@ -140,24 +119,3 @@ module _ (pre : ℕ → List Barrier) where
     pub lane-count : length (sheet (placedBy pre 0 ops)) ≡ startBy pre (length ops)
     lane-count =
         sym (ap length (cells-all (length ops) (omega arith))) ∙ first-count (length ops) (omega arith)
-
-    module _ (p v : ℕ) (h : p < length ops) (e : aim (λ t. v) (getD ops p noOp) ≡ aim aims (getD ops p noOp)) where
-      -- there is room for it, and what is written then
-      pub lane-room : length (firstBytes p) + length (stepBytes (pre p) (getD ops p noOp) v) ≤ length
-          (laneBytes level1 (sheet (placedBy pre 0 ops)))
-      lane-room =
-          omega (
-            arith,
-            ap length (first-suc p v h e),
-            length-append (firstBytes p) (stepBytes (pre p) (getD ops p noOp) v),
-            first-length (suc p) (omega arith),
-            starts-grow (suc p) (length ops) (omega arith),
-            first-length (length ops) (omega arith),
-            ap length (first-all (length ops) (omega arith)),
-          )
-
-      pub lane-put : {buffer out out′ : List ℕ} {i i′ : ℕ} → Puts buffer 0 (firstBytes p) out i
-          → Puts out i (stepBytes (pre p) (getD ops p noOp) v) out′ i′ → Puts buffer 0 (firstBytes (p + 1)) out′ i′
-      lane-put were put =
-          let one : suc p ≡ p + 1 = omega arith in
-          puts-as (sym (first-suc p v h e) ∙ ap firstBytes one) (puts-on were put)

@@ -1,72 +1,96 @@
--- Laws of the bytes of one operation with its barriers.
-use Prim.Native.Nat.{ℕ, _+_, _≤_}
+-- Laws of a row and the barriers before it, as the code writes them.
+use Prim.Native.Nat.{ℕ, suc, _+_, _*_, _≤_, _<_}
 use mathlib.Core.Path.{_≡_, refl, sym, ap, _∙_}
-use mathlib.Core.Bool.{Bool, true, false}
-use mathlib.Core.List.{List, [], _∷_, _++_, map, append-nil}
+use mathlib.Core.Bool.{Bool, true, false, cond}
+use mathlib.Core.List.{List, [], _∷_}
 use native.Mathlib.Omega.{arith}
-use lib.ListN.{length, length-append}
-use Rattle.kernel.specs.declared.accepted.Op.{Op}
-use Rattle.placement.specs.declared.cookbook.Barrier.{Barrier}
-use Rattle.placement.specs.declared.cookbook.Barrier.the-variants.{LL, LS, SS, SL}
-use Rattle.placement.specs.Cookbook.{codeOf}
-use Rattle.placement.specs.Place.{keep, chosen}
-use Rattle.lowering.specs.declared.steps.Marks.{Marks}
-use Rattle.sheet.specs.Layout.{Instr, op, barrier, aim}
-use Rattle.sheet.specs.Levels.{level1}
-use Rattle.sheet.specs.Bytes.{opBytes, laneBytes}
-use Rattle.sheet.specs.Put.{Puts, laid}
-use Rattle.sheet.proofs.Laws.Rows.{instr-length}
-use Rattle.sheet.proofs.Laws.Put.{laid-put, puts-on, puts-as, puts-length}
-use Rattle.lowering.specs.Put.{rowIf, marked, stepBytes}
+use lib.Dec.{eqb}
+use lib.ListN.{length, getD, take, drop, length-append, length-drop}
+use lib.Seq.{drop-cons, length-take-le}
+use borrow.Author.Tests.{ne-eqb}
+use Rattle.kernel.specs.Fields.{byte, word}
+use Rattle.placement.specs.declared.place.Placement.{Placement}
+use Rattle.placement.specs.Placed.{bit}
+use Rattle.placement.specs.Sheet.{start as startBy}
+use Rattle.sheet.specs.Bytes.{row}
+use Rattle.rows.proofs.Laws.Read.{shifted}
+use Rattle.lowering.specs.Put.{standing, rowIf, barrierRows, ownRow, stepRows}
 
--- the bytes of a step, barrier by barrier
-keep-bytes : (t : Bool) (b : Barrier) (bs : List Barrier) (is : List Instr)
-    → laneBytes level1 (map barrier (keep t b bs) ++ is) ≡ rowIf t (codeOf b) ++ laneBytes level1 (map barrier bs ++ is)
-keep-bytes true b bs is = refl
-keep-bytes false b bs is = refl
+pub barriers-length : (r : Placement) (p : ℕ)
+    → length (barrierRows r p)
+    ≡ length (rowIf (bit (r .ll) p) 11) + length (rowIf (bit (r .ls) p) 12) + length (rowIf (bit (r .ss) p) 13)
+    + length (rowIf (bit (r .sl) p) 14)
+barriers-length r p = simp length-append
 
-step-bytes : (m : Marks) (o : Op) (t : ℕ)
-    → stepBytes (chosen (marked m)) o t
-    ≡ rowIf (m .ll) 11 ++ (rowIf (m .ls) 12 ++ (rowIf (m .ss) 13 ++ (rowIf (m .sl) 14 ++ opBytes (aim (λ x. t) o))))
-step-bytes m o t =
-    let last : List Instr = op (aim (λ x. t) o) ∷ [] in
-    keep-bytes (m .ll) LL (keep (m .ls) LS (keep (m .ss) SS (keep (m .sl) SL []))) last
-    ∙ ap (λ z. rowIf (m .ll) 11 ++ z)
-    (keep-bytes (m .ls) LS (keep (m .ss) SS (keep (m .sl) SL [])) last
-    ∙ ap (λ z. rowIf (m .ls) 12 ++ z)
-    (keep-bytes (m .ss) SS (keep (m .sl) SL []) last
-    ∙ ap (λ z. rowIf (m .ss) 13 ++ z)
-    (keep-bytes (m .sl) SL [] last ∙ ap (λ z. rowIf (m .sl) 14 ++ z) (append-nil (opBytes (aim (λ x. t) o))))))
+-- ## the row
 
-pub step-length : (m : Marks) (o : Op) (t : ℕ)
-    → length (stepBytes (chosen (marked m)) o t)
-    ≡ length (rowIf (m .ll) 11)
-    + (length (rowIf (m .ls) 12) + (length (rowIf (m .ss) 13) + (length (rowIf (m .sl) 14) + 8)))
-step-length m o t =
-    ap length (step-bytes m o t)
-    ∙ simp length-append
-    (ap (λ n. length (rowIf (m .ll) 11)
-    + (length (rowIf (m .ls) 12) + (length (rowIf (m .ss) 13) + (length (rowIf (m .sl) 14) + n))))
-    (instr-length level1 (op (aim (λ x. t) o))))
+module _ (l : List ℕ) where
+  -- one byte of the front
+  front : (n k m : ℕ) → m ≡ suc k → k < length l → take (suc n) (drop k l) ≡ getD l k 0 ∷ take n (drop m l)
+  front n k m e h =
+      ap (take (suc n)) (drop-cons l k 0 h) ∙ ap (λ j. getD l k 0 ∷ take n (drop j l)) (sym e)
 
--- barriers and operation, put one behind the other
-pub step-put : (m : Marks) (o : Op) (t : ℕ) {l l₁ l₂ l₃ l₄ l₅ : List ℕ} {i i₁ i₂ i₃ i₄ : ℕ}
-    → i + length (stepBytes (chosen (marked m)) o t) ≤ length l
-    → Puts l i (rowIf (m .ll) 11) l₁ i₁ → Puts l₁ i₁ (rowIf (m .ls) 12) l₂ i₂ → Puts l₂ i₂ (rowIf (m .ss) 13) l₃ i₃
-    → Puts l₃ i₃ (rowIf (m .sl) 14) l₄ i₄ → l₅ ≡ laid l₄ i₄ (opBytes (aim (λ x. t) o))
-    → Puts l i (stepBytes (chosen (marked m)) o t) l₅ (i₄ + 8)
-step-put m o t {l} {l₁} {l₂} {l₃} {l₄} {l₅} {i} {i₁} {i₂} {i₃} {i₄} room p₁ p₂ p₃ p₄ e =
-    let four = puts-on p₁ (puts-on p₂ (puts-on p₃ p₄)) in
-    let size = instr-length level1 (op (aim (λ x. t) o)) in
-    let fits : i₄ + length (opBytes (aim (λ x. t) o)) ≤ length l₄ =
-    omega (
-      arith,
-      step-length m o t,
-      puts-length four,
-      p₁ .behind,
-      p₂ .behind,
-      p₃ .behind,
-      p₄ .behind,
-    ) in
-    let last = laid-put l₄ i₄ (opBytes (aim (λ x. t) o)) refl size fits e in
-    puts-as (sym (step-bytes m o t)) (puts-on p₁ (puts-on p₂ (puts-on p₃ (puts-on p₄ last))))
+  pub eight-bytes : (k : ℕ) → k + 8 ≤ length l
+      → getD l k 0
+      ∷ getD l (k + 1) 0
+      ∷ getD l (k + 2) 0
+      ∷ getD l (k + 3) 0
+      ∷ getD l (k + 4) 0
+      ∷ getD l (k + 5) 0
+      ∷ getD l (k + 6) 0
+      ∷ getD l (k + 7) 0
+      ∷ []
+      ≡ take 8 (drop k l)
+  eight-bytes k h =
+      let s0 = front 7 k (k + 1) (omega arith) (omega arith) in
+      let s1 = front 6 (k + 1) (k + 2) (omega arith) (omega arith) in
+      let s2 = front 5 (k + 2) (k + 3) (omega arith) (omega arith) in
+      let s3 = front 4 (k + 3) (k + 4) (omega arith) (omega arith) in
+      let s4 = front 3 (k + 4) (k + 5) (omega arith) (omega arith) in
+      let s5 = front 2 (k + 5) (k + 6) (omega arith) (omega arith) in
+      let s6 = front 1 (k + 6) (k + 7) (omega arith) (omega arith) in
+      let s7 = front 0 (k + 7) (k + 8) (omega arith) (omega arith) in
+      sym (rw (s0, s1, s2, s3, s4, s5, s6, s7) refl)
+
+  word-at : (k : ℕ) → word l (k + 4) ≡ word (drop k l) 4
+  word-at k = omega (arith, shifted l k 4 (k + 4) refl, shifted l k 5 (k + 4 + 1) (omega arith))
+
+  module _ (r : Placement) (k : ℕ) where
+    -- a SKIP's row, and any other's
+    pub own-skip : {a b t : ℕ} → getD l k 0 ≡ 7 → a ≡ getD l (k + 1) 0 → b ≡ getD l (k + 2) 0
+        → t ≡ startBy (standing r) (word l (k + 4)) → row 7 a b t ≡ ownRow r (drop k l)
+    unfolding ownRow
+    own-skip e ea eb et =
+        let code : byte (drop k l) 0 ≡ 7 = sym (shifted l k 0 k (omega arith)) ∙ e in
+        let first = ea ∙ shifted l k 1 (k + 1) refl in
+        let second = eb ∙ shifted l k 2 (k + 2) refl in
+        let target = et ∙ ap (startBy (standing r)) (word-at k) in
+        (λ i. row 7 (first i) (second i) (target i))
+        ∙ sym (ap (λ n. cond (eqb n 7)
+        (row 7 (byte (drop k l) 1) (byte (drop k l) 2) (startBy (standing r) (word (drop k l) 4)))
+        (take 8 (drop k l))) code)
+
+    pub own-copy : ¬ getD l k 0 ≡ 7 → take 8 (drop k l) ≡ ownRow r (drop k l)
+    unfolding ownRow
+    own-copy h =
+        let code = ap (λ n. eqb n 7) (sym (shifted l k 0 k (omega arith))) ∙ ne-eqb (getD l k 0) 7 h in
+        sym (ap (λ t. cond t
+        (row 7 (byte (drop k l) 1) (byte (drop k l) 2) (startBy (standing r) (word (drop k l) 4)))
+        (take 8 (drop k l))) code)
+
+    pub own-length : k + 8 ≤ length l → length (ownRow r (drop k l)) ≡ 8
+    unfolding ownRow
+    own-length h = go (eqb (byte (drop k l) 0) 7)
+      where
+        go : (b : Bool) → length (cond b
+            (row 7 (byte (drop k l) 1) (byte (drop k l) 2) (startBy (standing r) (word (drop k l) 4)))
+            (take 8 (drop k l))) ≡ 8
+        go true = refl
+        go false = length-take-le 8 (drop k l) (omega (arith, length-drop k l))
+
+-- row p with its barriers
+pub step-length : (r : Placement) (rows : List ℕ) (p : ℕ) → 8 * p + 8 ≤ length rows
+    → length (stepRows r rows p) ≡ length (barrierRows r p) + 8
+step-length r rows p h =
+    length-append (barrierRows r p) (ownRow r (drop (8 * p) rows))
+    ∙ ap (λ n. length (barrierRows r p) + n) (own-length rows r (8 * p) h)

@@ -13,24 +13,23 @@ use Rattle.placement.specs.declared.cookbook.Barrier.{Barrier}
 use Rattle.placement.specs.declared.cookbook.Barrier.the-variants.{LL, LS, SS, SL}
 use Rattle.placement.specs.declared.place.Placement.{Placement}
 use Rattle.placement.specs.Place.{keep, chosen}
-use Rattle.placement.specs.Placed.{bit}
+use Rattle.placement.specs.Placed.{bit, flags}
 use Rattle.placement.specs.Sheet.{start as startBy}
-use Rattle.lowering.specs.declared.steps.Marks.{Marks}
-use Rattle.lowering.specs.Put.{marked, standingMarks, standing}
+use Rattle.lowering.specs.Put.{standing}
 
 keep-count : (t : Bool) (b : Barrier) (bs : List Barrier) → length (keep t b bs) ≡ cond t 1 0 + length bs
 keep-count true b bs = omega arith
 keep-count false b bs = omega arith
 
-marks-count : (m : Marks)
-    → length (chosen (marked m)) ≡ cond (m .ll) 1 0 + (cond (m .ls) 1 0 + (cond (m .ss) 1 0 + cond (m .sl) 1 0))
-marks-count m =
+chosen-count : (f : Barrier → Bool)
+    → length (chosen f) ≡ cond (f LL) 1 0 + (cond (f LS) 1 0 + (cond (f SS) 1 0 + cond (f SL) 1 0))
+chosen-count f =
     omega (
       arith,
-      keep-count (m .ll) LL (keep (m .ls) LS (keep (m .ss) SS (keep (m .sl) SL []))),
-      keep-count (m .ls) LS (keep (m .ss) SS (keep (m .sl) SL [])),
-      keep-count (m .ss) SS (keep (m .sl) SL []),
-      keep-count (m .sl) SL [],
+      keep-count (f LL) LL (keep (f LS) LS (keep (f SS) SS (keep (f SL) SL []))),
+      keep-count (f LS) LS (keep (f SS) SS (keep (f SL) SL [])),
+      keep-count (f SS) SS (keep (f SL) SL []),
+      keep-count (f SL) SL [],
     )
 
 digit-count : (d : ℕ) → d < 2 → ones d ≡ cond (eqb d 1) 1 0
@@ -67,5 +66,5 @@ module _ (r : Placement) where
         ones-suc (r .ls) p,
         ones-suc (r .ss) p,
         ones-suc (r .sl) p,
-        marks-count (standingMarks r p),
+        chosen-count (λ b. bit (flags r b) p),
       )

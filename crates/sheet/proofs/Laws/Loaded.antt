@@ -1,4 +1,4 @@
--- Laws of a file: what a refusal answers; of an accepted file its lanes, and its header and lanes together.
+-- Laws of a file: what a refusal answers; of a file with a valid header its lanes, and its header and lanes together.
 use Prim.Native.Nat.{ℕ, _+_, _*_, _≤_, _<_}
 use mathlib.Core.Path.{_≡_, refl, sym, ap, _∙_}
 use mathlib.Core.Bool.{true}
@@ -14,14 +14,12 @@ use Rattle.kernel.specs.Rules.{headerRule}
 use Rattle.kernel.specs.Linkage.{chain}
 use Rattle.kernel.specs.Accepted.{Program, programOf, opsOf, opsAt}
 use Rattle.kernel.specs.Stored.{chained}
-use Rattle.kernel.specs.Lawful.{Lawful}
 use Rattle.kernel.proofs.Laws.Accepted.{chained-len, chained-front}
 use Rattle.kernel.proofs.Laws.Lanes.{lane-ops}
 use Rattle.kernel.proofs.Laws.Rules.{four-lanes}
 use Rattle.kernel.proofs.Laws.Stored.{opsFrom-length, lane-count}
 use Rattle.verdict.specs.Verdict.{verdict, accepted, refusalOf, numberOf, recordOf}
 use Rattle.verdict.proofs.Laws.Verdict.{sound, accepted-as}
-use Rattle.verdict.proofs.Lawful.{accepted-lawful}
 use Rattle.sheet.specs.declared.Lowered.the-variants.{Refuses}
 use Rattle.sheet.specs.Layout.{Instr}
 use Rattle.sheet.specs.Levels.{level1}
@@ -49,22 +47,23 @@ module _ (s : List ℕ) (t : ℕ) {h : ℕ} (q : Chain) (at : h ≡ head s t) (e
       chained-len s h q e ∙ sym (opsFrom-length s 0 (chain s 64 h)) ∙ ap (λ x. length (opsAt s x)) at
 
 module _ (s : List ℕ) (ok : verdict s ≡ accepted (programOf s)) where
-  lawful-by : Lawful (programOf s)
-  lawful-by = accepted-lawful s (programOf s) ok
-
   pub answered-by : (bytes : Program → List ℕ) (buffer : List ℕ)
       → writeInto (bytes (programOf s)) buffer ≡ answerBy bytes (verdict s) buffer
   answered-by bytes buffer = ap (λ v. answerBy bytes v buffer) (sym ok)
 
-  header-by : headerRule s ≡ true
+  pub header-by : headerRule s ≡ true
   header-by = sound s (accepted-as s (programOf s) ok .0) .0 .header
 
+module _ (s : List ℕ) (header : headerRule s ≡ true) where
   -- lane t is the chain from its head
   ops-by : (t : ℕ) → t < 4 → opsAt s (head s t) ≡ getD (programOf s .lanes) t []
-  ops-by t h = sym (lane-ops s header-by t h)
+  ops-by t h = sym (lane-ops s header t h)
 
   count-by : laneCount s ≡ length (programOf s .lanes)
-  count-by = sym (lane-count s (four-lanes s header-by))
+  count-by = sym (lane-count s (four-lanes s header))
+
+  few-by : length (programOf s .lanes) ≤ 4
+  few-by = omega (arith, count-by, four-lanes s header)
 
   -- each lane's instructions come of its operations, none of none
   module _ (level : ℕ) (f : List Op → List Instr) (none : f [] ≡ []) where
@@ -95,7 +94,7 @@ module _ (s : List ℕ) (ok : verdict s ≡ accepted (programOf s)) where
             let os = programOf s .lanes in
             turn-same text (λ t. laneBytes level1 (f (getD os t []))) 4
             (λ t h. same t h ∙ ap (λ ops. laneBytes level1 (f ops)) (ops-by t h))
-            ∙ turn-all (λ ops. laneBytes level1 (f ops)) [] (ap (laneBytes level1) none) os 4 (lawful-by .few-lanes)
+            ∙ turn-all (λ ops. laneBytes level1 (f ops)) [] (ap (laneBytes level1) none) os 4 few-by
             ∙ sym (ap joined (map-map (laneBytes level1) f os))
 
         parts-by : {n ls ks m : ℕ} → n ≡ laneCount s → ls ≡ locations s → ks ≡ locks s → m ≡ mask s

@@ -1,146 +1,105 @@
--- `chaining::whole::write_chains` meets its contract. What is written is the rows of the lanes passed.
-use Prim.Native.Nat.{_≤_, _-_}
-use lib.ListN.{length}
-use lib.Seq.{sets}
-use mathlib.Core.Path.{_≡_, sym, ap, _∙_}
+-- `chaining::whole::write_chains` meets its contract: the header with the lanes' counts, and the lanes.
 use native.Mathlib.Omega.{arith}
-use Rattle.kernel.proofs.Laws.Accepted.{chained-len, chained-small, chained-room, chained-front}
-use Rattle.sheet.specs.Put.{Puts, inTurn}
-use Rattle.sheet.proofs.Laws.Loaded.{walked-ops}
-use Rattle.sheet.proofs.Laws.Part.{part-back, part-length}
-use Rattle.sheet.proofs.Laws.Put.{puts-as, puts-length}
-use Rattle.sheet.proofs.Laws.Turn.{turn-none, turn-on, turn-fits}
-use Rattle.chaining.specs.Chains.{opRows, chainAt}
+use Rattle.sheet.proofs.Laws.Put.{laid-length}
+use Rattle.chaining.proofs.Laws.Whole.{chains-from}
 use borrow.Author.Needs.{needs}
 use Rattle.chaining.proofs.whole.write_chains.Statement.{statement}
 use Rattle.chaining.proofs.whole.write_chains.Tie as tie
 
-abbrev Inv-loop : tie.InvT-loop
-Inv-loop out₀ s at₀ t₀ out at t = (t ≤ 4) × Puts out₀ 16 (inTurn (chainAt s) t) out at
+word-at-requires : tie.Need-word-at-requires
+word-at-requires c κs = search needs
 
-abbrev μ-loop : tie.MeasureT-loop
-μ-loop out₀ s at₀ t₀ out at t = 4 - t
+cast-mask : tie.Need-cast-mask
+cast-mask c = search needs
 
-loop-holds : tie.Need-loop-holds Inv-loop μ-loop
-loop-holds c = (omega arith, turn-none _)
+byte-at-requires : tie.Need-byte-at-requires
+byte-at-requires c κs = search needs
 
-head-of-requires : tie.Need-head-of-requires Inv-loop μ-loop
-head-of-requires c κs = search needs
+byte-at-requires-2 : tie.Need-byte-at-requires-2
+byte-at-requires-2 c κs = search needs
 
-chain-from-requires : tie.Need-chain-from-requires Inv-loop μ-loop
-chain-from-requires c κs = search needs
+byte-at-requires-3 : tie.Need-byte-at-requires-3
+byte-at-requires-3 c κs = search needs
 
-sub-write-chain : tie.Need-sub-write-chain Inv-loop μ-loop
-sub-write-chain c =
-    let here = c .before .before .before .before in
-    let a = here .before .before .before in
-    let l = here .loop in
-    let fits = turn-fits (chainAt (a .args .s .now)) 4 (l .t) (a .pre) (omega arith) (l .inv .1) in
-    omega (arith, fits .1)
+put-first-requires : tie.Need-put-first-requires
+put-first-requires c κs = search needs
 
-part-write-chain-start : tie.Need-part-write-chain-start Inv-loop μ-loop
-part-write-chain-start c =
-    let here = c .before .before .before .before in
-    let a = here .before .before .before in
-    let l = here .loop in
-    let fits = turn-fits (chainAt (a .args .s .now)) 4 (l .t) (a .pre) (omega arith) (l .inv .1) in
-    omega (arith, fits .1)
+element-copy-out-a : tie.Need-element-copy-out-a
+element-copy-out-a c = search needs
 
-part-write-chain-end : tie.Need-part-write-chain-end Inv-loop μ-loop
-part-write-chain-end c = omega arith
+element-copy-out-b : tie.Need-element-copy-out-b
+element-copy-out-b c = search needs
 
-array-share-prefix-records : tie.Need-array-share-prefix-records Inv-loop μ-loop
-array-share-prefix-records c =
-    let f = c .before .before .chain-from in
-    omega (arith, chained-small _ _ _ (f .ensures), chained-room _ _ _ (f .ensures))
+element-copy-out-c : tie.Need-element-copy-out-c
+element-copy-out-c c = search needs
 
-slice-aggregate-write-chain : tie.Need-slice-aggregate-write-chain Inv-loop μ-loop
-slice-aggregate-write-chain c =
-    let f = c .before .before .before .chain-from in
-    chained-len _ _ _ (f .ensures) ∙ sym (ap length (chained-front _ _ _ (f .ensures)))
+element-copy-out-d : tie.Need-element-copy-out-d
+element-copy-out-d c = search needs
 
-write-chain-requires : tie.Need-write-chain-requires Inv-loop μ-loop
-write-chain-requires c κs =
-    let here = c .before .before .before .before .before .before in
-    let a = here .before .before .before in
-    let l = here .loop in
-    let f = c .before .before .before .chain-from in
-    let fits = turn-fits (chainAt (a .args .s .now)) 4 (l .t) (a .pre) (omega arith) (l .inv .1) in
-    let inside : l .at ≤ length (l .out) = omega (arith, fits .1) in
-    let ops = walked-ops _ _ (f .result) (c .before .before .before .before .head-of .ensures .0) (f .ensures) in (
+sub-put-counts : tie.Need-sub-put-counts
+sub-put-counts c =
+    let c8 = c .before .before .before .before .before .before .before .before in
+    omega (arith, c8 .before .before .before .before .before .before .before .pre .1 .ordered .rising 1 (omega arith))
+
+sub-put-counts-2 : tie.Need-sub-put-counts-2
+sub-put-counts-2 c =
+    let c8 = c .before .before .before .before .before .before .before .before in
+    omega (arith, c8 .before .before .before .before .before .before .before .pre .1 .ordered .rising 2 (omega arith))
+
+sub-put-counts-3 : tie.Need-sub-put-counts-3
+sub-put-counts-3 c =
+    let c8 = c .before .before .before .before .before .before .before .before in
+    omega (arith, c8 .before .before .before .before .before .before .before .pre .1 .ordered .rising 3 (omega arith))
+
+put-counts-requires : tie.Need-put-counts-requires
+put-counts-requires c κs = search needs
+
+write-lanes-requires : tie.Need-write-lanes-requires
+write-lanes-requires c κs =
+    let counts = c .before .before .before in
+    let first = counts .before .before .before .before .before .before .before .before in
+    let a = first .before .before .before .before .before .before .before .before in (
       omega (
         arith,
-        chained-small _ _ _ (f .ensures),
-        chained-len _ _ _ (f .ensures),
-        ap length (chained-front _ _ _ (f .ensures)),
+        laid-length _ _ _ (first .put-first .ensures),
+        laid-length _ _ _ (counts .put-counts .ensures),
+        a .pre .0,
       ),
-      omega (arith, ap (λ x. length (opRows x)) ops, part-length (l .out) (l .at) inside, fits .1),
+      a .pre .1,
     )
 
-add-at : tie.Need-add-at Inv-loop μ-loop
-add-at c =
-    let c6 = c .before .before .before .before .before .before in
-    let here = c6 .before .before .before in
-    let a = here .before .before .before in
-    let l = here .loop in
-    let fits = turn-fits (chainAt (a .args .s .now)) 4 (l .t) (a .pre) (omega arith) (l .inv .1) in
-    let ops = walked-ops _ _ (c6 .chain-from .result) (c6 .before .head-of .ensures .0) (c6 .chain-from .ensures) in
-    omega (
-      arith,
-      ap (λ x. length (opRows x)) ops,
-      c .before .before .write-chain .ensures .behind,
-      fits .0,
-      fits .1,
-      a .good,
-    )
+same-length : tie.Need-same-length
+same-length c = search needs
 
-add-t : tie.Need-add-t Inv-loop μ-loop
-add-t c = omega arith
-
-loop-less : tie.Need-loop-less Inv-loop μ-loop
-loop-less c = omega arith
-
-loop-again : tie.Need-loop-again Inv-loop μ-loop
-loop-again c =
-    let c6 = c .before .before .before .before .before .before in
-    let here = c6 .before .before .before in
-    let a = here .before .before .before in
-    let l = here .loop in
-    let text = chainAt (a .args .s .now) in
-    let fits = turn-fits text 4 (l .t) (a .pre) (omega arith) (l .inv .1) in
-    let ops = walked-ops _ _ (c6 .chain-from .result) (c6 .before .head-of .ensures .0) (c6 .chain-from .ensures) in
-    let wrote = part-back (l .out) (text (l .t)) (l .at) (fits .1)
-    (puts-as (ap opRows ops) (c .before .before .write-chain .ensures)) in
-    (omega arith, turn-on text (l .t) (l .inv .1) wrote)
-
-same-length : tie.Need-same-length Inv-loop μ-loop
-same-length c = puts-length (c .before .loop .inv .1)
-
-returns : tie.Need-returns Inv-loop μ-loop
+returns : tie.Need-returns
 returns c =
-    let a = c .before .before .before .before in
-    let l = c .before .loop in
-    let last : l .t ≡ 4 = omega arith in
-    l .inv .1 .bytes ∙ ap (λ n. sets (a .args .out .now) 16 (inTurn (chainAt (a .args .s .now)) n)) last
+    let lanes = c .before .before in
+    let counts = lanes .before .before .before .before in
+    let first = counts .before .before .before .before .before .before .before .before in
+    let at = first .before .before .before in
+    let a = at .before .before .before .before .before in
+    chains-from (a .pre .1) (at .byte-at .ensures) (first .before .before .byte-at2 .ensures)
+    (first .before .byte-at3 .ensures) (at .before .before .word-at .ensures .0) (a .args .out .now) (a .pre .0)
+    (first .put-first .ensures) (counts .put-counts .ensures) (lanes .write-lanes .ensures)
 
 pub write-chains-spec : {M : Type 1} → statement M
 write-chains-spec =
     tie.close
     (tie.spec
-    Inv-loop
-    μ-loop
-    loop-holds
-    head-of-requires
-    chain-from-requires
-    sub-write-chain
-    part-write-chain-start
-    part-write-chain-end
-    array-share-prefix-records
-    slice-aggregate-write-chain
-    write-chain-requires
-    add-at
-    add-t
-    loop-less
-    loop-again
+    word-at-requires
+    cast-mask
+    byte-at-requires
+    byte-at-requires-2
+    byte-at-requires-3
+    put-first-requires
+    element-copy-out-a
+    element-copy-out-b
+    element-copy-out-c
+    element-copy-out-d
+    sub-put-counts
+    sub-put-counts-2
+    sub-put-counts-3
+    put-counts-requires
+    write-lanes-requires
     same-length
     returns)

@@ -4,6 +4,20 @@ use Rattle.kernel.specs.Rules.{recordRule, limitA, limitB, limitConstant
 use Rattle.kernel.proofs.rules.record_rule.Statement.{statement}
 use Rattle.kernel.proofs.rules.record_rule.Tie as tie
 
+mul-if1 : tie.Need-mul-if1
+mul-if1 c = search needs
+
+add-if1 : tie.Need-add-if1
+add-if1 c = search needs
+
+whole-rule-requires : tie.Need-whole-rule-requires
+whole-rule-requires c κs =
+    let a = c .before .before .before .before .before .before in
+    (c .if1 .taken, a .pre .1)
+
+returns : tie.Need-returns
+returns c = c .whole-rule .ensures
+
 mul-at : tie.Need-mul-at
 mul-at c = search needs
 
@@ -67,13 +81,13 @@ both-requires-5 c κs = search needs
 both-requires-6 : tie.Need-both-requires-6
 both-requires-6 c κs = search needs
 
-returns : tie.Need-returns
+returns-2 : tie.Need-returns-2
 unfolding recordRule limitA limitB limitConstant limitTarget
-returns c =
+returns-2 c =
     let c5 = c .before .before .before .before .before in
     let c10 = c5 .before .before .before .before .before in
     let c15 = c10 .before .before .before .before .before in
-    let limits = c15 .before .before .before .before .before .before .before .before .pre .1 in
+    let limits = c15 .before .before .before .before .before .before .before .before .before .pre .1 in
     rw (
       c .both6 .ensures,
       c .before .both5 .ensures,
@@ -103,6 +117,10 @@ pub record-rule-spec : {M : Type 1} → statement M
 record-rule-spec =
     tie.close
     (tie.spec
+    mul-if1
+    add-if1
+    whole-rule-requires
+    returns
     mul-at
     add-at
     four-at-requires
@@ -124,4 +142,4 @@ record-rule-spec =
     both-requires-4
     both-requires-5
     both-requires-6
-    returns)
+    returns-2)

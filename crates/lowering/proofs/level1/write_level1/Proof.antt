@@ -4,7 +4,7 @@ use native.Mathlib.Omega.{arith}
 use Rattle.sheet.proofs.Laws.Put.{laid-length}
 use Rattle.sheet.proofs.Laws.Written.{short-untouched}
 use Rattle.lowering.specs.Plan.{sheet1}
-use Rattle.lowering.proofs.Laws.Level1.{size-by, room-by, sheet-put}
+use Rattle.lowering.proofs.Laws.Level1.{chains-short, size-by, room-by, sheet-put}
 use borrow.Author.Needs.{needs}
 use Rattle.lowering.proofs.level1.write_level1.Statement.{statement}
 use Rattle.lowering.proofs.level1.write_level1.Tie as tie
@@ -15,17 +15,28 @@ word-at-requires c κs = search needs
 cast-mask : tie.Need-cast-mask
 cast-mask c = search needs
 
-plan-of-requires : tie.Need-plan-of-requires
-plan-of-requires c κs = search needs
+parts-of-requires : tie.Need-parts-of-requires
+parts-of-requires c κs = search needs
 
-plan-of-requires-2 : tie.Need-plan-of-requires-2
-plan-of-requires-2 c κs = search needs
+plan-at-requires : tie.Need-plan-at-requires
+plan-at-requires c κs =
+    let a = c .before .before .before .before .before in
+    (omega arith, chains-short (a .args .s .now) (a .pre .0) (a .pre .1), c .parts-of .ensures)
 
-plan-of-requires-3 : tie.Need-plan-of-requires-3
-plan-of-requires-3 c κs = search needs
+plan-at-requires-2 : tie.Need-plan-at-requires-2
+plan-at-requires-2 c κs =
+    let a = c .before .before .before .before .before .before in
+    (omega arith, chains-short (a .args .s .now) (a .pre .0) (a .pre .1), c .before .parts-of .ensures)
 
-plan-of-requires-4 : tie.Need-plan-of-requires-4
-plan-of-requires-4 c κs = search needs
+plan-at-requires-3 : tie.Need-plan-at-requires-3
+plan-at-requires-3 c κs =
+    let a = c .before .before .before .before .before .before .before in
+    (omega arith, chains-short (a .args .s .now) (a .pre .0) (a .pre .1), c .before .before .parts-of .ensures)
+
+plan-at-requires-4 : tie.Need-plan-at-requires-4
+plan-at-requires-4 c κs =
+    let a = c .before .before .before .before .before .before .before .before in
+    (omega arith, chains-short (a .args .s .now) (a .pre .0) (a .pre .1), c .before .before .before .parts-of .ensures)
 
 add-total : tie.Need-add-total
 add-total c = search needs
@@ -45,11 +56,14 @@ add-total-4 c = search needs
 returns : tie.Need-returns
 returns c =
     let p = c .before .before .before .before .before in
-    let a = p .before .before .before .before .before .before .before in
+    let a = p .before .before .before .before .before .before .before .before .before in
     let s = a .args .s .now in
-    let size = size-by s (a .pre) (p .before .before .before .plan-of .ensures .counted)
-    (p .before .before .plan-of2 .ensures .counted) (p .before .plan-of3 .ensures .counted)
-    (p .plan-of4 .ensures .counted) in
+    let em = p .before .before .before .before .before .word-at .ensures .0 in
+    let pa = p .before .before .before .plan-at .ensures .0 in
+    let pb = p .before .before .plan-at2 .ensures .0 in
+    let pc = p .before .plan-at3 .ensures .0 in
+    let pd = p .plan-at4 .ensures .0 in
+    let size = size-by s (a .pre .0) (a .pre .1) em pa pb pc pd in
     (size, ap (λ x. x .1) (sym (short-untouched (sheet1 s) (a .args .out .now) (omega (arith, size, c .if1 .taken)))))
 
 byte-at-requires : tie.Need-byte-at-requires
@@ -72,22 +86,18 @@ write-lanes-requires c κs =
     let f = c .before .before .before .before .before .before .before in
     let i = f .before .before .before .before .before in
     let p = i .before .before .before .before .before in
-    let a = p .before .before .before .before .before .before .before in
+    let a = p .before .before .before .before .before .before .before .before .before in
     let s = a .args .s .now in
-    let size = size-by s (a .pre) (p .before .before .before .plan-of .ensures .counted)
-    (p .before .before .plan-of2 .ensures .counted) (p .before .plan-of3 .ensures .counted)
-    (p .plan-of4 .ensures .counted) in
-    let room = room-by s (a .pre) (p .before .before .before .plan-of .ensures .counted)
-    (p .before .before .plan-of2 .ensures .counted) (p .before .plan-of3 .ensures .counted)
-    (p .plan-of4 .ensures .counted) in
+    let em = p .before .before .before .before .before .word-at .ensures .0 in
+    let pa = p .before .before .before .plan-at .ensures .0 in
+    let pb = p .before .before .plan-at2 .ensures .0 in
+    let pc = p .before .plan-at3 .ensures .0 in
+    let pd = p .plan-at4 .ensures .0 in
+    let size = size-by s (a .pre .0) (a .pre .1) em pa pb pc pd in
+    let room = room-by s (a .pre .0) (a .pre .1) em pa pb pc pd in
     let first = laid-length _ _ _ (f .put-first .ensures) in
     let counts = laid-length _ _ _ (c .before .before .before .put-counts .ensures) in (
-      (
-        p .before .before .before .plan-of .ensures .stand,
-        p .before .before .plan-of2 .ensures .stand,
-        p .before .plan-of3 .ensures .stand,
-        p .plan-of4 .ensures .stand,
-      ),
+      (chains-short s (a .pre .0) (a .pre .1), p .before .before .before .before .parts-of .ensures),
       omega (arith, size, room, i .if1 .left, first, counts),
     )
 
@@ -100,20 +110,19 @@ returns-2 c =
     let f = n .before .before .before .before in
     let i = f .before .before .before .before .before in
     let p = i .before .before .before .before .before in
-    let w = p .before .before .before .before in
-    let a = w .before .before .before in
+    let a = p .before .before .before .before .before .before .before .before .before in
     let s = a .args .s .now in
-    let size = size-by s (a .pre) (p .before .before .before .plan-of .ensures .counted)
-    (p .before .before .plan-of2 .ensures .counted) (p .before .plan-of3 .ensures .counted)
-    (p .plan-of4 .ensures .counted) in (
+    let em = p .before .before .before .before .before .word-at .ensures .0 in
+    let pa = p .before .before .before .plan-at .ensures .0 in
+    let pb = p .before .before .plan-at2 .ensures .0 in
+    let pc = p .before .plan-at3 .ensures .0 in
+    let pd = p .plan-at4 .ensures .0 in
+    let size = size-by s (a .pre .0) (a .pre .1) em pa pb pc pd in (
       size,
-      sheet-put s (a .pre) (p .before .before .before .plan-of .ensures .counted)
-          (p .before .before .plan-of2 .ensures .counted) (p .before .plan-of3 .ensures .counted)
-          (p .plan-of4 .ensures .counted)
+      sheet-put s (a .pre .0) (a .pre .1) em pa pb pc pd
           (f .before .before .before .byte-at .ensures) (f .before .before .byte-at2 .ensures)
-          (f .before .byte-at3 .ensures) (w .word-at .ensures .0) (a .args .out .now)
-          (omega (arith, size, i .if1 .left)) (f .put-first .ensures) (n .put-counts .ensures)
-          (c .before .before .write-lanes .ensures),
+          (f .before .byte-at3 .ensures) (a .args .out .now) (omega (arith, size, i .if1 .left))
+          (f .put-first .ensures) (n .put-counts .ensures) (c .before .before .write-lanes .ensures),
     )
 
 pub write-level1-spec : {M : Type 1} → statement M
@@ -122,10 +131,11 @@ write-level1-spec =
     (tie.spec
     word-at-requires
     cast-mask
-    plan-of-requires
-    plan-of-requires-2
-    plan-of-requires-3
-    plan-of-requires-4
+    parts-of-requires
+    plan-at-requires
+    plan-at-requires-2
+    plan-at-requires-3
+    plan-at-requires-4
     add-total
     add-total-2
     add-total-3

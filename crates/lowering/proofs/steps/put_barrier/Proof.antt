@@ -1,33 +1,32 @@
 -- `lowering::steps::put_barrier` meets its contract.
-use mathlib.Core.Path.{refl, _∙_}
 use native.Mathlib.Omega.{arith}
-use Rattle.sheet.specs.Bytes.{row}
-use Rattle.sheet.proofs.Laws.Put.{puts-none, laid-fits}
+use Rattle.lowering.proofs.Laws.Begins.{row-size, flag-small}
 use borrow.Author.Needs.{needs}
 use Rattle.lowering.proofs.steps.put_barrier.Statement.{statement}
 use Rattle.lowering.proofs.steps.put_barrier.Tie as tie
 
-put-row-requires : tie.Need-put-row-requires
-put-row-requires c κs = search needs
+store-eight-requires : tie.Need-store-eight-requires
+store-eight-requires c κs = search needs
+
+cast-result : tie.Need-cast-result
+cast-result c = search needs
+
+mul-result : tie.Need-mul-result
+mul-result c = omega (arith, flag-small (c .before .before .before .before .before .args .stands))
 
 add-result : tie.Need-add-result
-add-result c = search needs
+add-result c =
+    let a = c .before .before .before .before .before in
+    omega (arith, flag-small (a .args .stands), a .pre, a .good)
 
 same-length : tie.Need-same-length
 same-length c = search needs
 
 returns : tie.Need-returns
 returns c =
-    let s = c .before .before .before .before .before .before in
-    rw (c .before .before .before .before .if1 .taken) (record {
-      bytes =
-          c .before .before .put-row .ensures
-          ∙ laid-fits (s .args .out .now) (s .args .at) (row (s .args .code) 0 0 0) (omega (arith, s .pre));
-      behind = refl;
-    })
-
-returns-2 : tie.Need-returns-2
-returns-2 c = rw (c .if1 .left) puts-none
+    let a = c .before .before .before .before .before .args in
+    (c .before .before .store-eight .ensures, row-size (a .stands) (a .code) (a .at))
 
 pub put-barrier-spec : {M : Type 1} → statement M
-put-barrier-spec = tie.close (tie.spec put-row-requires add-result same-length returns returns-2)
+put-barrier-spec =
+    tie.close (tie.spec store-eight-requires cast-result mul-result add-result same-length returns)

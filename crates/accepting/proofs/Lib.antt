@@ -1,0 +1,2 @@
+-- What is proved of the acceptance: Laws of the code.
+pub mod Laws

@@ -1,0 +1,166 @@
+-- Laws of one operation of a lane: its row's fields, its effect on the held set, where it leads, and the record that a
+-- fault names.
+use Prim.Native.Nat.{ℕ, zero, suc, _+_, _-_, _*_, _≤_, _<_, min}
+use mathlib.Core.Path.{_≡_, refl, ap, sym, subst, _∙_}
+use mathlib.Core.List.{List, [], _∷_}
+use mathlib.Core.Bool.{Bool, true, false, not}
+use mathlib.Core.Option.{some}
+use native.Mathlib.Omega.{arith}
+use borrow.Author.Tests.{le-ltb}
+use lib.ListN.{length, getD, take, drop, set, length-take, length-drop}
+use lib.Seq.{getD-drop, getD-take}
+use Rattle.kernel.specs.declared.accepted.Op.{Op}
+use Rattle.kernel.specs.declared.accepted.Op.the-variants.{Set, Add, Load, Store, Lock, Unlock, Skip}
+use Rattle.kernel.specs.Held.{noLocks, after, heldFrom, held, recordAt}
+use Rattle.kernel.specs.Stored.{noOp}
+use Rattle.rows.specs.Rows.{rowIn}
+use Rattle.rows.specs.Lanes.{fieldsOf}
+use Rattle.rows.proofs.Laws.Lanes.{held-fields}
+use Rattle.locking.specs.Sets.{jumpOr, noJump, locksIn}
+use Rattle.locking.specs.Lanes.{LaneIn, Stepped}
+
+-- ## the fields of row p
+
+module _ {rows : List ℕ} {n : ℕ} {ops : List Op} (lane : LaneIn rows n ops) (p : ℕ) (below : p < n) where
+  fields : rowIn (drop (8 * p) rows) ≡ fieldsOf (getD ops p noOp)
+  fields = held-fields (lane .held) p below
+
+  byte-at : (i : ℕ) → getD rows (8 * p + i) 0 ≡ getD (drop (8 * p) rows) i 0
+  byte-at i = sym (getD-drop (8 * p) rows i 0)
+
+  pub row-code : getD rows (8 * p) 0 ≡ fieldsOf (getD ops p noOp) .code
+  row-code =
+      let e : 8 * p ≡ 8 * p + 0 = omega arith in
+      ap (λ i. getD rows i 0) e ∙ byte-at 0 ∙ ap (λ r. r .code) fields
+
+  pub row-b : getD rows (8 * p + 2) 0 ≡ fieldsOf (getD ops p noOp) .b
+  row-b = byte-at 2 ∙ ap (λ r. r .b) fields
+
+  -- a target's lowest byte is the target
+  pub row-target : n ≤ 64 → 7 ≡ fieldsOf (getD ops p noOp) .code
+      → getD rows (8 * p + 4) 0 ≡ fieldsOf (getD ops p noOp) .word
+  row-target small e =
+      let near = lane .within p (omega (arith, lane .held .count)) (sym e) in
+      omega (arith, byte-at 4, ap (λ r. r .word) fields, near)
+
+-- ## operations by their codes
+
+lock-of : (o : Op) → 5 ≡ fieldsOf o .code → o ≡ Lock (fieldsOf o .b)
+lock-of (Set a c) e = absurd (omega arith)
+lock-of (Add a b) e = absurd (omega arith)
+lock-of (Load a b) e = absurd (omega arith)
+lock-of (Store a b) e = absurd (omega arith)
+lock-of (Lock b) e = refl
+lock-of (Unlock b) e = absurd (omega arith)
+lock-of (Skip a q) e = absurd (omega arith)
+
+unlock-of : (o : Op) → 6 ≡ fieldsOf o .code → o ≡ Unlock (fieldsOf o .b)
+unlock-of (Set a c) e = absurd (omega arith)
+unlock-of (Add a b) e = absurd (omega arith)
+unlock-of (Load a b) e = absurd (omega arith)
+unlock-of (Store a b) e = absurd (omega arith)
+unlock-of (Lock b) e = absurd (omega arith)
+unlock-of (Unlock b) e = refl
+unlock-of (Skip a q) e = absurd (omega arith)
+
+-- where an operation leads: a SKIP to its target
+pub jump-target : (o : Op) → 7 ≡ fieldsOf o .code → fieldsOf o .word ≡ jumpOr noJump (some o)
+jump-target (Set a c) e = absurd (omega arith)
+jump-target (Add a b) e = absurd (omega arith)
+jump-target (Load a b) e = absurd (omega arith)
+jump-target (Store a b) e = absurd (omega arith)
+jump-target (Lock b) e = absurd (omega arith)
+jump-target (Unlock b) e = absurd (omega arith)
+jump-target (Skip a q) e = refl
+
+pub jump-none : (o : Op) → ¬ fieldsOf o .code ≡ 7 → noJump ≡ jumpOr noJump (some o)
+jump-none (Set a c) n = refl
+jump-none (Add a b) n = refl
+jump-none (Load a b) n = refl
+jump-none (Store a b) n = refl
+jump-none (Lock b) n = refl
+jump-none (Unlock b) n = refl
+jump-none (Skip a q) n = absurd (n refl)
+
+-- ## the set after an operation
+
+module _ (h : ℕ) (o : Op) where
+  pub step-none : h < 16 → ¬ fieldsOf o .code ≡ 5 → ¬ fieldsOf o .code ≡ 6 → Stepped h o h
+  step-none small = go o
+    where
+      go : (o : Op) → ¬ fieldsOf o .code ≡ 5 → ¬ fieldsOf o .code ≡ 6 → Stepped h o h
+      go (Set a c) n m = record { wrong = le-ltb 15 h (omega arith); next = λ _. refl }
+      go (Add a b) n m = record { wrong = le-ltb 15 h (omega arith); next = λ _. refl }
+      go (Load a b) n m = record { wrong = le-ltb 15 h (omega arith); next = λ _. refl }
+      go (Store a b) n m = record { wrong = le-ltb 15 h (omega arith); next = λ _. refl }
+      go (Lock b) n m = absurd (n refl)
+      go (Unlock b) n m = absurd (m refl)
+      go (Skip a q) n m = record { wrong = le-ltb 15 h (omega arith); next = λ _. refl }
+
+  module _ {b : ℕ} (at : b ≡ fieldsOf o .b) {v : Bool} (is : v ≡ getD (locksIn h) b false) where
+    module _ (code : 5 ≡ fieldsOf o .code) where
+      own-lock : Lock b ≡ o
+      own-lock = ap Lock at ∙ sym (lock-of o code)
+
+      pub step-taken : v ≡ true → Stepped h o 16
+      step-taken e =
+          subst (λ x. Stepped h x 16) own-lock (record { wrong = sym e ∙ is; next = λ l. absurd (omega arith) })
+
+      pub step-take : {g : ℕ} → v ≡ false → (g < 16) × (locksIn g ≡ set (locksIn h) b true) → Stepped h o g
+      step-take {g} e put =
+          subst (λ x. Stepped h x g) own-lock
+          (record { wrong = le-ltb 15 g (omega (arith, put .0)) ∙ sym e ∙ is; next = λ _. put .1 })
+
+    module _ (code : 6 ≡ fieldsOf o .code) where
+      own-unlock : Unlock b ≡ o
+      own-unlock = ap Unlock at ∙ sym (unlock-of o code)
+
+      pub step-release : {g : ℕ} → v ≡ true → (g < 16) × (locksIn g ≡ set (locksIn h) b false) → Stepped h o g
+      step-release {g} e put =
+          subst (λ x. Stepped h x g) own-unlock
+          (record { wrong = le-ltb 15 g (omega (arith, put .0)) ∙ ap not (sym e ∙ is); next = λ _. put .1 })
+
+      pub step-free : v ≡ false → Stepped h o 16
+      step-free e =
+          subst (λ x. Stepped h x 16) own-unlock
+          (record { wrong = ap not (sym e ∙ is); next = λ l. absurd (omega arith) })
+
+-- the set after one operation more
+heldFrom-suc : (h : List Bool) (ops : List Op) (p : ℕ) → p < length ops
+    → heldFrom h (take (suc p) ops) ≡ after (heldFrom h (take p ops)) (getD ops p noOp)
+unfolding heldFrom
+heldFrom-suc h [] p l = absurd (omega arith)
+heldFrom-suc h (o ∷ ops) zero l = refl
+heldFrom-suc h (o ∷ ops) (suc p) l = heldFrom-suc (after h o) ops p (omega arith)
+
+pub held-on : (ops : List Op) (p : ℕ) {h g : List Bool} → p < length ops → h ≡ held ops p
+    → g ≡ after h (getD ops p noOp) → g ≡ held ops (p + 1)
+held-on ops p {h} {g} l eh eg =
+    let one : p + 1 ≡ suc p = omega arith in
+    rw (one, eg, eh) (sym (heldFrom-suc noLocks ops p l))
+
+-- ## the record at a position counted from 1 of the lane of n records that begins at `from`, i, which is cut to n
+
+module _ (order : List ℕ) (from n x i : ℕ) (room : from + n ≤ length order) (cut : i ≡ min x n) where
+  abbrev rs : List ℕ
+  rs = take n (drop from order)
+
+  cut-rs : i ≡ min x (length rs)
+  cut-rs = omega (arith, cut, length-take n (drop from order), length-drop from order)
+
+  pub record-none : i ≡ 0 → 0 ≡ recordAt rs x
+  unfolding recordAt
+  record-none z = rw (← cut-rs, z)
+
+  counted : (i : ℕ) → ¬ i ≡ 0 → getD rs (i - 1) 0 ≡ getD (0 ∷ rs) i 0
+  counted zero h = absurd (h refl)
+  counted (suc i) h = ap (λ n. getD rs n 0) (omega arith)
+
+  pub record-some : ¬ i ≡ 0 → getD order (from + i - 1) 0 ≡ recordAt rs x
+  unfolding recordAt
+  record-some h =
+      let place : from + i - 1 ≡ from + (i - 1) = omega arith in
+      let own : getD order (from + i - 1) 0 ≡ getD rs (i - 1) 0 =
+      ap (λ k. getD order k 0) place ∙ sym (getD-drop from order (i - 1) 0)
+      ∙ sym (getD-take n (drop from order) (i - 1) 0 (omega arith)) in
+      rw (← cut-rs) (own ∙ counted i h)

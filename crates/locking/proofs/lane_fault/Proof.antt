@@ -1,0 +1,119 @@
+-- `locking::lane_fault` meets its contract.
+use Prim.Native.Nat.{_+_, _-_, _*_, _≤_, min}
+use lib.ListN.{length}
+use mathlib.Core.Path.{sym, ap, subst, _∙_}
+use native.Mathlib.Omega.{arith}
+use Rattle.kernel.proofs.Laws.Lists.{part-from}
+use Rattle.locking.specs.Lanes.{LaneIn}
+use Rattle.locking.proofs.Laws.Held.{record-none, record-some}
+use Rattle.sheet.proofs.Laws.Part.{part-length}
+use borrow.Author.Needs.{needs}
+use Rattle.locking.proofs.lane_fault.Statement.{statement}
+use Rattle.locking.proofs.lane_fault.Tie as tie
+
+returns : tie.Need-returns
+returns c = λ ops up few short room lane. absurd (omega (arith, c .if1 .taken))
+
+returns-2 : tie.Need-returns-2
+returns-2 c = λ ops up few short room lane. absurd (omega (arith, c .if2 .taken))
+
+returns-3 : tie.Need-returns-3
+returns-3 c = λ ops up few short room lane. absurd (omega (arith, c .if3 .taken))
+
+mul-fault-position : tie.Need-mul-fault-position
+mul-fault-position c = search needs
+
+add-fault-position : tie.Need-add-fault-position
+add-fault-position c = search needs
+
+sub-fault-position : tie.Need-sub-fault-position
+sub-fault-position c = search needs
+
+part-fault-position-start : tie.Need-part-fault-position-start
+part-fault-position-start c = search needs
+
+part-fault-position-end : tie.Need-part-fault-position-end
+part-fault-position-end c = search needs
+
+fault-position-requires : tie.Need-fault-position-requires
+fault-position-requires c κs =
+    let a = c .before .before .before .before .before in
+    let from = 16 + 8 * a .args .from in
+    let fits : from ≤ length (a .args .rows .now) = omega (
+      arith,
+      a .pre,
+      c .before .before .before .if1 .left,
+      c .before .before .if2 .left,
+    ) in (
+      omega (arith, c .before .if3 .left),
+      omega (
+        arith,
+        part-length (a .args .rows .now) from fits,
+        a .pre,
+        c .before .before .before .if1 .left,
+        c .before .before .if2 .left,
+      ),
+    )
+
+lower-requires : tie.Need-lower-requires
+lower-requires c κs = search needs
+
+returns-4 : tie.Need-returns-4
+returns-4 c =
+    let w = c .before .before in
+    let a = w .before .before .before .before .before .before .args in
+    λ ops up few short room lane.
+    let from = 16 + 8 * a .from in
+    let found = w .fault-position .ensures ops
+    (subst (λ x. LaneIn x (a .end - a .from) ops) (sym (part-from from (a .rows .now))) lane) in
+    record-none (a .order .now) (a .from) (a .end - a .from) _ _ (omega (arith, up, few, room))
+    (c .before .lower .ensures ∙ ap (λ x. min x (a .end - a .from)) found) (c .if4 .taken)
+
+add-wide : tie.Need-add-wide
+add-wide c = search needs
+
+sub-wide : tie.Need-sub-wide
+sub-wide c = search needs
+
+mul-wide : tie.Need-mul-wide
+mul-wide c = search needs
+
+element-copy-out-wide : tie.Need-element-copy-out-wide
+element-copy-out-wide c = search needs
+
+wide-requires : tie.Need-wide-requires
+wide-requires c κs = search needs
+
+returns-5 : tie.Need-returns-5
+returns-5 c =
+    let w = c .before .before .before .before in
+    let a = w .before .before .before .before .before .before .args in
+    λ ops up few short room lane.
+    let from = 16 + 8 * a .from in
+    let found = w .fault-position .ensures ops
+    (subst (λ x. LaneIn x (a .end - a .from) ops) (sym (part-from from (a .rows .now))) lane) in
+    c .wide .ensures ∙ record-some (a .order .now) (a .from) (a .end - a .from) _ _ (omega (arith, up, few, room))
+    (c .before .before .before .lower .ensures ∙ ap (λ x. min x (a .end - a .from)) found)
+    (c .before .before .if4 .left)
+
+pub lane-fault-spec : {M : Type 1} → statement M
+lane-fault-spec =
+    tie.close
+    (tie.spec
+    returns
+    returns-2
+    returns-3
+    mul-fault-position
+    add-fault-position
+    sub-fault-position
+    part-fault-position-start
+    part-fault-position-end
+    fault-position-requires
+    lower-requires
+    returns-4
+    add-wide
+    sub-wide
+    mul-wide
+    element-copy-out-wide
+    wide-requires
+    returns-5)

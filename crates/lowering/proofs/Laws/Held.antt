@@ -1,0 +1,119 @@
+-- Laws of a lane that its rows hold: written from the rows it is the lane of its operations.
+use Prim.Native.Nat.{ℕ, zero, suc, _*_, _≤_, _<_}
+use mathlib.Core.Path.{_≡_, refl, sym, ap, ap₂, _∙_}
+use mathlib.Core.Bool.{Bool, true, false, cond}
+use mathlib.Core.List.{List, [], _∷_, _++_, map, append-nil, append-assoc}
+use mathlib.Core.Option.{some}
+use native.Mathlib.Omega.{arith}
+use lib.Dec.{eqb}
+use lib.ListN.{length, getD, take, drop}
+use Rattle.kernel.specs.declared.accepted.Op.{Op}
+use Rattle.kernel.specs.declared.accepted.Op.the-variants.{Set, Add, Load, Store, Lock, Unlock, Skip}
+use Rattle.kernel.specs.Fields.{byte, word, quad}
+use Rattle.kernel.specs.Accepted.{jump}
+use Rattle.kernel.specs.Stored.{noOp}
+use Rattle.kernel.proofs.Laws.Lists.{at-some}
+use Rattle.placement.specs.declared.cookbook.Barrier.{Barrier}
+use Rattle.placement.specs.declared.cookbook.Barrier.the-variants.{LL, LS, SS, SL}
+use Rattle.placement.specs.declared.place.Placement.{Placement}
+use Rattle.placement.specs.Cookbook.{codeOf}
+use Rattle.placement.specs.Place.{keep}
+use Rattle.placement.specs.Placed.{bit}
+use Rattle.placement.specs.Sheet.{start as startBy}
+use Rattle.sheet.specs.Layout.{Instr, op, barrier, aim}
+use Rattle.sheet.specs.Levels.{level1}
+use Rattle.sheet.specs.Bytes.{row, opBytes, laneBytes}
+use Rattle.sheet.specs.Items.{TargetsWithin}
+use Rattle.sheet.specs.Put.{inTurn}
+use Rattle.rows.specs.Rows.{rowIn}
+use Rattle.rows.specs.Lanes.{fieldsOf, Holds}
+use Rattle.rows.proofs.Laws.Lanes.{held-bytes, held-fields}
+use Rattle.lowering.specs.Put.{standing, stepBytes, laneWith, rowIf, barrierRows, ownRow, stepRows, laneRows}
+use Rattle.lowering.proofs.Laws.Lane.{firstBytes, first-suc, first-all}
+
+-- the bytes of a step, barrier by barrier
+keep-bytes : (t : Bool) (b : Barrier) (bs : List Barrier) (is : List Instr)
+    → laneBytes level1 (map barrier (keep t b bs) ++ is) ≡ rowIf t (codeOf b) ++ laneBytes level1 (map barrier bs ++ is)
+keep-bytes true b bs is = refl
+keep-bytes false b bs is = refl
+
+module _ (r : Placement) where
+  step-bytes : (p : ℕ) (o : Op) → stepBytes (standing r p) o ≡ barrierRows r p ++ opBytes o
+  step-bytes p o = nested ∙ sym joined-up
+    where
+      ll : List ℕ
+      ll = rowIf (bit (r .ll) p) 11
+
+      ls : List ℕ
+      ls = rowIf (bit (r .ls) p) 12
+
+      ss : List ℕ
+      ss = rowIf (bit (r .ss) p) 13
+
+      sl : List ℕ
+      sl = rowIf (bit (r .sl) p) 14
+
+      nested : stepBytes (standing r p) o ≡ ll ++ (ls ++ (ss ++ (sl ++ opBytes o)))
+      nested =
+          let last : List Instr = op o ∷ [] in
+          keep-bytes (bit (r .ll) p) LL
+          (keep (bit (r .ls) p) LS (keep (bit (r .ss) p) SS (keep (bit (r .sl) p) SL []))) last
+          ∙ ap (λ z. ll ++ z)
+          (keep-bytes (bit (r .ls) p) LS (keep (bit (r .ss) p) SS (keep (bit (r .sl) p) SL [])) last
+          ∙ ap (λ z. ls ++ z)
+          (keep-bytes (bit (r .ss) p) SS (keep (bit (r .sl) p) SL []) last
+          ∙ ap (λ z. ss ++ z)
+          (keep-bytes (bit (r .sl) p) SL [] last ∙ ap (λ z. sl ++ z) (append-nil (opBytes o)))))
+
+      joined-up : barrierRows r p ++ opBytes o ≡ ll ++ (ls ++ (ss ++ (sl ++ opBytes o)))
+      joined-up =
+          append-assoc (ll ++ ls ++ ss) sl (opBytes o)
+          ∙ append-assoc (ll ++ ls) ss (sl ++ opBytes o)
+          ∙ append-assoc ll ls (ss ++ (sl ++ opBytes o))
+
+  -- a row that is no SKIP's
+  other : (s : List ℕ) (o : Op) → eqb (fieldsOf o .code) 7 ≡ false → rowIn s ≡ fieldsOf o → take 8 s ≡ opBytes o
+      → ownRow r s ≡ opBytes o
+  unfolding ownRow
+  other s o kind f b =
+      ap (λ t. cond t (row 7 (byte s 1) (byte s 2) (startBy (standing r) (word s 4))) (take 8 s))
+      (ap (λ x. eqb (x .code) 7) f ∙ kind)
+      ∙ b
+
+  -- the row of an operation whose target has 16 bits
+  own-of : (s : List ℕ) (o : Op) → rowIn s ≡ fieldsOf o → take 8 s ≡ opBytes o
+      → ((t : ℕ) → jump o ≡ some t → t < 65536) → ownRow r s ≡ opBytes (aim (startBy (standing r)) o)
+  unfolding ownRow
+  own-of s (Set a c) f b h = other s (Set a c) refl f b
+  own-of s (Add a x) f b h = other s (Add a x) refl f b
+  own-of s (Load a x) f b h = other s (Load a x) refl f b
+  own-of s (Store a x) f b h = other s (Store a x) refl f b
+  own-of s (Lock l) f b h = other s (Lock l) refl f b
+  own-of s (Unlock l) f b h = other s (Unlock l) refl f b
+  own-of s (Skip a t) f b h =
+      let whole : quad s 4 ≡ t = ap (λ x. x .word) f in
+      let target : word s 4 ≡ t = omega (arith, whole, h t refl) in
+      λ i. cond (eqb (f i .code) 7) (row 7 (f i .a) (f i .b) (startBy (standing r) (target i))) (take 8 s)
+
+  module _
+      {rows : List ℕ} {n : ℕ} {ops : List Op} (h : Holds rows n ops) (few : n ≤ 64) (within : TargetsWithin n ops)
+    where
+      step-is : (p : ℕ) → p < n
+          → stepRows r rows p ≡ stepBytes (standing r p) (aim (startBy (standing r)) (getD ops p noOp))
+      step-is p l =
+          let o = getD ops p noOp in
+          ap (λ z. barrierRows r p ++ z)
+          (own-of (drop (8 * p) rows) o (held-fields h p l) (held-bytes h p l)
+          (λ t j. let in-lane = within p o t (at-some ops p noOp (omega (arith, h .count))) j in omega arith))
+          ∙ sym (step-bytes p (aim (startBy (standing r)) o))
+
+      first-is : (p : ℕ) → p ≤ n → laneRows r rows p ≡ firstBytes (standing r) ops p
+      unfolding inTurn
+      first-is zero l = refl
+      first-is (suc p) l =
+          let all : TargetsWithin (length ops) ops = λ q o t e j. let k = within q o t e j in omega (arith, h .count) in
+          ap₂ (λ x y. x ++ y) (first-is p (omega arith)) (step-is p (omega arith))
+          ∙ sym (first-suc (standing r) ops p all (omega (arith, h .count)))
+
+      pub lane-held : laneRows r rows n ≡ laneWith r ops
+      lane-held = first-is n (omega arith) ∙ first-all (standing r) ops n (omega (arith, h .count))
