@@ -113,10 +113,3 @@ pub(crate) fn both(a: bool, b: bool) -> bool
 {
     if a { b } else { false }
 }
-
-// Whether flag i is up; there are none past the end.
-pub(crate) fn flag_at(flags: &[bool], i: usize) -> bool
-    ensures { λ q. ⌜ q ≡ getD (now (flags .entry)) i false ⌝ }
-{
-    if i < flags.len() { flags[i] } else { false }
-}

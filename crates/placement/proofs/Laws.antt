@@ -5,7 +5,6 @@ pub mod Bits
 pub mod Cookbook
 pub mod Bytes
 pub mod Paths
-pub mod Steps
 pub mod Place
 pub mod Rows
 pub mod Pass

@@ -1,10 +1,8 @@
--- What the code of the placement holds: a placement and what is due as the bits of numbers, and a step as a byte.
-use Prim.Native.Nat.{ℕ, _+_, _*_, _/_, _%_, _^_, _≤_}
+-- What the code of the placement holds: a placement and what is due as the bits of numbers, and where a step lands.
+use Prim.Native.Nat.{ℕ, _+_, _*_, _/_, _%_, _^_}
 use mathlib.Core.Bool.{Bool, cond}
-use mathlib.Core.List.{List, [], _∷_}
 use mathlib.Core.Option.{Option, none, some}
 use lib.Dec.{eqb, leb}
-use lib.ListN.{length, getD}
 use Rattle.placement.specs.declared.place.Placement.{Placement}
 use Rattle.placement.specs.Cookbook.{Class, PL, PS, VL, VS, Barrier, LL, LS, SS, SL, numberOf, cell}
 use Rattle.placement.specs.Chain.{Step, Access, Skip, Other}
@@ -40,22 +38,8 @@ setOf (some b) = 2 ^ bitOf b
 abbrev pub rowNumber : Class → ℕ
 rowNumber c = setOf (cell c PL) + 16 * setOf (cell c PS) + 256 * setOf (cell c VL) + 4096 * setOf (cell c VS)
 
-abbrev pub rowNumbers : List ℕ
-rowNumbers = rowNumber PL ∷ rowNumber PS ∷ rowNumber VL ∷ rowNumber VS ∷ []
-
 -- the target of a SKIP that lies in a lane or at its end, else 0, to which nothing goes forward
 abbrev pub landing : Step → ℕ
 landing (Access c) = 0
 landing (Skip t) = cond (leb t 64) t 0
 landing Other = 0
-
--- a step's byte: the number of an access's class; of any other step 4 more than its landing
-abbrev pub stepByte : Step → ℕ
-stepByte (Access c) = numberOf c
-stepByte (Skip t) = 4 + landing (Skip t)
-stepByte Other = 4
-
--- at most 64 bytes of steps; the greatest is that of a SKIP to 64
-pub record StepBytes (l : List ℕ) : Type 0 where
-  pub few : length l ≤ 64
-  pub small : (j : ℕ) → getD l j 0 ≤ 68

@@ -1,4 +1,4 @@
-// Placement of the cookbook's barriers in a lane. `place::place_lane` is the entry.
+// The cookbook's table and codes, and the types that placement is told in.
 pub mod cookbook;
 pub mod place;
 pub mod steps;

@@ -1,14 +1,6 @@
-// The verdict on a kernel file of whatever bytes.
+// The answer to a kernel file, with its number and its record.
 ghost use mathlib.Core.Path.{_≡_};
-ghost use Rattle.verdict.specs.declared.Refusal.the-variants.{Accepted as accepting};
-ghost use Rattle.verdict.specs.Verdict.{structureThen, refusalOf, numberOf, recordOf};
-use holding::lock_fault;
-use kernel::linkage::bad_linkage;
-use kernel::linkage::chain_too_long;
-use kernel::rules::bad_length;
-use kernel::rules::bad_record;
-use kernel::rules::header_rule;
-use kernel::targets::bad_target;
+ghost use Rattle.verdict.specs.Verdict.{numberOf, recordOf};
 
 // The answer to a kernel file: accepted, or the refusal with the record that it names.
 pub enum Refusal {
@@ -21,53 +13,6 @@ pub enum Refusal {
     ChainTooLong(usize),
     BadTarget(usize),
     LockFault(usize),
-}
-
-// Checks 1 to 7, in the order of the table.
-fn structure(file: &[u8]) -> Refusal
-    ensures { λ r. ⌜ r ≡ structureThen (now (file .entry)) accepting ⌝ }
-{
-    if file.len() < 16 {
-        return Refusal::TruncatedHeader;
-    }
-    if !header_rule(file) {
-        return Refusal::BadHeader;
-    }
-    if bad_length(file) {
-        return Refusal::BadLength;
-    }
-    let record = bad_record(file);
-    if record != 0 {
-        return Refusal::BadRecord(record);
-    }
-    let linkage = bad_linkage(file);
-    if linkage != 0 {
-        return Refusal::BadLinkage(linkage);
-    }
-    let long = chain_too_long(file);
-    if long != 0 {
-        return Refusal::ChainTooLong(long);
-    }
-    let target = bad_target(file);
-    if target != 0 {
-        return Refusal::BadTarget(target);
-    }
-    Refusal::Accepted
-}
-
-// The refusal of a kernel file of whatever bytes, or that it is accepted: checks 1 to 7, then check 8 on the lanes.
-pub fn check(file: &[u8]) -> Refusal
-    ensures { λ r. ⌜ r ≡ refusalOf (now (file .entry)) ⌝ }
-{
-    let refusal = structure(file);
-    if let Refusal::Accepted = refusal {
-        let fault = lock_fault(file);
-        if fault != 0 {
-            return Refusal::LockFault(fault);
-        }
-        return Refusal::Accepted;
-    }
-    refusal
 }
 
 // The paper's number of a refusal; 0 for an accepted file.

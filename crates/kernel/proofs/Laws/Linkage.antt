@@ -43,36 +43,18 @@ chain-length s (suc k) r = go (decLe 1 r) (chain-length s k (next s r))
     go (no l) ih = omega (arith, ap length (chain-stop s (suc k) r (omega arith)))
     go (yes l) ih = omega (arith, ap length (chain-suc s k r (λ z. omega arith)))
 
--- A loop that walks a chain holds, at record r with k records ahead: F (chain s k r) is the answer. It ends at record 0
--- and after k records, and else goes on from r to the record r′ that follows it.
+-- A loop that walks a chain holds, at record r with k records ahead: F (chain s k r) is the answer. It ends at record
+-- 0, and else goes on from r to the record r′ that follows it.
 module _ {ℓ} {B : Type ℓ} (F : List ℕ → B) (s : List ℕ) (k r : ℕ) {a : B} where
   pub walk-stop : r ≡ 0 → F (chain s k r) ≡ a → F [] ≡ a
   walk-stop h inv = sym (ap F (chain-stop s k r h)) ∙ inv
 
-  pub walk-end : k ≤ 0 → F (chain s k r) ≡ a → F [] ≡ a
-  walk-end h inv = sym (ap F (chain-end s k r h)) ∙ inv
-
   pub walk-on : {r′ : ℕ} → 0 < k → (r ≡ 0 → ⊥) → r′ ≡ next s r → F (chain s k r) ≡ a → F (r ∷ chain s (k - 1) r′) ≡ a
   walk-on h n e inv = ap (λ q. F (r ∷ chain s (k - 1) q)) e ∙ sym (ap F (chain-step s k r h n)) ∙ inv
 
--- the same of a loop that seeks the last of k + 1 records
 pub last-one : (s : List ℕ) (r : ℕ) → r ≡ getD (chain s 1 r) 0 0
 last-one s zero = sym (ap (λ l. getD l 0 0) (chain-stop s 1 0 refl))
 last-one s (suc r) = sym (ap (λ l. getD l 0 0) (chain-suc s 0 (suc r) (λ h. omega arith)))
-
-pub last-on : (s : List ℕ) (k r r′ : ℕ) {a : ℕ} → 0 < k → (r ≡ 0 → ⊥) → r′ ≡ next s r
-    → getD (chain s (k + 1) r) k 0 ≡ a → getD (chain s (k - 1 + 1) r′) (k - 1) 0 ≡ a
-last-on s zero r r′ h n e inv = absurd (omega arith)
-last-on s (suc k) r r′ h n e inv =
-    let p : suc k + 1 ≡ suc (suc k) = omega arith in
-    let q : suc k - 1 ≡ k = omega arith in
-    let t : k + 1 ≡ suc k = omega arith in
-    rw (q, t, e) (sym (ap (λ l. getD l (suc k) 0) (chain-suc s (suc k) r n)) ∙ (rw p at inv))
-
-pub last-end : (s : List ℕ) (k r : ℕ) {a : ℕ} → k ≤ 0 → getD (chain s (k + 1) r) k 0 ≡ a → r ≡ a
-last-end s k r h inv =
-    let q : k ≡ 0 = omega arith in
-    last-one s r ∙ (rw q at inv)
 
 -- one record of a walk
 pub walkOf-here : (met : List Bool) (r : ℕ) (rs : List ℕ) → getD met r false ≡ true
@@ -84,16 +66,6 @@ pub walkOf-on : (met : List Bool) (r : ℕ) (rs : List ℕ) → getD met r false
     → walkOf met (r ∷ rs) ≡ walkOf (set met r true) rs
 unfolding walkOf
 walkOf-on met r rs h = rw (h, walkOf)
-
-pub walkOf-length : (met : List Bool) (rs : List ℕ) → length (walkOf met rs .met) ≡ length met
-unfolding walkOf
-walkOf-length met [] = refl
-walkOf-length met (r ∷ rs) = go (getD met r false) refl (walkOf-length (set met r true) rs)
-  where
-    go : (b : Bool) → getD met r false ≡ b → length (walkOf (set met r true) rs .met) ≡ length (set met r true)
-        → length (walkOf met (r ∷ rs) .met) ≡ length met
-    go true e ih = ap (λ w. length (w .met)) (walkOf-here met r rs e)
-    go false e ih = ap (λ w. length (w .met)) (walkOf-on met r rs e) ∙ ih ∙ length-set met r true
 
 -- lane t of a walk along the lanes
 linkage-here : (s : List ℕ) (met : List Bool) (t k : ℕ) → eqb (walkLane s met t .twice) 0 ≡ false

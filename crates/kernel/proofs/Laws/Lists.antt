@@ -1,13 +1,12 @@
 -- Laws of lists that the kit does not have.
-use Prim.Native.Nat.{ℕ, zero, suc, _+_, _-_, _<_, _≤_}
-use mathlib.Core.Path.{_≡_, refl, sym}
+use Prim.Native.Nat.{ℕ, zero, suc, _-_, _<_, _≤_}
+use mathlib.Core.Path.{_≡_, refl}
 use mathlib.Core.List.{List, [], _∷_, map}
 use mathlib.Core.Option.{none, some}
 use native.Mathlib.Omega.{arith}
 use native.Mathlib.Decide.{decLe}
-use lib.ListN.{length, getD, getElem?, take, drop, set, replicate, length-drop, length-take}
-use lib.Seq.{take-all, take-suc, set-at, append-snoc}
-use Rattle.kernel.specs.Stored.{filled}
+use lib.ListN.{length, getD, getElem?, take, drop, length-drop}
+use lib.Seq.{take-all}
 
 -- the part of a list from n on, as `&xs[n..]` has it
 pub part-from : (n : ℕ) (xs : List ℕ) → take (length xs - n) (drop n xs) ≡ drop n xs
@@ -38,17 +37,6 @@ pub map-at : {A B : Type 0} (f : A → B) (l : List A) (t : ℕ) (a : A) (b : B)
 map-at f [] t a b h = absurd (omega arith)
 map-at f (x ∷ l) zero a b h = refl
 map-at f (x ∷ l) (suc t) a b h = map-at f l t a b (omega arith)
-
--- A list that is filled up from the left: with its first p elements in place, the next one goes to p.
-pub fill-on : {A : Type 0} (n p : ℕ) (l : List A) (d v : A) → p < n → p < length l → getD l p d ≡ v
-    → set (filled n d (take p l)) p v ≡ filled n d (take (p + 1) l)
-fill-on n p l d v room h e =
-    let here : length (take p l) ≡ p = omega (arith, length-take p l) in
-    let next : length (take (suc p) l) ≡ suc p = omega (arith, length-take (suc p) l) in
-    let one : p + 1 ≡ suc p = omega arith in
-    let more : n - p ≡ suc (n - suc p) = omega arith in
-    rw (one, here, next, more, set-at (take p l) d (replicate (n - suc p) d) v p here, take-suc l p d h, e)
-    (sym (append-snoc (take p l) v (replicate (n - suc p) d)))
 
 -- the values of f below n, the last first; two functions with the same values agree below n
 abbrev pub values : {A : Type 0} → (ℕ → A) → ℕ → List A

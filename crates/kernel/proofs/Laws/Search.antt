@@ -69,15 +69,6 @@ module _ (f : ℕ → ℕ) (i e : ℕ) {a : ℕ} where
       let q : e - i ≡ 0 = omega arith in
       rw q at inv
 
--- A loop over a list holds, at index i: F (drop i xs) is the answer. It goes on past one element, and ends at the
--- length.
-module _ {ℓ} {B : Type ℓ} (F : List ℕ → B) (xs : List ℕ) (i : ℕ) {a : B} where
-  pub each-on : i < length xs → F (drop i xs) ≡ a → F (getD xs i 0 ∷ drop (i + 1) xs) ≡ a
-  each-on h inv = rw add-one (sym (ap F (drop-cons xs i 0 h)) ∙ inv)
-
-  pub each-end : length xs ≤ i → F (drop i xs) ≡ a → F [] ≡ a
-  each-end h inv = sym (ap F (drop-of-length-le xs h)) ∙ inv
-
 -- a search that found nothing: no number in its reach passes the test
 pub nothing-found : (test : ℕ → Bool) (i k j : ℕ) → 0 < i → lowest test i k ≡ 0 → i ≤ j → j < i + k → test j ≡ false
 nothing-found test i zero j pos e lo hi = absurd (omega arith)

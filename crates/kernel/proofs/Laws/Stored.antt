@@ -1,30 +1,16 @@
--- Laws of what the code holds of a lane, and of how many lanes and operations a file has.
-use Prim.Native.Nat.{ℕ, zero, suc, _-_, _≤_, _<_}
+-- Laws of how many lanes and operations a file has.
+use Prim.Native.Nat.{ℕ, zero, suc, _≤_}
 use mathlib.Core.Path.{_≡_, refl, ap, sym, _∙_}
 use mathlib.Core.List.{List, [], _∷_, map}
 use native.Mathlib.Omega.{arith}
-use lib.ListN.{length, getD, take, replicate, length-append, length-replicate, List·getD-append, length-map}
-use lib.ListN.{length-take}
-use lib.Seq.{take-append-seam}
+use lib.ListN.{length, getD, take, length-map, length-take}
 use Rattle.kernel.specs.Fields.{laneCount, heads}
 use Rattle.kernel.specs.Accepted.{opsFrom, recordsAt, opsAt, programOf}
-use Rattle.kernel.specs.Stored.{filled}
 
 pub opsFrom-length : (s : List ℕ) (n : ℕ) (rs : List ℕ) → length (opsFrom s n rs) ≡ length rs
 unfolding opsFrom
 opsFrom-length s n [] = refl
 opsFrom-length s n (r ∷ rs) = ap suc (opsFrom-length s (suc n) rs)
-
--- an array that is filled up behind a list gives the list back
-module _ {A : Type 0} (n : ℕ) (d : A) (l : List A) where
-  pub filled-length : length l ≤ n → length (filled n d l) ≡ n
-  filled-length h = omega (arith, length-append l (replicate (n - length l) d), length-replicate (n - length l) d)
-
-  pub filled-front : take (length l) (filled n d l) ≡ l
-  filled-front = take-append-seam l (replicate (n - length l) d)
-
-  pub filled-at : (p : ℕ) (e : A) → p < length l → getD (filled n d l) p e ≡ getD l p e
-  filled-at p e h = List·getD-append l (replicate (n - length l) d) e p h
 
 pub lane-count : (s : List ℕ) → laneCount s ≤ 4 → length (programOf s .lanes) ≡ laneCount s
 lane-count s h = omega (arith, length-map (take (laneCount s) (heads s)) (opsAt s), length-take (laneCount s) (heads s))

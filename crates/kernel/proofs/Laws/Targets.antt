@@ -8,7 +8,6 @@ use borrow.Author.Tests.{eq-eqb, ne-eqb, eqb-true, eqb-false}
 use lib.ListN.{getD, length, drop}
 use lib.Dec.{eqb}
 use Rattle.kernel.specs.Targets.{member, position}
-use Rattle.kernel.proofs.Laws.Search.{each-on, each-end}
 
 pub member-here : (x y : ℕ) (ys : List ℕ) → x ≡ y → member x (y ∷ ys) ≡ true
 unfolding member
@@ -34,21 +33,3 @@ position-le r (x ∷ xs) = go (eqb r x) refl (position-le r xs)
     go : (b : Bool) → eqb r x ≡ b → position r xs ≤ length xs → position r (x ∷ xs) ≤ suc (length xs)
     go true h ih = omega (arith, position-here r x xs (eqb-true r x h))
     go false h ih = omega (arith, position-on r x xs (eqb-false r x h))
-
--- the loop that seeks record r holds at index i: i + position r (drop i xs) is the answer; v is the record at i
-module _ (r : ℕ) (xs : List ℕ) (i : ℕ) {a : ℕ} (inv : i + position r (drop i xs) ≡ a) where
-  abbrev from : List ℕ → ℕ
-  from l = i + position r l
-
-  pub position-found : {v : ℕ} → i < length xs → v ≡ getD xs i 0 → r ≡ v → i ≡ a
-  position-found h v e =
-      omega (arith, each-on from xs i h inv, position-here r (getD xs i 0) (drop (i + 1) xs) (e ∙ v))
-
-  pub position-next : {v : ℕ} → i < length xs → v ≡ getD xs i 0 → (r ≡ v → ⊥)
-      → i + 1 + position r (drop (i + 1) xs) ≡ a
-  position-next h v n =
-      omega (arith, each-on from xs i h inv, position-on r (getD xs i 0) (drop (i + 1) xs) (λ e. n (e ∙ sym v)))
-
-  pub position-none : length xs ≤ i → i ≡ a
-  unfolding position
-  position-none h = omega (arith, each-end from xs i h inv)

@@ -8,16 +8,12 @@ use borrow.Author.Tests.{ne-eqb}
 use lib.ListN.{length, getD, take, List·getD-map}
 use lib.Seq.{sets}
 use Rattle.kernel.specs.declared.accepted.Op.{Op}
-use Rattle.kernel.specs.declared.accepted.Chain.{Chain}
 use Rattle.kernel.specs.Fields.{laneCount, locations, locks, mask, head}
 use Rattle.kernel.specs.Rules.{headerRule}
-use Rattle.kernel.specs.Linkage.{chain}
-use Rattle.kernel.specs.Accepted.{Program, programOf, opsOf, opsAt}
-use Rattle.kernel.specs.Stored.{chained}
-use Rattle.kernel.proofs.Laws.Accepted.{chained-len, chained-front}
+use Rattle.kernel.specs.Accepted.{Program, programOf, opsAt}
 use Rattle.kernel.proofs.Laws.Lanes.{lane-ops}
 use Rattle.kernel.proofs.Laws.Rules.{four-lanes}
-use Rattle.kernel.proofs.Laws.Stored.{opsFrom-length, lane-count}
+use Rattle.kernel.proofs.Laws.Stored.{lane-count}
 use Rattle.verdict.specs.Verdict.{verdict, accepted, refusalOf, numberOf, recordOf}
 use Rattle.verdict.proofs.Laws.Verdict.{sound, accepted-as}
 use Rattle.sheet.specs.declared.Lowered.the-variants.{Refuses}
@@ -36,15 +32,6 @@ module _ (s : List ℕ) where
 
   pub accepted-by : numberOf (refusalOf s) ≡ 0 → verdict s ≡ accepted (programOf s)
   accepted-by h = rw h
-
--- lane t's chain, walked from its head
-module _ (s : List ℕ) (t : ℕ) {h : ℕ} (q : Chain) (at : h ≡ head s t) (e : q ≡ chained (chain s 64 h)) where
-  pub walked-ops : opsOf s (take (q .len) (q .records)) ≡ opsAt s (head s t)
-  walked-ops = ap (opsOf s) (chained-front s h q e) ∙ ap (opsAt s) at
-
-  pub walked-count : q .len ≡ length (opsAt s (head s t))
-  walked-count =
-      chained-len s h q e ∙ sym (opsFrom-length s 0 (chain s 64 h)) ∙ ap (λ x. length (opsAt s x)) at
 
 module _ (s : List ℕ) (ok : verdict s ≡ accepted (programOf s)) where
   pub answered-by : (bytes : Program → List ℕ) (buffer : List ℕ)
