@@ -48,23 +48,34 @@ fn put(h: u8, l: u8, v: bool) -> u8
     }
 }
 
-// The set after the operation of this code and operand, from the set h before it; 16 where it takes a lock that is
-// held, or releases one that is not.
+// The set after a LOCK of b, from the set h before it; 16 where the lock is held.
+fn after_lock(h: u8, b: u8) -> u8
+    requires { ⌜ h < 16 ⌝ }
+    ensures { λ r. ⌜ ((o : Op) → 5 ≡ fieldsOf o .code → b ≡ fieldsOf o .b → Stepped h o r) ⌝ }
+{
+    if holds(h, b) { 16 } else { put(h, b, true) }
+}
+
+// The set after an UNLOCK of b, from the set h before it; 16 where the lock is not held.
+fn after_unlock(h: u8, b: u8) -> u8
+    requires { ⌜ h < 16 ⌝ }
+    ensures { λ r. ⌜ ((o : Op) → 6 ≡ fieldsOf o .code → b ≡ fieldsOf o .b → Stepped h o r) ⌝ }
+{
+    if holds(h, b) { put(h, b, false) } else { 16 }
+}
+
+// The set after the operation of this code and operand, from the set h before it; 16 where it breaks the rule. Both
+// answers are made before the code is looked at: this compiles to choices without jumps.
 fn after_row(h: u8, code: u8, b: u8) -> u8
     requires { ⌜ h < 16 ⌝ }
     ensures { λ r. ⌜ ((o : Op) → code ≡ fieldsOf o .code → b ≡ fieldsOf o .b → Stepped h o r) ⌝ }
 {
-    if code < 5 {
-        return h;
-    }
+    let taken = after_lock(h, b);
+    let freed = after_unlock(h, b);
     if code == 5 {
-        if holds(h, b) { 16 } else { put(h, b, true) }
+        taken
     } else {
-        if code == 6 {
-            if holds(h, b) { put(h, b, false) } else { 16 }
-        } else {
-            h
-        }
+        if code == 6 { freed } else { h }
     }
 }
 

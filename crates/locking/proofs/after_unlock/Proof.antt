@@ -1,0 +1,22 @@
+-- `locking::after_unlock` meets its contract.
+use Rattle.locking.proofs.Laws.Held.{step-release, step-free}
+use borrow.Author.Needs.{needs}
+use Rattle.locking.proofs.after_unlock.Statement.{statement}
+use Rattle.locking.proofs.after_unlock.Tie as tie
+
+holds-requires : tie.Need-holds-requires
+holds-requires c κs = search needs
+
+put-requires : tie.Need-put-requires
+put-requires c κs = search needs
+
+returns : tie.Need-returns
+returns c = λ o code b.
+    let w = c .before .before in
+    step-release (w .before .args .h) o b (w .holds .ensures) code (c .before .if1 .taken) (c .put .ensures)
+
+returns-2 : tie.Need-returns-2
+returns-2 c = λ o code b. step-free (c .before .before .args .h) o b (c .before .holds .ensures) code (c .if1 .left)
+
+pub after-unlock-spec : {M : Type 1} → statement M
+after-unlock-spec = tie.close (tie.spec holds-requires put-requires returns returns-2)
