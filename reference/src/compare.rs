@@ -2,7 +2,7 @@
 
 use crate::random::{self, Random};
 use crate::slow::{self, STATE, machines::Machine};
-use crate::{Lower, Run};
+use crate::{Lower, Run, fast};
 use std::collections::BTreeMap;
 use std::fmt;
 use std::process::ExitCode;
@@ -52,6 +52,27 @@ pub fn compare(arguments: &Arguments, calls: &Calls) -> Result<Tally, String> {
         tally.try_lowering(&mut random, calls, &file).map_err(told)?;
         tally.try_runs(&mut random, calls, &file).map_err(told)?;
         tally.cases += 1;
+    }
+    Ok(tally)
+}
+
+/// Schedules of 16 megabytes on a kernel of 256 records, the second with a last move that no machine has. They are held
+/// to the fast implementation, which `agree` holds to the slow one.
+pub fn compare_long(calls: &Calls) -> Result<Tally, String> {
+    let mut tally = Tally::default();
+    let mut random = Random::new(1);
+    let draft = random::draft_of(&mut random, &[64; 4]);
+    let file = random::numbered(&mut random, &draft);
+    let own = [(Machine::House, fast::run_source as Run), (Machine::Chip, fast::run_tso as Run)];
+    for ((machine, fast), run) in own.into_iter().zip(calls.runs.iter().flatten()) {
+        let mut moves = random::long_schedule(&mut random, 4, 8_000_000, machine.highest_choice());
+        for last in [0, 4] {
+            *moves.last_chunk_mut::<2>().expect("there are moves") = [last, 0];
+            tally
+                .alike(random.byte(), STATE, |out| fast(&file, &moves, out), |out| run(&file, &moves, out))
+                .map_err(|difference| format!("run {machine:?}, 8000000 moves, lane {last} last: {difference}"))?;
+            tally.cases += 1;
+        }
     }
     Ok(tally)
 }

@@ -6,7 +6,7 @@ mod schedules;
 
 pub use faults::kernel;
 pub use kernels::{draft_of, numbered};
-pub use schedules::schedule;
+pub use schedules::{long_schedule, schedule};
 
 pub struct Random(u64);
 

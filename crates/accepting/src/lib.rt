@@ -8,13 +8,13 @@ ghost use Rattle.sheet.specs.Bytes.{over};
 ghost use Rattle.chaining.specs.Chains.{chainBytes};
 ghost use Rattle.accepting.specs.Checks.{Fielded, linkedRefusal};
 use chaining::whole::write_chains;
-use kernel::rules::bad_length;
-use kernel::rules::bad_record;
-use kernel::rules::header_rule;
 use linking::judge::bad_target;
 use linking::judge::too_long;
 use linking::link::link;
 use locking::lock_fault;
+use ruling::rules::bad_length;
+use ruling::rules::bad_record;
+use ruling::rules::header_rule;
 use verdict::Refusal;
 
 pub mod file;

@@ -1,3 +1,2 @@
-// Moves of a lane that reach memory, locks or its pending list: an operation, a commit.
-pub mod commit;
+// Operations of a lane that reach memory, locks or its pending list.
 pub mod step;

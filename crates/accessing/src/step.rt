@@ -14,10 +14,10 @@ use moving::held::set_word;
 use moving::held::take;
 use moving::held::word_at;
 use moving::held::write_register;
-use pending::rules::Machine;
-use pending::rules::may_load;
-use pending::rules::may_lock;
-use pending::rules::sees;
+use permitting::rules::Machine;
+use permitting::rules::may_load;
+use permitting::rules::may_lock;
+use permitting::rules::sees;
 
 // LOAD of location x into register a.
 pub fn load(

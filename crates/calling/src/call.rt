@@ -1,12 +1,12 @@
 // A run from a kernel file and a schedule to the state record.
 ghost use mathlib.Core.Path.{_≡_};
 ghost use Rattle.verdict.specs.Verdict.{verdict};
-ghost use Rattle.pending.specs.Machines.{machineIn};
+ghost use Rattle.permitting.specs.Machines.{machineIn};
 ghost use Rattle.calling.specs.Calls.{runFileBy};
 use crate::program::limit_of;
 use crate::program::program_of;
 use judging::judge::legal_moves;
-use pending::rules::Machine;
+use permitting::rules::Machine;
 use rows::read::byte_at;
 use rows::read::word_at;
 use sheet::Lowered;

@@ -2,10 +2,10 @@
 ghost use mathlib.Core.Path.{_≡_};
 ghost use Rattle.verdict.specs.Verdict.{verdict};
 ghost use Rattle.machine.specs.Schedule.{limit};
-ghost use Rattle.pending.specs.Machines.{machineIn};
+ghost use Rattle.permitting.specs.Machines.{machineIn};
 ghost use Rattle.starting.specs.Programs.{programBy};
 use accepting::file::chain_file;
-use pending::rules::Machine;
+use permitting::rules::Machine;
 use relowering::lower::lower2;
 use sheet::Lowered;
 

@@ -4,7 +4,7 @@ use mathlib.Core.Path.{_≡_, ap, _∙_}
 use mathlib.Core.List.{List}
 use lib.ListN.{length, drop}
 use Rattle.verdict.specs.Verdict.{verdict, refused}
-use Rattle.verdict.proofs.Lawful.{accepted-lawful}
+use Rattle.lawful.proofs.Lawful.{accepted-lawful}
 use Rattle.sheet.specs.declared.Lowered.the-variants.{Wrote, Refuses}
 use Rattle.sheet.specs.Read.{readSheet}
 use Rattle.sheet.proofs.Answers.{BytesIn, refuses-by, wrote-by, answer-small}

@@ -9,8 +9,8 @@ ghost use Rattle.moving.specs.States.{rowsOf, heldIn, Carried};
 use moving::Moved;
 use moving::held::take;
 use moving::held::write_register;
-use pending::rules::Machine;
-use pending::rules::may_pass;
+use permitting::rules::Machine;
+use permitting::rules::may_pass;
 use placement::cookbook::Barrier;
 
 // SET of register a.

@@ -5,7 +5,7 @@ ghost use Prim.Native.Nat.{_+_, _<_, _≤_, _^_};
 ghost use lib.ListN.{length, getD};
 ghost use Rattle.kernel.specs.Fields.{byte, word, four, quad, head, next};
 
-pub(crate) fn wide(x: u8) -> usize
+pub fn wide(x: u8) -> usize
     ensures { λ r. ⌜ (r ≡ x) × (r < 256) ⌝ }
 {
     x as usize
@@ -18,14 +18,14 @@ fn octet_at(s: &[u8], i: usize) -> u8
     if i < s.len() { s[i] } else { 0 }
 }
 
-pub(crate) fn byte_at(s: &[u8], i: usize) -> usize
+pub fn byte_at(s: &[u8], i: usize) -> usize
     ensures { λ r. ⌜ (r ≡ byte (now (s .entry)) i) × (r < 256) ⌝ }
 {
     wide(octet_at(s, i))
 }
 
 // The 16-bit field at i, both bytes of which the file has.
-pub(crate) fn whole_word(s: &[u8], i: usize) -> usize
+pub fn whole_word(s: &[u8], i: usize) -> usize
     requires { ⌜ i + 2 ≤ length (now s) ⌝ }
     ensures { λ r. ⌜ (r ≡ word (now (s .entry)) i) × (r < 65536) ⌝ }
 {
@@ -33,7 +33,7 @@ pub(crate) fn whole_word(s: &[u8], i: usize) -> usize
 }
 
 // The 32-bit field at i, all bytes of which the file has.
-pub(crate) fn whole_quad(s: &[u8], i: usize) -> usize
+pub fn whole_quad(s: &[u8], i: usize) -> usize
     requires { ⌜ i + 4 ≤ length (now s) ⌝ }
     ensures { λ r. ⌜ (r ≡ quad (now (s .entry)) i) × (r < 2 ^ 32) ⌝ }
 {
@@ -53,7 +53,7 @@ pub fn word_at(s: &[u8], i: usize) -> usize
 }
 
 // Four bytes in a row.
-pub(crate) struct Four {
+pub struct Four {
     pub a: u8,
     pub b: u8,
     pub c: u8,
@@ -61,7 +61,7 @@ pub(crate) struct Four {
 }
 
 // The four bytes from i on, with one test of the file's length.
-pub(crate) fn four_at(s: &[u8], i: usize) -> Four
+pub fn four_at(s: &[u8], i: usize) -> Four
     requires { ⌜ i < 2 ^ 32 ⌝ }
     ensures { λ r. ⌜ r ≡ four (now (s .entry)) i ⌝ }
 {
@@ -83,7 +83,7 @@ pub(crate) fn four_at(s: &[u8], i: usize) -> Four
 }
 
 // The 32-bit field at i.
-pub(crate) fn quad_at(s: &[u8], i: usize) -> usize
+pub fn quad_at(s: &[u8], i: usize) -> usize
     requires { ⌜ i < 2 ^ 32 ⌝ }
     ensures { λ r. ⌜ (r ≡ quad (now (s .entry)) i) × (r < 2 ^ 32) ⌝ }
 {
@@ -108,7 +108,7 @@ pub fn next_of(s: &[u8], i: usize) -> usize
 }
 
 // Both tests hold.
-pub(crate) fn both(a: bool, b: bool) -> bool
+pub fn both(a: bool, b: bool) -> bool
     ensures { λ r. ⌜ r ≡ cond a b false ⌝ }
 {
     if a { b } else { false }

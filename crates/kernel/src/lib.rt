@@ -1,4 +1,3 @@
-// The kernel file: its fields, the rules of its header and of its records, the operations of a lane.
+// The kernel file: its fields, and the operations of a lane.
 pub mod accepted;
 pub mod fields;
-pub mod rules;

@@ -3,7 +3,7 @@ use crate::tell::run_moves;
 use console::files::read_named;
 use console::print::say;
 use console::print::say_number;
-use pending::rules::Machine;
+use permitting::rules::Machine;
 use reading::Read;
 use reading::read_schedule;
 

@@ -6,7 +6,7 @@ use calling::program::program_of;
 use console::print::say;
 use console::print::say_part;
 use console::print::say_refusal;
-use pending::rules::Machine;
+use permitting::rules::Machine;
 use reporting::tell_state;
 use sheet::Lowered;
 use telling::tell_move;

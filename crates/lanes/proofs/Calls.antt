@@ -12,7 +12,7 @@ use borrow.Author.Tests.{ltb-false}
 use Rattle.kernel.specs.Accepted.{Program}
 use Rattle.kernel.specs.Lawful.{Lawful}
 use Rattle.verdict.specs.Verdict.{Verdict, refused, accepted, verdict}
-use Rattle.verdict.proofs.Lawful.{accepted-lawful}
+use Rattle.lawful.proofs.Lawful.{accepted-lawful}
 use Rattle.sheet.specs.Levels.{Level, level2}
 use Rattle.sheet.specs.declared.Lowered.{Lowered}
 use Rattle.sheet.specs.declared.Lowered.the-variants.{Wrote, Refuses}

@@ -3,7 +3,7 @@ ghost use mathlib.Core.Path.{_≡_};
 ghost use Rattle.lanes.specs.Interface.{callRunSource, callRunTso};
 use crate::packed::packed;
 use calling::call::run_file;
-use pending::rules::Machine;
+use permitting::rules::Machine;
 
 // The state record of the source machine's run at the front of `state`; after a refusal `state` is as it was.
 #[no_mangle]

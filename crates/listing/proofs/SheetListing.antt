@@ -7,7 +7,7 @@ use lib.ListN.{length}
 use Rattle.kernel.specs.Accepted.{Program}
 use Rattle.kernel.specs.Lawful.{Lawful}
 use Rattle.verdict.specs.Verdict.{accepted, verdict}
-use Rattle.verdict.proofs.Lawful.{accepted-lawful}
+use Rattle.lawful.proofs.Lawful.{accepted-lawful}
 use Rattle.sheet.specs.Levels.{level2}
 use Rattle.sheet.specs.Bytes.{sheetBytes}
 use Rattle.sheet.proofs.ReadBack.{lawful-back}

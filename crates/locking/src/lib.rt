@@ -12,7 +12,7 @@ ghost use Rattle.sheet.specs.Bytes.{over};
 ghost use Rattle.rows.specs.Lanes.{fieldsOf};
 ghost use Rattle.chaining.specs.Chains.{chainBytes};
 ghost use Rattle.chaining.specs.Structured.{Structured};
-ghost use Rattle.locking.specs.Sets.{locksIn, partsLed, bring};
+ghost use Rattle.locking.specs.Sets.{bitFor, stepNumber, partsLed, bring};
 ghost use Rattle.locking.specs.Lanes.{LaneIn, Stepped};
 
 fn lower(a: usize, b: usize) -> usize
@@ -28,55 +28,30 @@ fn either(a: bool, b: bool) -> bool
     if a { true } else { b }
 }
 
-// Lock l is in the set h.
-fn holds(h: u8, l: u8) -> bool
-    ensures { λ r. ⌜ r ≡ getD (locksIn h) l false ⌝ }
+// The set of lock l alone; none for a number that no lock has.
+fn lock_bit(l: u8) -> u8
+    ensures { λ r. ⌜ r ≡ bitFor l ⌝ }
 {
-    if l < 4 { (h >> l) % 2 == 1 } else { false }
+    if l < 4 { 1u8 << l } else { 0 }
 }
 
-// The set h with lock l in it, or out of it.
-fn put(h: u8, l: u8, v: bool) -> u8
-    requires { ⌜ h < 16 ⌝ }
-    ensures { λ r. ⌜ (r < 16) × (locksIn r ≡ set (locksIn h) l v) ⌝ }
+// The set h after one lock, whose set is `bit`, is taken or freed, or neither; from 16 up where it is taken and was
+// held, or freed and was not. Tests are made into numbers: a jump on the kind of an operation could not be predicted.
+fn step_set(h: u8, bit: u8, takes: bool, frees: bool) -> u8
+    requires { ⌜ bit < 16 ⌝ }
+    ensures { λ r. ⌜ r ≡ stepNumber h bit takes frees ⌝ }
 {
-    if l < 4 {
-        let bit = 1u8 << l;
-        if v { h | bit } else { h & !bit }
-    } else {
-        h
-    }
+    let held = (h & bit) != 0;
+    let wrong = (takes & held) | (frees & !held);
+    (h ^ (bit * (takes | frees) as u8)) | ((wrong as u8) << 4)
 }
 
-// The set after a LOCK of b, from the set h before it; 16 where the lock is held.
-fn after_lock(h: u8, b: u8) -> u8
-    requires { ⌜ h < 16 ⌝ }
-    ensures { λ r. ⌜ ((o : Op) → 5 ≡ fieldsOf o .code → b ≡ fieldsOf o .b → Stepped h o r) ⌝ }
-{
-    if holds(h, b) { 16 } else { put(h, b, true) }
-}
-
-// The set after an UNLOCK of b, from the set h before it; 16 where the lock is not held.
-fn after_unlock(h: u8, b: u8) -> u8
-    requires { ⌜ h < 16 ⌝ }
-    ensures { λ r. ⌜ ((o : Op) → 6 ≡ fieldsOf o .code → b ≡ fieldsOf o .b → Stepped h o r) ⌝ }
-{
-    if holds(h, b) { put(h, b, false) } else { 16 }
-}
-
-// The set after the operation of this code and operand, from the set h before it; 16 where it breaks the rule. Both
-// answers are made before the code is looked at: this compiles to choices without jumps.
+// The set after the operation of this code and operand, from the set h before it; from 16 up where it breaks the rule.
 fn after_row(h: u8, code: u8, b: u8) -> u8
     requires { ⌜ h < 16 ⌝ }
     ensures { λ r. ⌜ ((o : Op) → code ≡ fieldsOf o .code → b ≡ fieldsOf o .b → Stepped h o r) ⌝ }
 {
-    let taken = after_lock(h, b);
-    let freed = after_unlock(h, b);
-    if code == 5 {
-        taken
-    } else {
-        if code == 6 { freed } else { h }
-    }
+    step_set(h, lock_bit(b), code == 5, code == 6)
 }
 
 // What SKIPs lead to a position, after one more that comes with the set h.

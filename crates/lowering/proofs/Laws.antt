@@ -1,7 +1,4 @@
 -- Laws by subject.
-pub mod Put
-pub mod Begins
-pub mod Starts
 pub mod Targets
 pub mod Lane
 pub mod Held

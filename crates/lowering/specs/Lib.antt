@@ -1,4 +1,3 @@
 -- What the code of lowering writes and knows on its way.
-pub mod Put
 pub mod Plan
 pub mod Rows

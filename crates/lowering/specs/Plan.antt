@@ -13,7 +13,7 @@ use Rattle.sheet.specs.Layout.{Instr, sheet}
 use Rattle.sheet.specs.Levels.{level1, placed}
 use Rattle.sheet.specs.Bytes.{laneBytes, sheetBytes}
 use Rattle.lowering.specs.declared.plan.Plan.{Plan}
-use Rattle.lowering.specs.Put.{standing}
+use Rattle.laying.specs.Put.{standing}
 
 -- a lane's operations at level 1
 abbrev pub instrs1 : (ℕ → Bool) → List Op → List Instr

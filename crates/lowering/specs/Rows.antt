@@ -11,8 +11,9 @@ use Rattle.rows.specs.Rows.{partsIn}
 use Rattle.rows.specs.Lanes.{Holds}
 use Rattle.chaining.specs.Chains.{chainBytes}
 use Rattle.lowering.specs.declared.plan.Plan.{Plan}
+use Rattle.lowering.specs.declared.plan.Plans.{Plans}
 use Rattle.lowering.specs.Plan.{Planned}
-use Rattle.lowering.specs.Put.{laneRows}
+use Rattle.laying.specs.Put.{laneRows}
 
 -- the buffer begins with the chains of file s
 pub record ChainsOf (s rows : List ℕ) : Type 0 where
@@ -32,9 +33,21 @@ laneIn rows t = drop (getD (partsIn rows .from) t 0) rows
 abbrev pub countIn : List ℕ → ℕ → ℕ
 countIn rows t = getD (partsIn rows .count) t 0
 
+-- the plan of the lane whose n rows are at the front; at most 64 operations make five instructions each
+pub record PlanFor (rows : List ℕ) (n mask : ℕ) (r : Plan) : Type 0 where
+  pub planned : (ops : List Op) → Holds rows n ops → Planned (isVolatile mask) ops r
+  pub small : r .size ≤ 320
+
 -- the plan of lane t
 abbrev pub PlanIn : List ℕ → ℕ → ℕ → Plan → Type 0
-PlanIn rows mask t r = (ops : List Op) → Holds (laneIn rows t) (countIn rows t) ops → Planned (isVolatile mask) ops r
+PlanIn rows mask t r = PlanFor (laneIn rows t) (countIn rows t) mask r
+
+-- the plans of the four lanes
+pub record PlansIn (rows : List ℕ) (mask : ℕ) (r : Plans) : Type 0 where
+  pub first : PlanIn rows mask 0 (r .first)
+  pub second : PlanIn rows mask 1 (r .second)
+  pub third : PlanIn rows mask 2 (r .third)
+  pub fourth : PlanIn rows mask 3 (r .fourth)
 
 -- lane t's bytes at level 1
 abbrev pub laneText : List ℕ → ℕ → Placement → List ℕ

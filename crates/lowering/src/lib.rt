@@ -1,7 +1,4 @@
 // Lowering a kernel file into the output buffer.
-pub(crate) mod lane;
 pub(crate) mod level1;
 pub mod lower;
 pub(crate) mod plan;
-pub(crate) mod starts;
-pub(crate) mod steps;

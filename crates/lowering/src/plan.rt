@@ -1,18 +1,22 @@
 // What is known of a lane before it is written: where its barriers stand, and how many instructions it makes.
-ghost use mathlib.Core.List.{List};
 ghost use Prim.Native.Nat.{_*_, _≤_};
 ghost use lib.ListN.{length};
-ghost use Rattle.kernel.specs.declared.accepted.Op.{Op};
-ghost use Rattle.kernel.specs.Accepted.{isVolatile};
-ghost use Rattle.rows.specs.Lanes.{Holds};
-ghost use Rattle.lowering.specs.Plan.{Planned};
-use crate::starts::start_of;
+ghost use Rattle.lowering.specs.Rows.{PlanFor};
+use laying::starts::start_of;
 use placement::place::Placement;
 use placing::place::place_lane;
 
 pub struct Plan {
     pub placement: Placement,
     pub size: usize,
+}
+
+// One for each of the four lanes.
+pub struct Plans {
+    pub first: Plan,
+    pub second: Plan,
+    pub third: Plan,
+    pub fourth: Plan,
 }
 
 const NONE: Placement = Placement {
@@ -25,9 +29,7 @@ const NONE: Placement = Placement {
 // The plan of the lane whose n rows are given; at most 64 operations make five instructions each.
 pub(crate) fn plan_of(rows: &[u8], n: usize, mask: u16) -> Plan
     requires { ⌜ (n ≤ 64) × (8 * n ≤ length (now rows)) ⌝ }
-    ensures { λ r. ⌜
-        ((ops : List Op) → Holds (now (rows .entry)) n ops → Planned (isVolatile mask) ops r) × (r .size ≤ 320)
-        ⌝ }
+    ensures { λ r. ⌜ PlanFor (now (rows .entry)) n mask r ⌝ }
 {
     if n == 0 {
         return Plan {

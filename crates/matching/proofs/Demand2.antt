@@ -9,7 +9,7 @@ use Rattle.kernel.specs.declared.accepted.Op.{Op}
 use Rattle.kernel.specs.Accepted.{Program}
 use Rattle.verdict.specs.Verdict.{accepted, verdict}
 use Rattle.kernel.specs.Lawful.{Lawful}
-use Rattle.verdict.proofs.Lawful.{accepted-lawful}
+use Rattle.lawful.proofs.Lawful.{accepted-lawful}
 use Rattle.placement.specs.declared.cookbook.Barrier.{Barrier}
 use Rattle.placement.specs.declared.cookbook.Barrier.the-variants.{LL}
 use Rattle.placement.specs.Chain.{Chain, Path, Between}

@@ -8,7 +8,7 @@ use lib.ListN.{length, getD, replicate, List·getD-map}
 use Rattle.kernel.specs.Accepted.{Program}
 use Rattle.verdict.specs.Verdict.{accepted, verdict}
 use Rattle.kernel.specs.Lawful.{Lawful}
-use Rattle.verdict.proofs.Lawful.{accepted-lawful}
+use Rattle.lawful.proofs.Lawful.{accepted-lawful}
 use Rattle.sheet.specs.Layout.{Instr, Placed, start, sheet}
 use Rattle.sheet.specs.Levels.{level2, placedLanes, volatileIn}
 use Rattle.sheet.proofs.ReadBack.{bytes-back}

@@ -9,11 +9,11 @@ use Rattle.sheet.specs.Layout.{Instr}
 use Rattle.machine.specs.Step.{Core, Turn, waits, refuses, passes, does, execute, commit, turn}
 use Rattle.machine.specs.State.{Lane, State, setLane}
 use Rattle.pending.specs.declared.lane.Lane.{Lane as Stored}
-use Rattle.pending.specs.declared.rules.Machine.{Machine as Coded}
+use Rattle.permitting.specs.declared.rules.Machine.{Machine as Coded}
 use Rattle.moving.specs.declared.Moved.{Moved}
 use Rattle.moving.specs.declared.Moved.the-variants.{Waited, Done, ReleaseNotHeld}
 use Rattle.pending.specs.Lanes.{laneIn}
-use Rattle.pending.specs.Machines.{machineIn}
+use Rattle.permitting.specs.Machines.{machineIn}
 
 -- of each lane its position, its registers, its pending cells and values, and their number
 pub record Rows : Type 0 where

@@ -2,4 +2,3 @@
 pub mod Entries
 pub mod Lanes
 pub mod Searches
-pub mod Rules

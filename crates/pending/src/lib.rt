@@ -1,3 +1,2 @@
-// A lane of either machine, with its pending stores, and what the machines permit.
+// A lane of either machine, with its pending stores.
 pub mod lane;
-pub mod rules;

@@ -8,9 +8,9 @@ use lib.Dec.{eqb}
 use lib.ListN.{length, take}
 use Rattle.kernel.specs.Accepted.{programOf}
 use Rattle.verdict.specs.Verdict.{refused, accepted, refusalOf, numberOf, recordOf}
-use Rattle.verdict.proofs.Front.{front-verdict}
-use Rattle.verdict.proofs.Lawful.{accepted-lawful}
-use Rattle.verdict.proofs.Named.{number-small, record-named}
+use Rattle.lawful.proofs.Front.{front-verdict}
+use Rattle.lawful.proofs.Lawful.{accepted-lawful}
+use Rattle.lawful.proofs.Named.{number-small, record-named}
 use Rattle.sheet.specs.declared.Lowered.the-variants.{Wrote}
 use Rattle.sheet.specs.Bytes.{over, writeInto}
 use Rattle.sheet.proofs.Laws.Written.{written-all}

@@ -12,7 +12,7 @@ use Rattle.kernel.specs.declared.accepted.Op.{Op}
 use Rattle.kernel.specs.declared.accepted.Op.the-variants.{Set, Add, Load, Store, Lock, Unlock, Skip}
 use Rattle.kernel.specs.Accepted.{Program}
 use Rattle.verdict.specs.Verdict.{accepted, verdict}
-use Rattle.verdict.proofs.Lawful.{accepted-lawful}
+use Rattle.lawful.proofs.Lawful.{accepted-lawful}
 use Rattle.sheet.specs.Layout.{Instr, op, barrier, rank}
 use Rattle.sheet.specs.Levels.{volatileIn}
 use Rattle.machine.specs.Entries.{Entry}
@@ -24,8 +24,8 @@ use Rattle.machine.specs.State.{Lane, Run, ran, laneAt, posAt, coreOf, setLane,
 use Rattle.machine.specs.Run.{startOf, programFor, runOn}
 use Rattle.matching.proofs.Legal.{legal-append}
 use Rattle.matching.proofs.Laws.Lanes.{set-lane-same}
-use Rattle.pending.specs.declared.rules.Machine.{Machine as Coded}
-use Rattle.pending.specs.Machines.{machineIn}
+use Rattle.permitting.specs.declared.rules.Machine.{Machine as Coded}
+use Rattle.permitting.specs.Machines.{machineIn}
 use Rattle.moving.specs.Ready.{Asks, LaneReady}
 use Rattle.running.specs.Runs.{ProgramAt, Runs}
 use Rattle.moving.specs.States.{Held, stateIn}

@@ -1,2 +1,3 @@
--- Rows: which rows of a level 1 sheet stay, and what is known of a sheet that is made into level 2.
+-- Rows: what is known of a level 1 sheet that is made into level 2. Through: the way by such a sheet.
 pub mod Rows
+pub mod Through

@@ -9,10 +9,10 @@ use Rattle.sheet.specs.Layout.{Instr, rank}
 use Rattle.sheet.specs.Read.{readRows}
 use Rattle.machine.specs.Schedule.{Move}
 use Rattle.machine.specs.State.{Loaded, Run, Outcome, ran, refused, laneAt, run, begin}
-use Rattle.pending.specs.declared.rules.Machine.{Machine as Coded}
+use Rattle.permitting.specs.declared.rules.Machine.{Machine as Coded}
 use Rattle.running.specs.declared.run.Ended.{Ended}
 use Rattle.running.specs.declared.run.Ended.the-variants.{Ran, Refused}
-use Rattle.pending.specs.Machines.{machineIn}
+use Rattle.permitting.specs.Machines.{machineIn}
 use Rattle.moving.specs.Ready.{LaneReady}
 use Rattle.moving.specs.States.{Held, stateIn}
 

@@ -6,9 +6,9 @@ ghost use Rattle.pending.specs.Lanes.{flags};
 ghost use Rattle.machine.specs.Moves.{movesIn};
 ghost use Rattle.running.specs.Runs.{Runs, Runnable, Ends};
 ghost use Rattle.moving.specs.States.{rowsOf, heldIn, Sized};
-use crate::moves::move_lane;
+use carrying::moves::move_lane;
 use moving::Moved;
-use pending::rules::Machine;
+use permitting::rules::Machine;
 
 // The counts of moves done and waited, or the lane and the position of an UNLOCK that was refused.
 pub enum Ended {

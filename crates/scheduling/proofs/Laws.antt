@@ -1,9 +1,3 @@
--- Laws: Arrays the lengths of a progress's arrays; Fresh the start; Ready whether a lane can move; Turned a lane's move
--- in the code; Follows one move of a schedule; Schedules all of them; Accepted the schedules of an accepted kernel.
-pub mod Arrays
-pub mod Fresh
-pub mod Ready
-pub mod Turned
-pub mod Follows
+-- Laws: Schedules all the moves of a schedule; Accepted the schedules of an accepted kernel.
 pub mod Schedules
 pub mod Accepted

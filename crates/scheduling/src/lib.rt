@@ -1,4 +1,2 @@
 // A schedule as a slice of move structs: the moves in turn, each on what the one before it left.
 pub mod moves;
-pub mod progress;
-mod ready;

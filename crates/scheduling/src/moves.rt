@@ -1,13 +1,8 @@
 // The moves of a schedule in turn.
-ghost use Rattle.scheduling.specs.Stands.{Follows};
-use crate::progress::Progress;
-use crate::progress::fold_move;
-
-// A lane and its choice.
-pub struct Move {
-    pub lane: u8,
-    pub choice: u8,
-}
+ghost use Rattle.progress.specs.Stands.{Follows};
+use progress::moves::Move;
+use progress::progress::Progress;
+use progress::progress::fold_move;
 
 // Each move on what the one before it left.
 pub fn run_moves(rows: &[u8], ms: &[Move], mut x: Progress) -> Progress

@@ -9,8 +9,8 @@ use lib.ListN.{length}
 use Rattle.kernel.specs.Accepted.{Program, programOf}
 use Rattle.kernel.specs.Lawful.{Lawful}
 use Rattle.verdict.specs.Verdict.{Verdict, refused, accepted, verdict, refusalOf, numberOf, recordOf}
-use Rattle.verdict.proofs.Lawful.{accepted-lawful}
-use Rattle.verdict.proofs.Named.{number-small, record-named}
+use Rattle.lawful.proofs.Lawful.{accepted-lawful}
+use Rattle.lawful.proofs.Named.{number-small, record-named}
 use Rattle.sheet.specs.declared.Lowered.{Lowered}
 use Rattle.sheet.specs.declared.Lowered.the-variants.{Wrote, Refuses}
 use Rattle.sheet.specs.Levels.{Level}

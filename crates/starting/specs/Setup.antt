@@ -13,8 +13,8 @@ use Rattle.sheet.specs.Bytes.{over}
 use Rattle.machine.specs.Schedule.{Move, limit, legal}
 use Rattle.machine.specs.Run.{startOf, programFor, runProgram}
 use Rattle.machine.specs.Moves.{movesIn}
-use Rattle.pending.specs.declared.rules.Machine.{Machine as Coded}
-use Rattle.pending.specs.Machines.{machineIn}
+use Rattle.permitting.specs.declared.rules.Machine.{Machine as Coded}
+use Rattle.permitting.specs.Machines.{machineIn}
 use Rattle.moving.specs.States.{Held, Sized, stateIn}
 use Rattle.running.specs.Runs.{ProgramAt}
 use Rattle.recording.specs.Record.{stateBytes}

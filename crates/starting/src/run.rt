@@ -9,7 +9,7 @@ ghost use Rattle.pending.specs.Lanes.{flags};
 ghost use Rattle.moving.specs.States.{heldIn};
 ghost use Rattle.starting.specs.Setup.{ProgramIn, Startable, Begins, Begun, ranInto};
 use judging::judge::ended;
-use pending::rules::Machine;
+use permitting::rules::Machine;
 use recording::state::write_state;
 use rows::parts::parts_of;
 use rows::read::byte_at;

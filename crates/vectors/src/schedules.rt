@@ -5,7 +5,7 @@ use console::files::read_named;
 use console::print::say;
 use console::print::say_part;
 use console::print::say_refusal;
-use pending::rules::Machine;
+use permitting::rules::Machine;
 use reading::Read;
 use reading::read_schedule;
 use reporting::tell_state;

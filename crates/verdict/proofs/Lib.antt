@@ -1,6 +1,2 @@
--- Laws of the verdict, the theorems about accepted kernels, what a refusal names, and how many bytes decide.
+-- Laws of the verdict.
 pub mod Laws
-pub mod Lawful
-pub mod Adequate
-pub mod Named
-pub mod Front

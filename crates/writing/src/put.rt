@@ -4,10 +4,8 @@ ghost use mathlib.Core.List.{[], _∷_, _++_};
 ghost use Prim.Native.Nat.{_+_, _≤_};
 ghost use lib.ListN.{length};
 ghost use lib.Seq.{sets};
-ghost use Rattle.sheet.specs.Layout.{aim};
-ghost use Rattle.sheet.specs.Bytes.{word, row, opBytes};
+ghost use Rattle.sheet.specs.Bytes.{word, row};
 ghost use Rattle.sheet.specs.Put.{laid};
-use kernel::accepted::Op;
 use rows::number::fits;
 use rows::number::low;
 
@@ -101,19 +99,4 @@ pub fn put_row(out: &mut [u8], at: usize, o: u8, a: u8, b: u8, c: u32)
         low(n / 65536),
         low(n / 65536 / 256),
     );
-}
-
-// An operation from `at` on; a SKIP is aimed at the given position.
-pub fn put_op(out: &mut [u8], at: usize, op: Op, target: u32)
-    ensures { λ r. ⌜ now (out .exit) ≡ laid (now (out .entry)) at (opBytes (aim (λ t. target) op)) ⌝ }
-{
-    match op {
-        Op::Set(a, c) => put_row(out, at, 1, a, 0, c),
-        Op::Add(a, b) => put_row(out, at, 2, a, b, 0),
-        Op::Load(a, x) => put_row(out, at, 3, a, x, 0),
-        Op::Store(a, x) => put_row(out, at, 4, a, x, 0),
-        Op::Lock(l) => put_row(out, at, 5, 0, l, 0),
-        Op::Unlock(l) => put_row(out, at, 6, 0, l, 0),
-        Op::Skip(a, _) => put_row(out, at, 7, a, 0, target),
-    }
 }

@@ -42,9 +42,8 @@ fn ran(name: &str, machine: Machine, kernel: &[u8]) -> String {
         return refused(answer);
     }
     let value = |at: usize| u32::from_le_bytes([state[at], state[at + 1], state[at + 2], state[at + 3]]);
-    let values = |from: usize, count: usize| {
-        (0..count).map(|i| value(from + 4 * i).to_string()).collect::<Vec<_>>().join(" ")
-    };
+    let values =
+        |from: usize, count: usize| (0..count).map(|i| value(from + 4 * i).to_string()).collect::<Vec<_>>().join(" ");
     let finished = if state[0] == 1 { "finished" } else { "not finished" };
     let registers = |lane: usize| format!(", lane {lane} registers {}", values(92 + 548 * lane, 8));
     let registers: String = (0..usize::from(lanes)).map(registers).collect();

@@ -8,8 +8,7 @@ use std::path::Path;
 use std::{env, fs};
 
 /// Rows of the litmus tables, under their first set of volatile locations and under their last.
-const LITMUS: [&str; 12] =
-    ["SB", "MP", "LB", "S", "R", "2+2W", "CoRR", "n5", "WRC", "IRIW", "lock-SB", "SB+mfences"];
+const LITMUS: [&str; 12] = ["SB", "MP", "LB", "S", "R", "2+2W", "CoRR", "n5", "WRC", "IRIW", "lock-SB", "SB+mfences"];
 
 fn main() -> Result<(), String> {
     let folder = env::args().nth(1).ok_or("vectors FOLDER")?;

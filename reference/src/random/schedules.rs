@@ -20,6 +20,11 @@ pub fn schedule(random: &mut Random, lanes: usize, records: usize, highest: u8) 
     moves
 }
 
+/// A valid schedule of so many moves.
+pub fn long_schedule(random: &mut Random, lanes: usize, count: usize, highest: u8) -> Vec<u8> {
+    (0..count).flat_map(|_| [random.below(lanes) as u8, random.pick(&[0, 0, 0, 1, highest])]).collect()
+}
+
 fn valid_schedule(random: &mut Random, lanes: usize, records: usize, highest: u8) -> Vec<u8> {
     let count = match random.below(8) {
         0 => 0,

@@ -8,7 +8,7 @@ use lib.ListN.{length, take, drop, length-append, length-drop}
 use lib.Seq.{length-take-le, take-at, take-all}
 use Rattle.kernel.specs.Accepted.{programOf}
 use Rattle.verdict.specs.Verdict.{verdict, accepted}
-use Rattle.verdict.proofs.Lawful.{accepted-lawful}
+use Rattle.lawful.proofs.Lawful.{accepted-lawful}
 use Rattle.sheet.specs.declared.Lowered.the-variants.{Wrote, Refuses}
 use Rattle.sheet.specs.Bytes.{over}
 use Rattle.sheet.proofs.Laws.Loaded.{header-by, answered-by}

@@ -22,9 +22,9 @@ use Rattle.machine.specs.State.{Outcome, ran, refused}
 use Rattle.machine.specs.Run.{answerOf, startOf, programFor, runOn, runProgram}
 use Rattle.machine.specs.Moves.{movesIn}
 use Rattle.reached.proofs.Answered.{not-refused}
-use Rattle.pending.specs.declared.rules.Machine.{Machine as Coded}
-use Rattle.pending.specs.declared.rules.Machine.the-variants.{Source, Tso}
-use Rattle.pending.specs.Machines.{machineIn}
+use Rattle.permitting.specs.declared.rules.Machine.{Machine as Coded}
+use Rattle.permitting.specs.declared.rules.Machine.the-variants.{Source, Tso}
+use Rattle.permitting.specs.Machines.{machineIn}
 use Rattle.starting.specs.Programs.{programBytes, programBy}
 use Rattle.calling.specs.Calls.{runInto, runFileBy}
 use Rattle.starting.specs.Setup.{ProgramIn, ranInto}

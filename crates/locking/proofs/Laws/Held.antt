@@ -3,21 +3,23 @@
 use Prim.Native.Nat.{ℕ, zero, suc, _+_, _-_, _*_, _≤_, _<_, min}
 use mathlib.Core.Path.{_≡_, refl, ap, sym, subst, _∙_}
 use mathlib.Core.List.{List, [], _∷_}
-use mathlib.Core.Bool.{Bool, true, false, not}
+use mathlib.Core.Bool.{Bool, false}
 use mathlib.Core.Option.{some}
 use native.Mathlib.Omega.{arith}
 use borrow.Author.Tests.{le-ltb}
-use lib.ListN.{length, getD, take, drop, set, length-take, length-drop}
+use lib.Dec.{eqb}
+use lib.ListN.{length, getD, take, drop, length-take, length-drop}
 use lib.Seq.{getD-drop, getD-take}
 use Rattle.kernel.specs.declared.accepted.Op.{Op}
 use Rattle.kernel.specs.declared.accepted.Op.the-variants.{Set, Add, Load, Store, Lock, Unlock, Skip}
-use Rattle.kernel.specs.Held.{noLocks, after, heldFrom, held, recordAt}
+use Rattle.kernel.specs.Held.{noLocks, after, misuse, heldFrom, held, recordAt}
 use Rattle.kernel.specs.Stored.{noOp}
 use Rattle.rows.specs.Rows.{rowIn}
 use Rattle.rows.specs.Lanes.{fieldsOf}
 use Rattle.rows.proofs.Laws.Lanes.{held-fields}
-use Rattle.locking.specs.Sets.{jumpOr, noJump, locksIn}
+use Rattle.locking.specs.Sets.{bitFor, stepNumber, jumpOr, noJump, locksIn}
 use Rattle.locking.specs.Lanes.{LaneIn, Stepped}
+use Rattle.locking.proofs.Laws.Locks.{step-other, take-wrong, take-next, free-wrong, free-next}
 
 -- ## the fields of row p
 
@@ -45,24 +47,6 @@ module _ {rows : List ℕ} {n : ℕ} {ops : List Op} (lane : LaneIn rows n ops) 
 
 -- ## operations by their codes
 
-lock-of : (o : Op) → 5 ≡ fieldsOf o .code → o ≡ Lock (fieldsOf o .b)
-lock-of (Set a c) e = absurd (omega arith)
-lock-of (Add a b) e = absurd (omega arith)
-lock-of (Load a b) e = absurd (omega arith)
-lock-of (Store a b) e = absurd (omega arith)
-lock-of (Lock b) e = refl
-lock-of (Unlock b) e = absurd (omega arith)
-lock-of (Skip a q) e = absurd (omega arith)
-
-unlock-of : (o : Op) → 6 ≡ fieldsOf o .code → o ≡ Unlock (fieldsOf o .b)
-unlock-of (Set a c) e = absurd (omega arith)
-unlock-of (Add a b) e = absurd (omega arith)
-unlock-of (Load a b) e = absurd (omega arith)
-unlock-of (Store a b) e = absurd (omega arith)
-unlock-of (Lock b) e = absurd (omega arith)
-unlock-of (Unlock b) e = refl
-unlock-of (Skip a q) e = absurd (omega arith)
-
 -- where an operation leads: a SKIP to its target
 pub jump-target : (o : Op) → 7 ≡ fieldsOf o .code → fieldsOf o .word ≡ jumpOr noJump (some o)
 jump-target (Set a c) e = absurd (omega arith)
@@ -84,46 +68,22 @@ jump-none (Skip a q) n = absurd (n refl)
 
 -- ## the set after an operation
 
-module _ (h : ℕ) (o : Op) where
-  pub step-none : h < 16 → ¬ fieldsOf o .code ≡ 5 → ¬ fieldsOf o .code ≡ 6 → Stepped h o h
-  step-none small = go o
-    where
-      go : (o : Op) → ¬ fieldsOf o .code ≡ 5 → ¬ fieldsOf o .code ≡ 6 → Stepped h o h
-      go (Set a c) n m = record { wrong = le-ltb 15 h (omega arith); next = λ _. refl }
-      go (Add a b) n m = record { wrong = le-ltb 15 h (omega arith); next = λ _. refl }
-      go (Load a b) n m = record { wrong = le-ltb 15 h (omega arith); next = λ _. refl }
-      go (Store a b) n m = record { wrong = le-ltb 15 h (omega arith); next = λ _. refl }
-      go (Lock b) n m = absurd (n refl)
-      go (Unlock b) n m = absurd (m refl)
-      go (Skip a q) n m = record { wrong = le-ltb 15 h (omega arith); next = λ _. refl }
+same-set : (h l : ℕ) (o : Op) → h < 16 → misuse (locksIn h) (some o) ≡ false → after (locksIn h) o ≡ locksIn h
+    → Stepped h o (stepNumber h (bitFor l) false false)
+same-set h l o small right same =
+    subst (Stepped h o) (sym (step-other h small l))
+    (record { wrong = le-ltb 15 h (omega arith) ∙ sym right; next = λ _. sym same })
 
-  module _ {b : ℕ} (at : b ≡ fieldsOf o .b) {v : Bool} (is : v ≡ getD (locksIn h) b false) where
-    module _ (code : 5 ≡ fieldsOf o .code) where
-      own-lock : Lock b ≡ o
-      own-lock = ap Lock at ∙ sym (lock-of o code)
-
-      pub step-taken : v ≡ true → Stepped h o 16
-      step-taken e =
-          subst (λ x. Stepped h x 16) own-lock (record { wrong = sym e ∙ is; next = λ l. absurd (omega arith) })
-
-      pub step-take : {g : ℕ} → v ≡ false → (g < 16) × (locksIn g ≡ set (locksIn h) b true) → Stepped h o g
-      step-take {g} e put =
-          subst (λ x. Stepped h x g) own-lock
-          (record { wrong = le-ltb 15 g (omega (arith, put .0)) ∙ sym e ∙ is; next = λ _. put .1 })
-
-    module _ (code : 6 ≡ fieldsOf o .code) where
-      own-unlock : Unlock b ≡ o
-      own-unlock = ap Unlock at ∙ sym (unlock-of o code)
-
-      pub step-release : {g : ℕ} → v ≡ true → (g < 16) × (locksIn g ≡ set (locksIn h) b false) → Stepped h o g
-      step-release {g} e put =
-          subst (λ x. Stepped h x g) own-unlock
-          (record { wrong = le-ltb 15 g (omega (arith, put .0)) ∙ ap not (sym e ∙ is); next = λ _. put .1 })
-
-      pub step-free : v ≡ false → Stepped h o 16
-      step-free e =
-          subst (λ x. Stepped h x 16) own-unlock
-          (record { wrong = ap not (sym e ∙ is); next = λ l. absurd (omega arith) })
+-- from its code and its operand b
+pub row-stepped : (h : ℕ) (o : Op) → h < 16
+    → Stepped h o (stepNumber h (bitFor (fieldsOf o .b)) (eqb (fieldsOf o .code) 5) (eqb (fieldsOf o .code) 6))
+row-stepped h (Set a c) small = same-set h 0 (Set a c) small refl refl
+row-stepped h (Add a b) small = same-set h b (Add a b) small refl refl
+row-stepped h (Load a b) small = same-set h b (Load a b) small refl refl
+row-stepped h (Store a b) small = same-set h b (Store a b) small refl refl
+row-stepped h (Lock b) small = record { wrong = take-wrong h small b; next = take-next h small b }
+row-stepped h (Unlock b) small = record { wrong = free-wrong h small b; next = free-next h small b }
+row-stepped h (Skip a q) small = same-set h 0 (Skip a q) small refl refl
 
 -- the set after one operation more
 heldFrom-suc : (h : List Bool) (ops : List Op) (p : ℕ) → p < length ops

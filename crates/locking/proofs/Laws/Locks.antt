@@ -1,48 +1,114 @@
 -- Laws of sets of locks as numbers below 16, and of what SKIPs lead to a position.
-use Prim.Native.Nat.{ℕ, zero, suc, _+_, _-_, _*_, _^_, _%_, _<_}
-use mathlib.Core.Path.{_≡_, refl, ap, sym, _∙_}
+use Prim.Native.Nat.{ℕ, _+_, _≤_, _<_}
+use mathlib.Core.Path.{_≡_, refl, ap, sym, subst, _∙_}
 use mathlib.Core.Bool.{Bool, true, false, not, cond}
+use mathlib.Core.List.{List, []}
 use native.Mathlib.Omega.{arith}
-use borrow.Author.Tests.{ltb-true, eq-eqb, ne-eqb, eqb-true, eqb-false}
-use lib.Bits.{bitOr, bitAnd}
+use native.Mathlib.Decide.{decLt}
+use borrow.Author.Tests.{ltb-true, lt-ltb, le-ltb, eq-eqb, ne-eqb, eqb-true, eqb-false}
 use lib.Dec.{eqb, ltb}
-use lib.ListN.{getD, set}
+use lib.ListN.{getD, set, List·getD-eq-default}
+use lib.Seq.{set-out}
 use Rattle.kernel.specs.Held.{same}
-use Rattle.locking.specs.Sets.{hasLock, locksIn, bring, partsLed}
+use Rattle.locking.specs.Sets.{bitFor, stepNumber, locksIn, bring, partsLed}
 use Rattle.kernel.proofs.Laws.Lists.{table-at}
-
--- the flag of a lock
-pub lock-at : (h l : ℕ) → l < 4 → hasLock h l ≡ getD (locksIn h) l false
-lock-at h zero e = refl
-lock-at h (suc zero) e = refl
-lock-at h (suc (suc zero)) e = refl
-lock-at h (suc (suc (suc zero))) e = refl
-lock-at h (suc (suc (suc (suc l)))) e = absurd (omega arith)
 
 -- Facts on sets and locks that one table of all of them has. Equal sets have equal numbers.
 pub locks-same : (h g : ℕ) → h < 16 → g < 16 → same (locksIn h) (locksIn g) ≡ eqb h g
 unfolding same
 locks-same = table-at (λ h g. same (locksIn h) (locksIn g)) eqb 16 16 refl
 
--- a lock goes in, and out
-abbrev put-in : ℕ → ℕ → ℕ
-put-in h l = bitOr h (1 * 2 ^ l % 256)
+-- the set of a number that no lock has, and that a set of one lock is small
+bit-far : (l : ℕ) → 4 ≤ l → bitFor l ≡ 0
+bit-far l far = rw (le-ltb l 4 far)
 
-abbrev put-out : ℕ → ℕ → ℕ
-put-out h l = bitAnd h (255 - 1 * 2 ^ l % 256)
+pub bit-small : (l : ℕ) → bitFor l < 16
+bit-small l = go (decLt l 4)
+  where
+    go : Dec (l < 4) → bitFor l < 16
+    go (yes near) =
+        ltb-true _ _ (table-at (λ (m n : ℕ). ltb (bitFor n) 16) (λ m n. true) 1 4 refl 0 l (omega arith) near)
+    go (no n) = omega (arith, bit-far l (omega arith))
 
-module _ (h l : ℕ) (small : h < 16) (near : l < 4) where
-  pub lock-in : (put-in h l < 16) × (locksIn (put-in h l) ≡ set (locksIn h) l true)
-  lock-in = (
-    ltb-true _ _ (table-at (λ g m. ltb (put-in g m) 16) (λ g m. true) 16 4 refl h l small near),
-    table-at (λ g m. locksIn (put-in g m)) (λ g m. set (locksIn g) m true) 16 4 refl h l small near,
-  )
+-- ## the set after an operation, by a table of all sets and locks
 
-  pub lock-out : (put-out h l < 16) × (locksIn (put-out h l) ≡ set (locksIn h) l false)
-  lock-out = (
-    ltb-true _ _ (table-at (λ g m. ltb (put-out g m) 16) (λ g m. true) 16 4 refl h l small near),
-    table-at (λ g m. locksIn (put-out g m)) (λ g m. set (locksIn g) m false) 16 4 refl h l small near,
-  )
+abbrev take1 : ℕ → ℕ → ℕ
+take1 h l = stepNumber h (bitFor l) true false
+
+abbrev free1 : ℕ → ℕ → ℕ
+free1 h l = stepNumber h (bitFor l) false true
+
+-- nothing is known of a set where the rule is broken
+abbrev known : ℕ → List Bool → List Bool
+known g x = cond (ltb 15 g) [] x
+
+is-known : (g : ℕ) (x y : List Bool) → known g x ≡ known g y → g < 16 → x ≡ y
+is-known g x y e small = subst (λ (b : Bool). cond b [] x ≡ cond b [] y) (le-ltb 15 g (omega arith)) e
+
+module _ (h : ℕ) (small : h < 16) where
+  set-far : (b : Bool) → stepNumber h 0 b false ≡ h
+  set-far true = table-at (λ (g m : ℕ). stepNumber g 0 true false) (λ g m. g) 16 1 refl h 0 small (omega arith)
+  set-far false = table-at (λ (g m : ℕ). stepNumber g 0 false false) (λ g m. g) 16 1 refl h 0 small (omega arith)
+
+  free-far : stepNumber h 0 false true ≡ 16 + h
+  free-far = table-at (λ (g m : ℕ). stepNumber g 0 false true) (λ g m. 16 + g) 16 1 refl h 0 small (omega arith)
+
+  pub step-other : (l : ℕ) → stepNumber h (bitFor l) false false ≡ h
+  step-other l = go (decLt l 4)
+    where
+      go : Dec (l < 4) → stepNumber h (bitFor l) false false ≡ h
+      go (yes near) =
+          table-at (λ (g m : ℕ). stepNumber g (bitFor m) false false) (λ g m. g) 16 4 refl h l small near
+      go (no n) = ap (λ (b : ℕ). stepNumber h b false false) (bit-far l (omega arith)) ∙ set-far false
+
+  pub take-wrong : (l : ℕ) → ltb 15 (take1 h l) ≡ getD (locksIn h) l false
+  take-wrong l = go (decLt l 4)
+    where
+      go : Dec (l < 4) → ltb 15 (take1 h l) ≡ getD (locksIn h) l false
+      go (yes near) =
+          table-at (λ (g m : ℕ). ltb 15 (take1 g m)) (λ g m. getD (locksIn g) m false) 16 4 refl h l small near
+      go (no n) =
+          let far : 4 ≤ l = omega arith in
+          ap (λ (b : ℕ). ltb 15 (stepNumber h b true false)) (bit-far l far)
+          ∙ ap (ltb 15) (set-far true)
+          ∙ le-ltb 15 h (omega arith)
+          ∙ sym (List·getD-eq-default (locksIn h) false far)
+
+  pub take-next : (l : ℕ) → take1 h l < 16 → locksIn (take1 h l) ≡ set (locksIn h) l true
+  take-next l below = go (decLt l 4)
+    where
+      go : Dec (l < 4) → locksIn (take1 h l) ≡ set (locksIn h) l true
+      go (yes near) =
+          is-known (take1 h l) _ _ (table-at (λ (g m : ℕ). known (take1 g m) (locksIn (take1 g m)))
+          (λ g m. known (take1 g m) (set (locksIn g) m true)) 16 4 refl h l small near) below
+      go (no n) =
+          ap (λ (b : ℕ). locksIn (stepNumber h b true false)) (bit-far l (omega arith))
+          ∙ ap locksIn (set-far true)
+          ∙ sym (set-out (locksIn h) l true (omega arith))
+
+  pub free-wrong : (l : ℕ) → ltb 15 (free1 h l) ≡ not (getD (locksIn h) l false)
+  free-wrong l = go (decLt l 4)
+    where
+      go : Dec (l < 4) → ltb 15 (free1 h l) ≡ not (getD (locksIn h) l false)
+      go (yes near) =
+          table-at (λ (g m : ℕ). ltb 15 (free1 g m)) (λ g m. not (getD (locksIn g) m false)) 16 4 refl h l small near
+      go (no n) =
+          let far : 4 ≤ l = omega arith in
+          ap (λ (b : ℕ). ltb 15 (stepNumber h b false true)) (bit-far l far)
+          ∙ ap (ltb 15) free-far
+          ∙ lt-ltb 15 (16 + h) (omega arith)
+          ∙ ap not (sym (List·getD-eq-default (locksIn h) false far))
+
+  pub free-next : (l : ℕ) → free1 h l < 16 → locksIn (free1 h l) ≡ set (locksIn h) l false
+  free-next l below = go (decLt l 4)
+    where
+      go : Dec (l < 4) → locksIn (free1 h l) ≡ set (locksIn h) l false
+      go (yes near) =
+          is-known (free1 h l) _ _ (table-at (λ (g m : ℕ). known (free1 g m) (locksIn (free1 g m)))
+          (λ g m. known (free1 g m) (set (locksIn g) m false)) 16 4 refl h l small near) below
+      go (no n) =
+          absurd
+          (omega (arith, ap (λ (b : ℕ). stepNumber h b false true) (bit-far l (omega arith)) ∙ free-far))
 
 -- what SKIPs led, and one SKIP more with the set g, at a position with the set h
 module _ (led g h : ℕ) (small : h < 16) where

@@ -28,7 +28,7 @@ use Rattle.sheet.specs.Put.{inTurn}
 use Rattle.rows.specs.Rows.{rowIn}
 use Rattle.rows.specs.Lanes.{fieldsOf, Holds}
 use Rattle.rows.proofs.Laws.Lanes.{held-bytes, held-fields}
-use Rattle.lowering.specs.Put.{standing, stepBytes, laneWith, rowIf, barrierRows, ownRow, stepRows, laneRows}
+use Rattle.laying.specs.Put.{standing, stepBytes, laneWith, rowIf, barrierRows, ownRow, stepRows, laneRows}
 use Rattle.lowering.proofs.Laws.Lane.{firstBytes, first-suc, first-all}
 
 -- the bytes of a step, barrier by barrier

@@ -14,7 +14,7 @@ use Rattle.sheet.specs.Layout.{Instr, op, barrier, Placed, start, aim, cells, s
 use Rattle.sheet.specs.Levels.{level1}
 use Rattle.sheet.specs.Bytes.{laneBytes}
 use Rattle.sheet.specs.Items.{TargetsWithin}
-use Rattle.lowering.specs.Put.{placedBy, stepBytes}
+use Rattle.laying.specs.Put.{placedBy, stepBytes}
 use Rattle.sheet.proofs.Laws.Aim.{aim-agrees}
 use Rattle.sheet.proofs.Laws.Rows.{bytes-append}
 use Rattle.sheet.proofs.LoweredLanes.{Stand, start-by}

@@ -12,7 +12,7 @@ use Rattle.kernel.specs.Linkage.{chain}
 use Rattle.kernel.specs.Accepted.{isVolatile, opsAt, programOf}
 use Rattle.kernel.proofs.Laws.Stored.{opsFrom-length}
 use Rattle.verdict.specs.Verdict.{verdict, accepted}
-use Rattle.verdict.proofs.Lawful.{accepted-lawful}
+use Rattle.lawful.proofs.Lawful.{accepted-lawful}
 use Rattle.sheet.specs.Layout.{Instr, sheet}
 use Rattle.sheet.specs.Levels.{level1, placed}
 use Rattle.sheet.specs.Bytes.{word, joined, laneBytes, headerBy, sheetBytes, over, writeInto}
@@ -73,7 +73,7 @@ module _ (s : List ℕ) (ok : verdict s ≡ accepted (programOf s)) where
     planned : {m : ℕ} → m ≡ mask s → (t : ℕ) → t < 4 → {r : Plan} → PlanIn rows m t r
         → Planned (isVolatile (mask s)) (opsAt s (head s t)) r
     planned em t h {r} plan =
-        subst (λ n. Planned (isVolatile n) (opsAt s (head s t)) r) em (plan (opsAt s (head s t)) (held t h))
+        subst (λ n. Planned (isVolatile n) (opsAt s (head s t)) r) em (plan .planned (opsAt s (head s t)) (held t h))
 
     text-is : (t : ℕ) → t < 4 → {r : Plan} → Planned (isVolatile (mask s)) (opsAt s (head s t)) r
         → laneText rows t (r .placement) ≡ lane1At s t

@@ -20,7 +20,7 @@ use Rattle.placement.proofs.Laws.Rows.{stands-behind}
 use Rattle.sheet.specs.Layout.{sheet}
 use Rattle.sheet.specs.Levels.{level1, placed, placeFrom}
 use Rattle.sheet.specs.Bytes.{laneBytes}
-use Rattle.lowering.specs.Put.{standing, placedBy, laneWith}
+use Rattle.laying.specs.Put.{standing, placedBy, laneWith}
 use Rattle.lowering.specs.Plan.{Planned}
 use Rattle.lowering.proofs.Laws.Lane.{lane-count}
 

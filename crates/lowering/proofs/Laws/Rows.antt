@@ -1,16 +1,15 @@
 -- Laws of each lane's rows in the buffer: where they lie, and what the code sees of them.
-use Prim.Native.Nat.{ℕ, zero, suc, _+_, _*_, _-_, _≤_, _<_}
-use mathlib.Core.Path.{_≡_, sym, ap, _∙_, subst}
+use Prim.Native.Nat.{ℕ, zero, suc, _+_, _*_, _≤_, _<_}
+use mathlib.Core.Path.{_≡_, sym, ap, subst}
 use mathlib.Core.List.{List}
 use native.Mathlib.Omega.{arith}
-use lib.ListN.{length, getD, take, drop}
-use Rattle.kernel.proofs.Laws.Lists.{part-from}
+use lib.ListN.{length, getD, drop}
 use Rattle.placement.specs.declared.place.Placement.{Placement}
 use Rattle.rows.specs.declared.parts.Parts.{Parts}
 use Rattle.rows.specs.Rows.{partsIn}
-use Rattle.sheet.proofs.Laws.Part.{part-length}
-use Rattle.lowering.specs.Put.{laneRows}
-use Rattle.lowering.specs.Rows.{Short, laneIn, countIn, laneText}
+use Rattle.laying.specs.Put.{laneRows}
+use Rattle.lowering.specs.declared.plan.Plan.{Plan}
+use Rattle.lowering.specs.Rows.{Short, countIn, PlanFor, PlanIn, laneText}
 
 module _ (rows : List ℕ) (ok : Short rows) where
   lane-inside : (t : ℕ) → t < 4 → getD (partsIn rows .from) t 0 + 8 * getD (partsIn rows .count) t 0 ≤ length rows
@@ -29,16 +28,13 @@ module _ (rows : List ℕ) (ok : Short rows) where
       go (suc (suc (suc zero))) h a b c d = omega (arith, ok .room)
       go (suc (suc (suc (suc t)))) h a b c d = absurd (omega arith)
 
-  -- the part `&rows[from..]` of lane t
+  -- lane t's rows, which begin at `from`
   module _ {p : Parts} (e : p ≡ partsIn rows) (t : ℕ) (h : t < 4) where
     abbrev from : ℕ
     from = getD (p .from) t 0
 
     abbrev count : ℕ
     count = getD (p .count) t 0
-
-    abbrev part : List ℕ
-    part = take (length rows - from) (drop from rows)
 
     pub part-few : count ≤ 64
     part-few = subst (λ (q : Parts). getD (q .count) t 0 ≤ 64) (sym e) (ok .few t h)
@@ -47,14 +43,8 @@ module _ (rows : List ℕ) (ok : Short rows) where
     part-inside =
         subst (λ (q : Parts). getD (q .from) t 0 + 8 * getD (q .count) t 0 ≤ length rows) (sym e) (lane-inside t h)
 
-    pub part-room : 8 * count ≤ length part
-    part-room = omega (arith, part-inside, part-length rows from (omega (arith, part-inside)))
+    pub part-plan : {m : ℕ} {r : Plan} → PlanFor (drop from rows) count m r → PlanIn rows m t r
+    part-plan {m} {r} = subst (λ (q : Parts). PlanFor (drop (getD (q .from) t 0) rows) (getD (q .count) t 0) m r) e
 
-    pub part-is : part ≡ laneIn rows t
-    part-is = part-from from rows ∙ ap (λ (q : Parts). drop (getD (q .from) t 0) rows) e
-
-    pub part-count : count ≡ countIn rows t
-    part-count = ap (λ (q : Parts). getD (q .count) t 0) e
-
-    pub part-text : (r : Placement) → laneRows r part count ≡ laneText rows t r
-    part-text r = λ i. laneRows r (part-is i) (part-count i)
+    pub part-text : (r : Placement) → laneRows r (drop from rows) count ≡ laneText rows t r
+    part-text r = ap (λ (q : Parts). laneRows r (drop (getD (q .from) t 0) rows) (getD (q .count) t 0)) e

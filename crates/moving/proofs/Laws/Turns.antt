@@ -11,11 +11,11 @@ use Rattle.sheet.specs.Layout.{op}
 use Rattle.machine.specs.Entries.{write, release}
 use Rattle.machine.specs.Step.{Control, Core, Turn, waits, refuses, passes, does, permits}
 use Rattle.machine.specs.State.{Lane, laneOf}
-use Rattle.pending.specs.declared.rules.Machine.{Machine as Coded}
+use Rattle.permitting.specs.declared.rules.Machine.{Machine as Coded}
 use Rattle.moving.specs.declared.Moved.{Moved}
 use Rattle.moving.specs.declared.Moved.the-variants.{Waited, Done, ReleaseNotHeld}
 use Rattle.pending.specs.Lanes.{entryOf}
-use Rattle.pending.specs.Machines.{machineIn}
+use Rattle.permitting.specs.Machines.{machineIn}
 use Rattle.moving.specs.States.{Rows, Sized, Became, Held, storeOf, coreIn, Took, Carried}
 
 pub took-wait : (s : Held) (t : ℕ) → Sized (s .rows) → Took s t waits Waited s

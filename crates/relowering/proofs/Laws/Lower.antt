@@ -7,7 +7,7 @@ use lib.ListN.{length, getD, drop, length-append, length-map}
 use Rattle.kernel.specs.Accepted.{Program}
 use Rattle.kernel.specs.Lawful.{Lawful}
 use Rattle.verdict.specs.Verdict.{refused, verdict}
-use Rattle.verdict.proofs.Lawful.{accepted-lawful}
+use Rattle.lawful.proofs.Lawful.{accepted-lawful}
 use Rattle.rows.specs.Rows.{countAt, partsIn}
 use Rattle.rows.proofs.Laws.Read.{rows-length}
 use Rattle.rows.proofs.Laws.Parts.{lane-rows}

@@ -17,7 +17,7 @@ use Rattle.sheet.proofs.Fitting.{Fits, LaneFits, lanes-fit}
 use Rattle.sheet.proofs.ReadBack.{read-back, rows-back, counts-back}
 use Rattle.rows.specs.Rows.{partsIn}
 use Rattle.rows.proofs.Laws.Parts.{before, begins, many, past}
-use Rattle.relowering.specs.Rows.{Proper}
+use Rattle.thinning.specs.Rows.{Proper}
 
 -- n rows, and lanes of so many rows each
 abbrev properRows : ℕ → List ℕ → Type 0

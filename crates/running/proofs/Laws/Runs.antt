@@ -16,12 +16,12 @@ use Rattle.machine.specs.Step.{Turn, waits, refuses, passes, does, turn}
 use Rattle.machine.specs.Schedule.{Move, move}
 use Rattle.machine.specs.State.{Lane, Loaded, Run, Outcome, ran, refused, coreOf, loadRow, applyTurn}
 use Rattle.machine.specs.State.{moveTurn, advance, run, begin}
-use Rattle.pending.specs.declared.rules.Machine.{Machine as Coded}
+use Rattle.permitting.specs.declared.rules.Machine.{Machine as Coded}
 use Rattle.running.specs.declared.run.Ended.{Ended}
 use Rattle.running.specs.declared.run.Ended.the-variants.{Ran, Refused}
 use Rattle.moving.specs.declared.Moved.{Moved}
 use Rattle.moving.specs.declared.Moved.the-variants.{Waited, Done, ReleaseNotHeld}
-use Rattle.pending.specs.Machines.{machineIn}
+use Rattle.permitting.specs.Machines.{machineIn}
 use Rattle.moving.specs.Ready.{LaneReady, Movable}
 use Rattle.running.specs.Runs.{Runs, outcomeBy, Ends}
 use Rattle.moving.proofs.Laws.States.{lane-in}

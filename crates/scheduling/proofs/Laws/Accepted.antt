@@ -13,7 +13,7 @@ use Rattle.kernel.proofs.Laws.Lists.{at-some}
 use Rattle.kernel.specs.Accepted.{Program}
 use Rattle.kernel.specs.Lawful.{Lawful}
 use Rattle.verdict.specs.Verdict.{verdict, accepted}
-use Rattle.verdict.proofs.Lawful.{accepted-lawful}
+use Rattle.lawful.proofs.Lawful.{accepted-lawful}
 use Rattle.sheet.specs.Layout.{Instr, rank}
 use Rattle.sheet.specs.Levels.{volatileIn}
 use Rattle.sheet.specs.Bytes.{over}
@@ -22,8 +22,8 @@ use Rattle.machine.specs.Schedule.{Move, move, limit, legal}
 use Rattle.machine.specs.State.{Run, Outcome, ran, refused, laneAt, posAt, setLane, loadRow, waitedMore, doneMore}
 use Rattle.machine.specs.State.{applyTurn, moveTurn, advance, begin}
 use Rattle.machine.specs.Run.{startOf, programFor, runOn}
-use Rattle.pending.specs.declared.rules.Machine.{Machine as Coded}
-use Rattle.pending.specs.Machines.{machineIn}
+use Rattle.permitting.specs.declared.rules.Machine.{Machine as Coded}
+use Rattle.permitting.specs.Machines.{machineIn}
 use Rattle.moving.specs.Ready.{LaneReady}
 use Rattle.running.specs.Runs.{ProgramAt}
 use Rattle.reached.proofs.Named.{legal-named, legal-take}
@@ -32,11 +32,11 @@ use Rattle.reached.proofs.Reached.{reached-ready}
 use Rattle.starting.specs.Programs.{programBytes}
 use Rattle.starting.proofs.Laws.Programs.{header-read, program-at}
 use Rattle.starting.proofs.Laws.Start.{zeroed-start}
-use Rattle.scheduling.specs.declared.moves.Move.{Move as Declared}
-use Rattle.scheduling.specs.declared.progress.Progress.{Progress}
-use Rattle.scheduling.specs.Stands.{Stand, underway, outside, standOf, fromAt, rowsAt, movable}
-use Rattle.scheduling.specs.Stands.{turnBy, stepped, moved, moveIn, Follows, freshState, Fresh}
-use Rattle.scheduling.proofs.Laws.Ready.{lane-ready}
+use Rattle.progress.specs.declared.moves.Move.{Move as Declared}
+use Rattle.progress.specs.declared.progress.Progress.{Progress}
+use Rattle.progress.specs.Stands.{Stand, underway, outside, standOf, fromAt, rowsAt, movable}
+use Rattle.progress.specs.Stands.{turnBy, stepped, moved, moveIn, Follows, freshState, Fresh}
+use Rattle.progress.proofs.Laws.Ready.{lane-ready}
 
 module _ (s : List ℕ) (k : Program) (e : verdict s ≡ accepted k) (m : Coded) (rows own : List ℕ)
     (room : 4112 ≤ length own) (front : rows ≡ over (programBytes (machineIn m) k) own) where

@@ -5,11 +5,11 @@ use mathlib.Core.List.{List, [], _∷_, map, foldl, foldl-append, map-append}
 use lib.ListN.{length, getD, take}
 use lib.Seq.{take-suc, take-all}
 use Rattle.pending.specs.Lanes.{flags}
-use Rattle.pending.specs.Machines.{machineIn}
-use Rattle.scheduling.specs.declared.moves.Move.{Move}
-use Rattle.scheduling.specs.declared.progress.Progress.{Progress}
-use Rattle.scheduling.specs.Stands.{Stand, standOf, moved, moveIn, Alike, Follows}
-use Rattle.scheduling.proofs.Laws.Turned.{same}
+use Rattle.permitting.specs.Machines.{machineIn}
+use Rattle.progress.specs.declared.moves.Move.{Move}
+use Rattle.progress.specs.declared.progress.Progress.{Progress}
+use Rattle.progress.specs.Stands.{Stand, standOf, moved, moveIn, Alike, Follows}
+use Rattle.progress.proofs.Laws.Turned.{same}
 
 pub no-moves : (rows : List ℕ) (x : Progress) → Follows rows [] x x
 no-moves rows x = record { alike = same x; stands = refl }

@@ -8,15 +8,15 @@ use native.Mathlib.Omega.{arith}
 use lib.ListN.{length, getD, drop}
 use Rattle.kernel.specs.Accepted.{Program}
 use Rattle.kernel.specs.Lawful.{Lawful}
-use Rattle.verdict.proofs.Lawful.{accepted-lawful}
+use Rattle.lawful.proofs.Lawful.{accepted-lawful}
 use Rattle.sheet.specs.Layout.{Instr, rank}
 use Rattle.machine.specs.Schedule.{Move, limit, legal}
 use Rattle.machine.specs.State.{State, Outcome, run, begin}
 use Rattle.machine.specs.Run.{answerOf, startOf, programFor, runOn, runProgram}
 use Rattle.machine.specs.View.{finished}
 use Rattle.rows.proofs.Laws.Read.{rows-length}
-use Rattle.pending.specs.declared.rules.Machine.{Machine as Coded}
-use Rattle.pending.specs.Machines.{machineIn}
+use Rattle.permitting.specs.declared.rules.Machine.{Machine as Coded}
+use Rattle.permitting.specs.Machines.{machineIn}
 use Rattle.moving.specs.States.{Held, stateIn}
 use Rattle.running.specs.declared.run.Ended.{Ended}
 use Rattle.running.specs.declared.run.Ended.the-variants.{Ran, Refused}

@@ -8,14 +8,14 @@ use lib.ListN.{length, getD, take, drop, replicate, length-replicate}
 use lib.Pow.{pow-mono}
 use Rattle.kernel.specs.Accepted.{Program, isVolatile}
 use Rattle.kernel.specs.Lawful.{Lawful}
-use Rattle.verdict.proofs.Lawful.{accepted-lawful}
+use Rattle.lawful.proofs.Lawful.{accepted-lawful}
 use Rattle.machine.specs.Run.{startOf, programFor}
 use Rattle.machine.specs.Moves.{movesIn}
 use Rattle.rows.specs.declared.parts.Parts.{Parts}
 use Rattle.rows.specs.Rows.{partsIn}
-use Rattle.pending.specs.declared.rules.Machine.{Machine as Coded}
+use Rattle.permitting.specs.declared.rules.Machine.{Machine as Coded}
 use Rattle.pending.specs.Lanes.{startLane}
-use Rattle.pending.specs.Machines.{machineIn}
+use Rattle.permitting.specs.Machines.{machineIn}
 use Rattle.moving.specs.States.{Held, Sized, heldIn, stateIn}
 use Rattle.running.specs.Runs.{ProgramAt}
 use Rattle.starting.specs.Programs.{programBytes}

@@ -8,10 +8,10 @@ use lib.ListN.{getD, set}
 use Rattle.machine.specs.Rules.{mayLoad, sees}
 use Rattle.pending.specs.declared.lane.Lane.{Lane}
 use Rattle.pending.specs.Lanes.{flags, laneIn}
-use Rattle.pending.specs.Machines.{machineIn}
+use Rattle.permitting.specs.Machines.{machineIn}
 use Rattle.moving.specs.States.{rowsOf}
 use Rattle.pending.proofs.Laws.Lanes.{lane-eq}
-use Rattle.pending.proofs.Laws.Rules.{denied, granted}
+use Rattle.permitting.proofs.Laws.Rules.{denied, granted}
 use Rattle.moving.proofs.Laws.States.{next-of}
 use Rattle.moving.proofs.Laws.Turns.{took-wait, took-does, became}
 use borrow.Author.Needs.{needs}

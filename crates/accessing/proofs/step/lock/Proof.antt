@@ -10,10 +10,10 @@ use Rattle.kernel.specs.declared.accepted.Op.the-variants.{Lock}
 use Rattle.machine.specs.Rules.{mayLock}
 use Rattle.pending.specs.declared.lane.Lane.{Lane}
 use Rattle.pending.specs.Lanes.{flags, laneIn}
-use Rattle.pending.specs.Machines.{machineIn}
+use Rattle.permitting.specs.Machines.{machineIn}
 use Rattle.moving.specs.States.{rowsOf, laneOf}
 use Rattle.pending.proofs.Laws.Lanes.{lane-eq}
-use Rattle.pending.proofs.Laws.Rules.{denied, granted}
+use Rattle.permitting.proofs.Laws.Rules.{denied, granted}
 use Rattle.moving.proofs.Laws.States.{next-of, went}
 use Rattle.moving.proofs.Laws.Turns.{not-permitted, took-does, became, left-locks}
 use borrow.Author.Needs.{needs}

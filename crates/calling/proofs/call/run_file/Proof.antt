@@ -6,7 +6,7 @@ use native.Mathlib.Omega.{arith}
 use lib.ListN.{replicate}
 use borrow.Author.Tests.{not-true, not-false}
 use Rattle.sheet.proofs.Answers.{BytesIn}
-use Rattle.pending.specs.Machines.{machineIn}
+use Rattle.permitting.specs.Machines.{machineIn}
 use Rattle.starting.specs.Programs.{programBytes}
 use Rattle.calling.proofs.Laws.Files.{file-refused, file-accepted, short-buffer, odd-moves, illegal-moves}
 use Rattle.calling.proofs.Laws.Files.{Takes, takes-place}

@@ -1,8 +1,8 @@
 -- `calling::program::program_of` meets its contract.
 use mathlib.Core.Path.{sym, ap, _∙_}
 use Rattle.verdict.specs.Verdict.{verdict}
-use Rattle.pending.specs.declared.rules.Machine.{Machine}
-use Rattle.pending.specs.Machines.{machineIn}
+use Rattle.permitting.specs.declared.rules.Machine.{Machine}
+use Rattle.permitting.specs.Machines.{machineIn}
 use Rattle.starting.specs.Programs.{programBy}
 use borrow.Author.Needs.{needs}
 use Rattle.calling.proofs.program.program_of.Statement.{statement}

@@ -5,10 +5,10 @@ use native.Mathlib.Omega.{arith}
 use Rattle.machine.specs.Rules.{mayPass}
 use Rattle.pending.specs.declared.lane.Lane.{Lane}
 use Rattle.pending.specs.Lanes.{laneIn}
-use Rattle.pending.specs.Machines.{machineIn}
+use Rattle.permitting.specs.Machines.{machineIn}
 use Rattle.moving.specs.States.{rowsOf}
 use Rattle.pending.proofs.Laws.Lanes.{lane-eq}
-use Rattle.pending.proofs.Laws.Rules.{denied, granted}
+use Rattle.permitting.proofs.Laws.Rules.{denied, granted}
 use Rattle.moving.proofs.Laws.States.{next-of, went}
 use Rattle.moving.proofs.Laws.Turns.{took-wait, took-passes, became}
 use borrow.Author.Needs.{needs}

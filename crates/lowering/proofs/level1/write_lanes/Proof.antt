@@ -1,71 +1,144 @@
 -- `lowering::level1::write_lanes` meets its contract. What is written is the lanes one behind the other.
+use mathlib.Core.Path.{ap}
 use native.Mathlib.Omega.{arith}
+use lib.ListN.{length}
+use Rattle.sheet.proofs.Laws.Put.{puts-as}
 use Rattle.sheet.proofs.Laws.Turn.{turn-none, turn-on, turn-fits}
 use Rattle.lowering.specs.Rows.{lanesText}
+use Rattle.lowering.proofs.Laws.Rows.{part-few, part-inside, part-text}
 use borrow.Author.Needs.{needs}
 use Rattle.lowering.proofs.level1.write_lanes.Statement.{statement}
 use Rattle.lowering.proofs.level1.write_lanes.Tie as tie
 
+array-read-put-lane : tie.Need-array-read-put-lane
+array-read-put-lane c = search needs
+
+array-read-put-lane-2 : tie.Need-array-read-put-lane-2
+array-read-put-lane-2 c = search needs
+
 put-lane-requires : tie.Need-put-lane-requires
 put-lane-requires c κs =
-    let a = c .before .before .before in
+    let a = c .before .before .before .before .before in
     let text = lanesText (a .args .rows .now) (a .args .first) (a .args .second) (a .args .third) (a .args .fourth) in
+    let is = part-text (a .args .rows .now) (a .pre .0 .0) (a .pre .0 .1) in
     let t0 = turn-none text {buffer = a .args .out .now} {i = 16} in
-    ((omega arith, a .pre .0 .0, a .pre .0 .1), turn-fits text 4 0 (a .pre .1) (omega arith) t0 .1)
+    let size = ap length (is 0 (omega arith) (a .args .first)) in (
+      (
+        part-few (a .args .rows .now) (a .pre .0 .0) (a .pre .0 .1) 0 (omega arith),
+        part-inside (a .args .rows .now) (a .pre .0 .0) (a .pre .0 .1) 0 (omega arith),
+      ),
+      omega (arith, size, turn-fits text 4 0 (a .pre .1) (omega arith) t0 .1),
+    )
+
+array-read-put-lane-3 : tie.Need-array-read-put-lane-3
+array-read-put-lane-3 c = search needs
+
+array-read-put-lane-4 : tie.Need-array-read-put-lane-4
+array-read-put-lane-4 c = search needs
 
 put-lane-requires-2 : tie.Need-put-lane-requires-2
 put-lane-requires-2 c κs =
-    let p1 = c .before .before .before in
-    let a = p1 .before .before .before .before in
+    let a = c .before .before .before .before .before .before .before .before .before in
     let text = lanesText (a .args .rows .now) (a .args .first) (a .args .second) (a .args .third) (a .args .fourth) in
-    let t1 = turn-on text 0 (turn-none text) (p1 .put-lane .ensures) in
-    ((omega arith, a .pre .0 .0, a .pre .0 .1), turn-fits text 4 1 (a .pre .1) (omega arith) t1 .1)
+    let is = part-text (a .args .rows .now) (a .pre .0 .0) (a .pre .0 .1) in
+    let t0 = turn-none text {buffer = a .args .out .now} {i = 16} in
+    let t1 = turn-on text 0 t0 (puts-as (is 0 (omega arith) (a .args .first)) (c .before .before
+    .before .put-lane .ensures)) in
+    let size = ap length (is 1 (omega arith) (a .args .second)) in (
+      (
+        part-few (a .args .rows .now) (a .pre .0 .0) (a .pre .0 .1) 1 (omega arith),
+        part-inside (a .args .rows .now) (a .pre .0 .0) (a .pre .0 .1) 1 (omega arith),
+      ),
+      omega (arith, size, turn-fits text 4 1 (a .pre .1) (omega arith) t1 .1),
+    )
+
+array-read-put-lane-5 : tie.Need-array-read-put-lane-5
+array-read-put-lane-5 c = search needs
+
+array-read-put-lane-6 : tie.Need-array-read-put-lane-6
+array-read-put-lane-6 c = search needs
 
 put-lane-requires-3 : tie.Need-put-lane-requires-3
 put-lane-requires-3 c κs =
-    let p2 = c .before .before .before in
-    let p1 = p2 .before .before .before .before in
-    let a = p1 .before .before .before .before in
+    let a = c .before .before .before .before .before .before .before .before .before .before .before
+    .before .before in
     let text = lanesText (a .args .rows .now) (a .args .first) (a .args .second) (a .args .third) (a .args .fourth) in
-    let t1 = turn-on text 0 (turn-none text) (p1 .put-lane .ensures) in
-    let t2 = turn-on text 1 t1 (p2 .put-lane2 .ensures) in
-    ((omega arith, a .pre .0 .0, a .pre .0 .1), turn-fits text 4 2 (a .pre .1) (omega arith) t2 .1)
+    let is = part-text (a .args .rows .now) (a .pre .0 .0) (a .pre .0 .1) in
+    let t0 = turn-none text {buffer = a .args .out .now} {i = 16} in
+    let t1 = turn-on text 0 t0 (puts-as (is 0 (omega arith) (a .args .first)) (c .before .before .before
+    .before .before .before .before .put-lane .ensures)) in
+    let t2 = turn-on text 1 t1 (puts-as (is 1 (omega arith) (a .args .second)) (c .before .before
+    .before .put-lane2 .ensures)) in
+    let size = ap length (is 2 (omega arith) (a .args .third)) in (
+      (
+        part-few (a .args .rows .now) (a .pre .0 .0) (a .pre .0 .1) 2 (omega arith),
+        part-inside (a .args .rows .now) (a .pre .0 .0) (a .pre .0 .1) 2 (omega arith),
+      ),
+      omega (arith, size, turn-fits text 4 2 (a .pre .1) (omega arith) t2 .1),
+    )
+
+array-read-put-lane-7 : tie.Need-array-read-put-lane-7
+array-read-put-lane-7 c = search needs
+
+array-read-put-lane-8 : tie.Need-array-read-put-lane-8
+array-read-put-lane-8 c = search needs
 
 put-lane-requires-4 : tie.Need-put-lane-requires-4
 put-lane-requires-4 c κs =
-    let p3 = c .before .before .before in
-    let p2 = p3 .before .before .before .before in
-    let p1 = p2 .before .before .before .before in
-    let a = p1 .before .before .before .before in
+    let a = c .before .before .before .before .before .before .before .before .before .before .before
+    .before .before .before .before .before .before in
     let text = lanesText (a .args .rows .now) (a .args .first) (a .args .second) (a .args .third) (a .args .fourth) in
-    let t1 = turn-on text 0 (turn-none text) (p1 .put-lane .ensures) in
-    let t2 = turn-on text 1 t1 (p2 .put-lane2 .ensures) in
-    let t3 = turn-on text 2 t2 (p3 .put-lane3 .ensures) in
-    ((omega arith, a .pre .0 .0, a .pre .0 .1), turn-fits text 4 3 (a .pre .1) (omega arith) t3 .1)
+    let is = part-text (a .args .rows .now) (a .pre .0 .0) (a .pre .0 .1) in
+    let t0 = turn-none text {buffer = a .args .out .now} {i = 16} in
+    let t1 = turn-on text 0 t0 (puts-as (is 0 (omega arith) (a .args .first)) (c .before .before .before
+    .before .before .before .before .before .before .before .before .put-lane .ensures)) in
+    let t2 = turn-on text 1 t1 (puts-as (is 1 (omega arith) (a .args .second)) (c .before .before .before
+    .before .before .before .before .put-lane2 .ensures)) in
+    let t3 = turn-on text 2 t2 (puts-as (is 2 (omega arith) (a .args .third)) (c .before .before
+    .before .put-lane3 .ensures)) in
+    let size = ap length (is 3 (omega arith) (a .args .fourth)) in (
+      (
+        part-few (a .args .rows .now) (a .pre .0 .0) (a .pre .0 .1) 3 (omega arith),
+        part-inside (a .args .rows .now) (a .pre .0 .0) (a .pre .0 .1) 3 (omega arith),
+      ),
+      omega (arith, size, turn-fits text 4 3 (a .pre .1) (omega arith) t3 .1),
+    )
 
 same-length : tie.Need-same-length
 same-length c = search needs
 
 returns : tie.Need-returns
 returns c =
-    let p4 = c .before .before in
-    let p3 = p4 .before .before .before .before in
-    let p2 = p3 .before .before .before .before in
-    let p1 = p2 .before .before .before .before in
-    let a = p1 .before .before .before .before in
+    let a = c .before .before .before .before .before .before .before .before .before .before .before
+    .before .before .before .before .before .before .before .before .before in
     let text = lanesText (a .args .rows .now) (a .args .first) (a .args .second) (a .args .third) (a .args .fourth) in
-    let t1 = turn-on text 0 (turn-none text) (p1 .put-lane .ensures) in
-    let t2 = turn-on text 1 t1 (p2 .put-lane2 .ensures) in
-    let t3 = turn-on text 2 t2 (p3 .put-lane3 .ensures) in
-    turn-on text 3 t3 (p4 .put-lane4 .ensures) .bytes
+    let is = part-text (a .args .rows .now) (a .pre .0 .0) (a .pre .0 .1) in
+    let t0 = turn-none text {buffer = a .args .out .now} {i = 16} in
+    let t1 = turn-on text 0 t0 (puts-as (is 0 (omega arith) (a .args .first)) (c .before .before .before
+    .before .before .before .before .before .before .before .before .before .before .before .put-lane .ensures)) in
+    let t2 = turn-on text 1 t1 (puts-as (is 1 (omega arith) (a .args .second)) (c .before .before .before
+    .before .before .before .before .before .before .before .put-lane2 .ensures)) in
+    let t3 = turn-on text 2 t2 (puts-as (is 2 (omega arith) (a .args .third)) (c .before .before .before
+    .before .before .before .put-lane3 .ensures)) in
+    let t4 = turn-on text 3 t3 (puts-as (is 3 (omega arith) (a .args .fourth)) (c .before
+    .before .put-lane4 .ensures)) in
+    t4 .bytes
 
 pub write-lanes-spec : {M : Type 1} → statement M
 write-lanes-spec =
     tie.close
     (tie.spec
+    array-read-put-lane
+    array-read-put-lane-2
     put-lane-requires
+    array-read-put-lane-3
+    array-read-put-lane-4
     put-lane-requires-2
+    array-read-put-lane-5
+    array-read-put-lane-6
     put-lane-requires-3
+    array-read-put-lane-7
+    array-read-put-lane-8
     put-lane-requires-4
     same-length
     returns)

@@ -18,25 +18,10 @@ cast-mask c = search needs
 parts-of-requires : tie.Need-parts-of-requires
 parts-of-requires c κs = search needs
 
-plan-at-requires : tie.Need-plan-at-requires
-plan-at-requires c κs =
+plan-lanes-requires : tie.Need-plan-lanes-requires
+plan-lanes-requires c κs =
     let a = c .before .before .before .before .before in
-    (omega arith, chains-short (a .args .s .now) (a .pre .0) (a .pre .1), c .parts-of .ensures)
-
-plan-at-requires-2 : tie.Need-plan-at-requires-2
-plan-at-requires-2 c κs =
-    let a = c .before .before .before .before .before .before in
-    (omega arith, chains-short (a .args .s .now) (a .pre .0) (a .pre .1), c .before .parts-of .ensures)
-
-plan-at-requires-3 : tie.Need-plan-at-requires-3
-plan-at-requires-3 c κs =
-    let a = c .before .before .before .before .before .before .before in
-    (omega arith, chains-short (a .args .s .now) (a .pre .0) (a .pre .1), c .before .before .parts-of .ensures)
-
-plan-at-requires-4 : tie.Need-plan-at-requires-4
-plan-at-requires-4 c κs =
-    let a = c .before .before .before .before .before .before .before .before in
-    (omega arith, chains-short (a .args .s .now) (a .pre .0) (a .pre .1), c .before .before .before .parts-of .ensures)
+    (chains-short (a .args .s .now) (a .pre .0) (a .pre .1), c .parts-of .ensures)
 
 add-total : tie.Need-add-total
 add-total c = search needs
@@ -55,15 +40,12 @@ add-total-4 c = search needs
 
 returns : tie.Need-returns
 returns c =
-    let p = c .before .before .before .before .before in
-    let a = p .before .before .before .before .before .before .before .before .before in
+    let p = c .before .before .before .before .before .before .before .before .before in
+    let a = p .before .before .before .before .before .before in
     let s = a .args .s .now in
-    let em = p .before .before .before .before .before .word-at .ensures .0 in
-    let pa = p .before .before .before .plan-at .ensures .0 in
-    let pb = p .before .before .plan-at2 .ensures .0 in
-    let pc = p .before .plan-at3 .ensures .0 in
-    let pd = p .plan-at4 .ensures .0 in
-    let size = size-by s (a .pre .0) (a .pre .1) em pa pb pc pd in
+    let em = p .before .before .word-at .ensures .0 in
+    let q = p .plan-lanes .ensures in
+    let size = size-by s (a .pre .0) (a .pre .1) em (q .first) (q .second) (q .third) (q .fourth) in
     (size, ap (λ x. x .1) (sym (short-untouched (sheet1 s) (a .args .out .now) (omega (arith, size, c .if1 .taken)))))
 
 byte-at-requires : tie.Need-byte-at-requires
@@ -83,21 +65,18 @@ put-counts-requires c κs = search needs
 
 write-lanes-requires : tie.Need-write-lanes-requires
 write-lanes-requires c κs =
-    let f = c .before .before .before .before .before .before .before in
-    let i = f .before .before .before .before .before in
-    let p = i .before .before .before .before .before in
-    let a = p .before .before .before .before .before .before .before .before .before in
+    let p = c .before .before .before .before .before .before .before .before .before .before .before
+    .before .before .before .before .before .before .before .before .before .before in
+    let a = p .before .before .before .before .before .before in
     let s = a .args .s .now in
-    let em = p .before .before .before .before .before .word-at .ensures .0 in
-    let pa = p .before .before .before .plan-at .ensures .0 in
-    let pb = p .before .before .plan-at2 .ensures .0 in
-    let pc = p .before .plan-at3 .ensures .0 in
-    let pd = p .plan-at4 .ensures .0 in
-    let size = size-by s (a .pre .0) (a .pre .1) em pa pb pc pd in
-    let room = room-by s (a .pre .0) (a .pre .1) em pa pb pc pd in
-    let first = laid-length _ _ _ (f .put-first .ensures) in
+    let em = p .before .before .word-at .ensures .0 in
+    let q = p .plan-lanes .ensures in
+    let size = size-by s (a .pre .0) (a .pre .1) em (q .first) (q .second) (q .third) (q .fourth) in
+    let i = c .before .before .before .before .before .before .before .before .before .before .before .before in
+    let room = room-by s (a .pre .0) (a .pre .1) em (q .first) (q .second) (q .third) (q .fourth) in
+    let first = laid-length _ _ _ (c .before .before .before .before .before .before .before .put-first .ensures) in
     let counts = laid-length _ _ _ (c .before .before .before .put-counts .ensures) in (
-      (chains-short s (a .pre .0) (a .pre .1), p .before .before .before .before .parts-of .ensures),
+      (chains-short s (a .pre .0) (a .pre .1), p .before .parts-of .ensures),
       omega (arith, size, room, i .if1 .left, first, counts),
     )
 
@@ -106,23 +85,22 @@ same-length c = search needs
 
 returns-2 : tie.Need-returns-2
 returns-2 c =
-    let n = c .before .before .before .before .before .before in
-    let f = n .before .before .before .before in
-    let i = f .before .before .before .before .before in
-    let p = i .before .before .before .before .before in
-    let a = p .before .before .before .before .before .before .before .before .before in
+    let p = c .before .before .before .before .before .before .before .before .before .before .before
+    .before .before .before .before .before .before .before .before .before .before .before .before .before in
+    let a = p .before .before .before .before .before .before in
     let s = a .args .s .now in
-    let em = p .before .before .before .before .before .word-at .ensures .0 in
-    let pa = p .before .before .before .plan-at .ensures .0 in
-    let pb = p .before .before .plan-at2 .ensures .0 in
-    let pc = p .before .plan-at3 .ensures .0 in
-    let pd = p .plan-at4 .ensures .0 in
-    let size = size-by s (a .pre .0) (a .pre .1) em pa pb pc pd in (
+    let em = p .before .before .word-at .ensures .0 in
+    let q = p .plan-lanes .ensures in
+    let size = size-by s (a .pre .0) (a .pre .1) em (q .first) (q .second) (q .third) (q .fourth) in
+    let i = c .before .before .before .before .before .before .before .before .before .before .before .before
+    .before .before .before in
+    let f = c .before .before .before .before .before .before .before .before .before .before in (
       size,
-      sheet-put s (a .pre .0) (a .pre .1) em pa pb pc pd
+      sheet-put s (a .pre .0) (a .pre .1) em (q .first) (q .second) (q .third) (q .fourth)
           (f .before .before .before .byte-at .ensures) (f .before .before .byte-at2 .ensures)
           (f .before .byte-at3 .ensures) (a .args .out .now) (omega (arith, size, i .if1 .left))
-          (f .put-first .ensures) (n .put-counts .ensures) (c .before .before .write-lanes .ensures),
+          (f .put-first .ensures) (c .before .before .before .before .before .before .put-counts .ensures)
+          (c .before .before .write-lanes .ensures),
     )
 
 pub write-level1-spec : {M : Type 1} → statement M
@@ -132,10 +110,7 @@ write-level1-spec =
     word-at-requires
     cast-mask
     parts-of-requires
-    plan-at-requires
-    plan-at-requires-2
-    plan-at-requires-3
-    plan-at-requires-4
+    plan-lanes-requires
     add-total
     add-total-2
     add-total-3

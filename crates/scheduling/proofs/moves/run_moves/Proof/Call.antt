@@ -31,13 +31,13 @@ use denote.Triple.Spec.{tripleOf}
 use denote.Triple.Walked.{says, Stays, stay-none-slice, stay-none, walkOf, ends-at}
 use denote.Triple.Clauses.{ensured, lasts}
 use denote.Exit.{yes}
-use Rattle.scheduling.specs.declared.moves.Move.{Move}
-use Rattle.scheduling.specs.declared.progress.Progress.{Progress}
-use Rattle.scheduling.specs.Stands.{Follows}
-use Rattle.scheduling.proofs.moves.Move as Mv
-use Rattle.scheduling.proofs.progress.Progress as T
-use Rattle.scheduling.proofs.progress.Progress.Laws as T′
-use Rattle.scheduling.proofs.progress.fold_move as fold-move
+use Rattle.progress.specs.declared.moves.Move.{Move}
+use Rattle.progress.specs.declared.progress.Progress.{Progress}
+use Rattle.progress.specs.Stands.{Follows}
+use Rattle.progress.proofs.moves.Move as Mv
+use Rattle.progress.proofs.progress.Progress as T
+use Rattle.progress.proofs.progress.Progress.Laws as T′
+use Rattle.progress.proofs.progress.fold_move as fold-move
 use Rattle.scheduling.proofs.moves.run_moves as run-moves
 use Rattle.scheduling.proofs.moves.run_moves.Code.Mir.{table}
 

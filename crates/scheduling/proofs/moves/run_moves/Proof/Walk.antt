@@ -41,15 +41,15 @@ use denote.Triple.Statement.{Triple}
 use denote.Triple.Call.{calls-at}
 use denote.Triple.Entry.{Vals, onEntry}
 use borrow.Author.Tests.{lt-ltb, le-ltb}
-use Rattle.scheduling.specs.declared.moves.Move.{Move}
-use Rattle.scheduling.specs.declared.progress.Progress.{Progress}
-use Rattle.scheduling.specs.Stands.{Follows}
+use Rattle.progress.specs.declared.moves.Move.{Move}
+use Rattle.progress.specs.declared.progress.Progress.{Progress}
+use Rattle.progress.specs.Stands.{Follows}
 use Rattle.scheduling.proofs.Laws.Schedules.{no-moves, one-more, all-moves}
-use Rattle.scheduling.proofs.moves.Move as Mv
-use Rattle.scheduling.proofs.moves.Move.Laws as Mv′
-use Rattle.scheduling.proofs.progress.Progress as T
-use Rattle.scheduling.proofs.progress.Progress.Laws as T′
-use Rattle.scheduling.proofs.progress.fold_move.Symbol.{name as #fold-move}
+use Rattle.progress.proofs.moves.Move as Mv
+use Rattle.progress.proofs.moves.Move.Laws as Mv′
+use Rattle.progress.proofs.progress.Progress as T
+use Rattle.progress.proofs.progress.Progress.Laws as T′
+use Rattle.progress.proofs.progress.fold_move.Symbol.{name as #fold-move}
 use Rattle.scheduling.proofs.moves.run_moves as run-moves
 use Rattle.scheduling.proofs.moves.run_moves.Proof.Call.{bytes, slice, word, state, move′, sliceOf}
 use Rattle.scheduling.proofs.moves.run_moves.Proof.Call.{stateOf, Own₀, Own, Fold, at, Post, exits, to}

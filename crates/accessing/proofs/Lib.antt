@@ -1,2 +1,0 @@
--- Laws of moves that reach memory, locks or the pending list.
-pub mod Laws

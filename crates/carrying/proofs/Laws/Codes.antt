@@ -1,0 +1,26 @@
+-- Laws of the instruction of a sheet row, and of what is said of equal instructions.
+use Prim.Native.Nat.{ℕ}
+use mathlib.Core.Path.{_≡_, refl, ap, sym, subst}
+use mathlib.Core.Bool.{Bool, true, false, cond}
+use lib.Dec.{eqb}
+use borrow.Author.Tests.{ne-eqb}
+use Rattle.placement.specs.declared.cookbook.Barrier.{Barrier}
+use Rattle.placement.specs.declared.cookbook.Barrier.the-variants.{LL, LS, SS, SL}
+use Rattle.sheet.specs.Layout.{Instr, barrier}
+use Rattle.rows.specs.declared.read.Row.{Row}
+use Rattle.sheet.specs.Read.{instrBy}
+use Rattle.permitting.specs.declared.rules.Machine.{Machine as Coded}
+use Rattle.moving.specs.declared.Moved.{Moved}
+use Rattle.moving.specs.Ready.{Ready}
+use Rattle.moving.specs.States.{Rows, Held, Carried}
+
+-- the instruction of a row
+pub of-row : {x y : Row} → x ≡ y → instrBy (x .code) (x .a) (x .b) (x .word) ≡ instrBy (y .code) (y .a) (y .b) (y .word)
+of-row e = ap (λ (r : Row). instrBy (r .code) (r .a) (r .b) (r .word)) e
+
+pub ready-as : {r : Rows} {t : ℕ} {i j : Instr} → i ≡ j → Ready r t j → Ready r t i
+ready-as {r} {t} e h = subst (Ready r t) (sym e) h
+
+pub carried-as : (m : Coded) (f : ℕ → Bool) {i j : Instr} {t : ℕ} {s e : Held} {q : Moved} → i ≡ j
+    → Carried m f i t s q e → Carried m f j t s q e
+carried-as m f {t = t} {s} {e} {q} p h = subst (λ i. Carried m f i t s q e) p h

@@ -1,0 +1,2 @@
+-- Laws: Commits a commit on borrowed rows.
+pub mod Commits

@@ -1,0 +1,2 @@
+// A lane's commit of a pending entry.
+pub mod commit;

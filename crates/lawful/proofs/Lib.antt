@@ -1,0 +1,6 @@
+-- Theorems on the verdict: Lawful every accepted kernel is lawful, Adequate two checks of the definitions, Named
+-- what a refusal names, Front how many bytes decide.
+pub mod Lawful
+pub mod Adequate
+pub mod Named
+pub mod Front

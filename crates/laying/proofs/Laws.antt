@@ -1,0 +1,4 @@
+-- Laws by subject.
+pub mod Put
+pub mod Begins
+pub mod Starts

@@ -1,0 +1,2 @@
+-- Laws of laying out a lane.
+pub mod Laws

@@ -1,0 +1,2 @@
+-- What the code writes of a lane at level 1.
+pub mod Put

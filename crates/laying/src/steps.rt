@@ -1,0 +1,86 @@
+// Writing an operation's row behind the barriers that stand before it.
+ghost use mathlib.Core.Path.{_≡_};
+ghost use Prim.Native.Nat.{_+_, _*_, _<_, _≤_};
+ghost use lib.ListN.{length, take, drop};
+ghost use lib.Seq.{sets};
+ghost use Rattle.sheet.specs.Bytes.{row};
+ghost use Rattle.sheet.specs.Put.{Puts};
+ghost use Rattle.laying.specs.Put.{rowIf, Begins, barrierRows, ownRow, stepRows};
+use crate::starts::bit_at;
+use crate::starts::start_of;
+use placement::place::Placement;
+use rows::read::word_at;
+use writing::put::put_row;
+use writing::put::store_eight;
+
+// Writes a barrier's row from `at` on; the position behind it where it stands, else `at`, and what follows is written
+// over it: faster than a test, which could not be predicted.
+fn put_barrier(out: &mut [u8], at: usize, stands: bool, code: u8) -> usize
+    requires { ⌜ at + 8 ≤ length (now out) ⌝ }
+    ensures bytes { λ r. ⌜ now (out .exit) ≡ sets (now (out .entry)) at (row code 0 0 0) ⌝ }
+    ensures behind { λ r. ⌜ r ≡ at + length (rowIf stands code) ⌝ }
+{
+    store_eight(out, at, code, 0, 0, 0, 0, 0, 0, 0);
+    at + 8 * (stands as usize)
+}
+
+// Writes the barriers that stand before position p from `at` on; the position behind them.
+fn put_barriers(out: &mut [u8], at: usize, placement: Placement, p: usize) -> usize
+    requires { ⌜ p < 64 ⌝ }
+    requires { ⌜ at + length (barrierRows placement p) + 8 ≤ length (now out) ⌝ }
+    ensures { λ r. ⌜ Begins (now (out .entry)) at (barrierRows placement p) (now (out .exit)) r ⌝ }
+{
+    let behind_ll = put_barrier(out, at, bit_at(placement.ll, p), 11);
+    let behind_ls = put_barrier(out, behind_ll, bit_at(placement.ls, p), 12);
+    let behind_ss = put_barrier(out, behind_ls, bit_at(placement.ss, p), 13);
+    put_barrier(out, behind_ss, bit_at(placement.sl, p), 14)
+}
+
+// Copies the eight bytes of a row.
+fn copy_row(out: &mut [u8], at: usize, rows: &[u8], from: usize)
+    requires { ⌜ (at + 8 ≤ length (now out)) × (from + 8 ≤ length (now rows)) ⌝ }
+    ensures { λ r. ⌜ now (out .exit) ≡ sets (now (out .entry)) at (take 8 (drop from (now (rows .entry)))) ⌝ }
+{
+    store_eight(
+        out,
+        at,
+        rows[from],
+        rows[from + 1],
+        rows[from + 2],
+        rows[from + 3],
+        rows[from + 4],
+        rows[from + 5],
+        rows[from + 6],
+        rows[from + 7],
+    );
+}
+
+// Writes an operation's row from `at` on, a SKIP's aimed at where its target begins in the sheet. The row is copied
+// first, whatever it is: eight bytes are one store then, and not four.
+fn put_own(out: &mut [u8], at: usize, rows: &[u8], from: usize, placement: Placement)
+    requires { ⌜ (at + 8 ≤ length (now out)) × (from + 8 ≤ length (now rows)) ⌝ }
+    ensures { λ r. ⌜ now (out .exit) ≡ sets (now (out .entry)) at (ownRow placement (drop from (now (rows .entry)))) ⌝ }
+{
+    copy_row(out, at, rows, from);
+    if rows[from] == 7 {
+        let target = start_of(placement, word_at(rows, from + 4) as usize);
+        put_row(out, at, 7, rows[from + 1], rows[from + 2], target);
+    }
+}
+
+// Writes row p from `at` on, behind the barriers that stand before it; the position behind it.
+pub(crate) fn put_step(
+    out: &mut [u8],
+    at: usize,
+    rows: &[u8],
+    p: usize,
+    placement: Placement,
+) -> usize
+    requires { ⌜ (p < 64) × (8 * p + 8 ≤ length (now rows)) ⌝ }
+    requires { ⌜ at + length (stepRows placement (now rows) p) ≤ length (now out) ⌝ }
+    ensures { λ r. ⌜ Puts (now (out .entry)) at (stepRows placement (now (rows .entry)) p) (now (out .exit)) r ⌝ }
+{
+    let behind = put_barriers(out, at, placement, p);
+    put_own(out, behind, rows, 8 * p, placement);
+    behind + 8
+}

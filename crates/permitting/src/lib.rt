@@ -1,0 +1,2 @@
+// What the machines permit a lane with pending stores.
+pub mod rules;

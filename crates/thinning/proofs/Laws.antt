@@ -1,0 +1,4 @@
+-- Laws by subject.
+pub mod Positions
+pub mod Onto
+pub mod Lane
