@@ -1,3 +1,2 @@
--- Laws by subject.
+-- Laws: Checks the checks one after the other.
 pub mod Checks
-pub mod Copied

@@ -1,9 +1,9 @@
--- What checks 1 to 4 leave of a file, the refusal of checks 5 to 8, and how many bytes rows behind their header take.
+-- What checks 1 to 4 leave of a file, and the refusal of checks 5 to 8.
 use Prim.Native.Nat.{ℕ, _+_, _*_}
 use mathlib.Core.Path.{_≡_}
 use mathlib.Core.Bool.{true}
 use mathlib.Core.List.{List}
-use lib.ListN.{length, getD}
+use lib.ListN.{length}
 use Rattle.kernel.specs.Fields.{recordCount}
 use Rattle.kernel.specs.Rules.{headerRule, badRecord}
 use Rattle.kernel.specs.Linkage.{badLinkage, chainTooLong}
@@ -13,7 +13,6 @@ use Rattle.kernel.specs.Held.{lockFault}
 use Rattle.verdict.specs.declared.Refusal.{Refusal}
 use Rattle.verdict.specs.declared.Refusal.the-variants.{Accepted, BadLinkage, ChainTooLong, BadTarget, LockFault}
 use Rattle.verdict.specs.Verdict.{unless}
-use Rattle.rows.specs.Rows.{partsIn}
 
 pub record Fielded (s : List ℕ) : Type 0 where
   pub header : headerRule s ≡ true
@@ -27,7 +26,3 @@ linkedRefusal s =
     (unless (badTarget s) BadTarget
     (unless (lockFault (programOf s)) LockFault
     Accepted)))
-
--- the rows of the last lane end the bytes
-abbrev pub sizeIn : List ℕ → ℕ
-sizeIn rows = getD (partsIn rows .from) 3 0 + 8 * getD (partsIn rows .count) 3 0

@@ -1,2 +1,2 @@
--- Checks: checks 1 to 4 passed, checks 5 to 8, and how many bytes a file's rows take.
+-- Checks: checks 1 to 4 passed, and checks 5 to 8.
 pub mod Checks

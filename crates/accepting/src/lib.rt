@@ -1,5 +1,8 @@
 // The refusal of a kernel file of whatever bytes, or that it is accepted, with its chains as rows.
 ghost use mathlib.Core.Path.{_≡_};
+ghost use Prim.Native.Nat.{_+_, _*_, _≤_};
+ghost use lib.ListN.{length};
+ghost use Rattle.kernel.specs.Fields.{recordCount};
 ghost use Rattle.kernel.specs.Accepted.{programOf};
 ghost use Rattle.kernel.specs.Linkage.{badLinkage, chainTooLong};
 ghost use Rattle.kernel.specs.Targets.{badTarget};
@@ -7,21 +10,20 @@ ghost use Rattle.verdict.specs.Verdict.{verdict, accepted, refusalOf};
 ghost use Rattle.sheet.specs.Bytes.{over};
 ghost use Rattle.chaining.specs.Chains.{chainBytes};
 ghost use Rattle.accepting.specs.Checks.{Fielded, linkedRefusal};
+use aiming::judge::bad_target;
+use aiming::judge::too_long;
 use chaining::whole::write_chains;
-use linking::judge::bad_target;
-use linking::judge::too_long;
+use heading::header::bad_length;
+use heading::header::header_rule;
 use linking::link::link;
 use locking::lock_fault;
-use ruling::rules::bad_length;
 use ruling::rules::bad_record;
-use ruling::rules::header_rule;
 use verdict::Refusal;
 
-pub mod file;
-
 // Checks 5 to 8, on a file whose header and records keep their rules. Its chains are written once 5 to 7 have passed.
-fn judge(file: &[u8], rows: &mut [u8; 2064]) -> Refusal
-    requires { ⌜ Fielded (now file) ⌝ }
+fn judge(file: &[u8], rows: &mut [u8]) -> Refusal
+    requires fields { ⌜ Fielded (now file) ⌝ }
+    requires room { ⌜ 16 + 8 * recordCount (now file) ≤ length (now rows) ⌝ }
     ensures answer { λ r. ⌜ r ≡ linkedRefusal (now (file .entry)) ⌝ }
     ensures rows { λ r. ⌜ (badLinkage (now (file .entry)) ≡ 0 → chainTooLong (now (file .entry)) ≡ 0
         → badTarget (now (file .entry)) ≡ 0
@@ -52,7 +54,8 @@ fn judge(file: &[u8], rows: &mut [u8; 2064]) -> Refusal
 }
 
 // The refusal, checks 1 to 8 in the order of the table. The chains of an accepted file stand at the front of `rows`.
-pub fn accept(file: &[u8], rows: &mut [u8; 2064]) -> Refusal
+pub fn accept(file: &[u8], rows: &mut [u8]) -> Refusal
+    requires room { ⌜ (Fielded (now file) → 16 + 8 * recordCount (now file) ≤ length (now rows)) ⌝ }
     ensures answer { λ r. ⌜ r ≡ refusalOf (now (file .entry)) ⌝ }
     ensures rows { λ r. ⌜ (verdict (now (file .entry)) ≡ accepted (programOf (now (file .entry)))
         → now (rows .exit) ≡ over (chainBytes (programOf (now (file .entry)))) (now (rows .entry))) ⌝ }

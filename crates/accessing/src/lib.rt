@@ -1,2 +1,2 @@
-// Operations of a lane that reach memory, locks or its pending list.
+// Operations of a lane that read memory or add to its pending list: LOAD and STORE.
 pub mod step;

@@ -1,22 +1,23 @@
 // The chains of a file behind a header, once checks 1 to 7 have passed.
 ghost use mathlib.Core.Path.{_≡_};
-ghost use Prim.Native.Nat.{_≤_};
+ghost use Prim.Native.Nat.{_+_, _*_, _≤_};
 ghost use lib.ListN.{length};
 ghost use lib.Seq.{sets};
+ghost use Rattle.kernel.specs.Fields.{recordCount};
 ghost use Rattle.kernel.specs.Accepted.{programOf};
 ghost use Rattle.sheet.specs.Bytes.{over};
 ghost use Rattle.sheet.specs.Put.{inTurn};
 ghost use Rattle.chaining.specs.Chains.{chainAt, chainBytes};
-ghost use Rattle.chaining.specs.Structured.{Structured};
-use crate::lane::write_chain;
+ghost use Rattle.threading.specs.Structured.{Structured};
 use rows::read::byte_at;
 use rows::read::word_at;
+use threading::write_chain;
 use writing::put::put_counts;
 use writing::put::put_first;
 
 // Writes the four lanes behind the header.
 fn write_lanes(out: &mut [u8], s: &[u8], order: &[u16; 257], place: &[u16; 257], ends: &[usize; 4])
-    requires room { ⌜ 2064 ≤ length (now out) ⌝ }
+    requires room { ⌜ 16 + 8 * recordCount (now s) ≤ length (now out) ⌝ }
     requires structure { ⌜ Structured (now s) (now order) (now place) (now ends) ⌝ }
     ensures { λ q. ⌜ now (out .exit) ≡ sets (now (out .entry)) 16 (inTurn (chainAt (now (s .entry))) 4) ⌝ }
 {
@@ -38,7 +39,7 @@ pub fn write_chains(
     place: &[u16; 257],
     ends: &[usize; 4],
 )
-    requires room { ⌜ 2064 ≤ length (now out) ⌝ }
+    requires room { ⌜ 16 + 8 * recordCount (now s) ≤ length (now out) ⌝ }
     requires structure { ⌜ Structured (now s) (now order) (now place) (now ends) ⌝ }
     ensures { λ q. ⌜ now (out .exit) ≡ over (chainBytes (programOf (now (s .entry)))) (now (out .entry)) ⌝ }
 {

@@ -5,17 +5,29 @@ ghost use mathlib.Core.List.{List};
 ghost use Prim.Native.Nat.{_≤_};
 ghost use lib.Dec.{leb, ltb};
 ghost use Rattle.sheet.specs.Layout.{Instr};
-ghost use Rattle.machine.specs.Schedule.{legal};
+ghost use Rattle.machine.specs.Schedule.{legal, limit};
 ghost use Rattle.machine.specs.View.{finished};
 ghost use Rattle.machine.specs.Moves.{movesIn};
+ghost use Rattle.permitting.specs.Machines.{machineIn};
 ghost use Rattle.moving.specs.States.{Held, stateIn};
 ghost use Rattle.judging.specs.Counts.{Counts};
+use permitting::rules::Machine;
 use rows::number::wide;
 
 fn legal_move(lane: u8, choice: u8, n: usize, limit: u8) -> bool
     ensures { λ r. ⌜ r ≡ (ltb lane n && leb choice limit) ⌝ }
 {
     ((lane as usize) < n) & (choice <= limit)
+}
+
+// The highest choice of a move on a machine.
+pub fn limit_of(machine: Machine) -> u8
+    ensures { λ r. ⌜ r ≡ limit (machineIn machine) ⌝ }
+{
+    match machine {
+        Machine::Source => 64,
+        Machine::Tso => 1,
+    }
 }
 
 // Whether each move names a lane below n and a choice up to the limit. A move is two bytes, lane first. With no early

@@ -25,9 +25,9 @@ use Rattle.machine.specs.Run.{Answer, runProgram}
 use Rattle.machine.specs.Moves.{oddBytes, movesIn}
 use Rattle.recording.specs.Record.{stateBytes}
 use Rattle.recording.proofs.Sizes.{record-length}
-use Rattle.calling.specs.Calls.{recordSize, stored, runFileBy}
+use Rattle.answering.specs.Calls.{recordSize, stored, runFileBy}
 use Rattle.calling.proofs.Laws.Files.{ran-number}
-use Rattle.lanes.specs.Interface.{packed, Small, packedLowering, runCallBy, lowerCallBy}
+use Rattle.answering.specs.Interface.{packed, Small, packedLowering, runCallBy, lowerCallBy}
 
 -- an answer from 2^32 up is a refusal, one below it the number of bytes written
 pub record Kept (buffer : List ℕ) (r : ℕ × List ℕ) : Type 0 where

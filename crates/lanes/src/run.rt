@@ -1,7 +1,7 @@
 // Runs of a kernel, called from C.
 ghost use mathlib.Core.Path.{_≡_};
-ghost use Rattle.lanes.specs.Interface.{callRunSource, callRunTso};
-use crate::packed::packed;
+ghost use Rattle.answering.specs.Interface.{callRunSource, callRunTso};
+use answering::packed::packed;
 use calling::call::run_file;
 use permitting::rules::Machine;
 

@@ -1,4 +1,3 @@
 -- Laws by subject.
 pub mod Put
 pub mod Begins
-pub mod Starts

@@ -4,23 +4,17 @@ use mathlib.Core.Path.{_≡_}
 use mathlib.Core.Bool.{Bool, cond}
 use mathlib.Core.List.{List, [], _∷_, _++_, map}
 use lib.Dec.{eqb}
-use lib.ListN.{length, take, drop}
+use lib.ListN.{length, getD, take, drop}
 use lib.Seq.{sets}
 use Rattle.kernel.specs.declared.accepted.Op.{Op}
 use Rattle.kernel.specs.Fields.{byte, word}
 use Rattle.placement.specs.declared.cookbook.Barrier.{Barrier}
-use Rattle.placement.specs.declared.place.Placement.{Placement}
-use Rattle.placement.specs.Place.{chosen}
-use Rattle.placement.specs.Placed.{bit, flags}
-use Rattle.placement.specs.Sheet.{start as startBy}
+use Rattle.placement.specs.Placed.{bit}
+use Rattle.placement.specs.Plan.{standing, beginning}
 use Rattle.sheet.specs.Layout.{Placed, op, barrier, sheet}
 use Rattle.sheet.specs.Levels.{level1}
 use Rattle.sheet.specs.Bytes.{row, laneBytes}
 use Rattle.sheet.specs.Put.{inTurn}
-
--- the barriers that stand before position p
-abbrev pub standing : Placement → ℕ → List Barrier
-standing r p = chosen (λ b. bit (flags r b) p)
 
 -- the operations of a chain, the first of which stands at position p, with the barriers that pre puts before each
 abbrev pub placedBy : (ℕ → List Barrier) → ℕ → List Op → List Placed
@@ -31,9 +25,9 @@ placedBy pre p (o ∷ os) = record { before = pre p; oper = o } ∷ placedBy pre
 abbrev pub stepBytes : List Barrier → Op → List ℕ
 stepBytes bs o = laneBytes level1 (map barrier bs ++ (op o ∷ []))
 
--- the bytes of a lane at level 1, with its barriers where the placement says
-abbrev pub laneWith : Placement → List Op → List ℕ
-laneWith r ops = laneBytes level1 (sheet (placedBy (standing r) 0 ops))
+-- the bytes of a lane at level 1, with its barriers where the plan says
+abbrev pub laneWith : List ℕ → List Op → List ℕ
+laneWith plan ops = laneBytes level1 (sheet (placedBy (standing plan) 0 ops))
 
 -- ## from the lane's rows
 
@@ -41,23 +35,21 @@ laneWith r ops = laneBytes level1 (sheet (placedBy (standing r) 0 ops))
 abbrev pub rowIf : Bool → ℕ → List ℕ
 rowIf b code = cond b (row code 0 0 0) []
 
--- the rows of the barriers that stand before position p
-abbrev pub barrierRows : Placement → ℕ → List ℕ
-barrierRows r p =
-    rowIf (bit (r .ll) p) 11 ++ rowIf (bit (r .ls) p) 12 ++ rowIf (bit (r .ss) p) 13 ++ rowIf (bit (r .sl) p) 14
+-- the rows of a set of barriers
+abbrev pub barrierRows : ℕ → List ℕ
+barrierRows x = rowIf (bit x 0) 11 ++ rowIf (bit x 1) 12 ++ rowIf (bit x 2) 13 ++ rowIf (bit x 3) 14
 
 -- the row at the front; a SKIP's is aimed at where its target begins
-unfoldable pub ownRow : Placement → List ℕ → List ℕ
-ownRow r s =
-    cond (eqb (byte s 0) 7) (row 7 (byte s 1) (byte s 2) (startBy (standing r) (word s 4))) (take 8 s)
+unfoldable pub ownRow : List ℕ → List ℕ → List ℕ
+ownRow plan s = cond (eqb (byte s 0) 7) (row 7 (byte s 1) (byte s 2) (beginning plan (word s 4))) (take 8 s)
 
--- row p behind its barriers
-abbrev pub stepRows : Placement → List ℕ → ℕ → List ℕ
-stepRows r rows p = barrierRows r p ++ ownRow r (drop (8 * p) rows)
+-- row p behind the barriers that stand before it
+abbrev pub stepRows : List ℕ → List ℕ → ℕ → List ℕ
+stepRows plan rows p = barrierRows (getD plan p 0) ++ ownRow plan (drop (8 * p) rows)
 
 -- n rows
-abbrev pub laneRows : Placement → List ℕ → ℕ → List ℕ
-laneRows r rows = inTurn (stepRows r rows)
+abbrev pub laneRows : List ℕ → List ℕ → ℕ → List ℕ
+laneRows plan rows = inTurn (stepRows plan rows)
 
 -- `after` is `before` with x from `at` on; from `end` on, the position behind x, up to eight bytes do not count
 pub record Begins (before : List ℕ) (at : ℕ) (x : List ℕ) (after : List ℕ) (end : ℕ) : Type 0 where

@@ -4,19 +4,19 @@ ghost use lib.ListN.{length};
 ghost use Rattle.sheet.specs.Put.{Puts};
 ghost use Rattle.laying.specs.Put.{laneRows};
 use crate::steps::put_step;
-use placement::place::Placement;
 
-// Writes the lane of these n rows from the front of `out`, which begins behind the header and the earlier lanes; the
-// bytes it wrote.
-pub fn write_lane(out: &mut [u8], rows: &[u8], n: usize, placement: Placement) -> usize
-    requires rows { ⌜ (n ≤ 64) × (8 * n ≤ length (now rows)) ⌝ }
-    requires room { ⌜ length (laneRows placement (now rows) n) ≤ length (now out) ⌝ }
-    ensures { λ r. ⌜ Puts (now (out .entry)) 0 (laneRows placement (now (rows .entry)) n) (now (out .exit)) r ⌝ }
+// Writes the lane of these n rows by its plan, from the front of `out`, which begins behind the header and the earlier
+// lanes; the bytes it wrote.
+pub fn write_lane(out: &mut [u8], rows: &[u8], n: usize, plan: &[u16]) -> usize
+    requires rows { ⌜ (8 * n ≤ length (now rows)) × (n ≤ length (now plan)) ⌝ }
+    requires room { ⌜ length (laneRows (now plan) (now rows) n) ≤ length (now out) ⌝ }
+    ensures { λ r. ⌜ Puts (now (out .entry)) 0 (laneRows (now (plan .entry)) (now (rows .entry)) n)
+        (now (out .exit)) r ⌝ }
 {
     let mut at = 0;
     let mut p = 0;
     while p < n {
-        at = put_step(out, at, rows, p, placement);
+        at = put_step(out, at, rows, p, plan);
         p += 1;
     }
     at

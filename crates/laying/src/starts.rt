@@ -1,38 +1,27 @@
-// Where barriers stand in a lane, and the sheet position at which an operation begins, at level 1.
+// What a lane's plan says of a position.
 ghost use mathlib.Core.Path.{_≡_};
-ghost use Prim.Native.Nat.{_+_, _%_, _^_, _<_, _≤_};
-ghost use lib.Count.{ones};
+ghost use Prim.Native.Nat.{_/_, _<_};
 ghost use Rattle.placement.specs.Placed.{bit};
-ghost use Rattle.placement.specs.Sheet.{start as startBy};
-ghost use Rattle.laying.specs.Put.{standing};
-use placement::place::Placement;
+ghost use Rattle.placement.specs.Plan.{beginning};
 
-// Bit p of a number.
-pub(crate) fn bit_at(n: u64, p: usize) -> bool
-    requires { ⌜ p < 64 ⌝ }
-    ensures { λ r. ⌜ r ≡ bit n p ⌝ }
+// Bit k of a set of barriers.
+pub(crate) fn bit_at(set: u16, k: u16) -> bool
+    requires { ⌜ k < 16 ⌝ }
+    ensures { λ r. ⌜ r ≡ bit set k ⌝ }
 {
-    (n >> p) % 2 == 1
+    (set >> k) % 2 == 1
 }
 
-// How many of the bits below p are set.
-fn ones_below(n: u64, p: usize) -> u32
-    ensures { λ r. ⌜ (r ≡ ones (n % 2 ^ p)) × (r ≤ 64) ⌝ }
+// Where a position begins, of its number in the plan.
+fn begin_of(x: u16) -> u32
+    ensures { λ r. ⌜ r ≡ x / 16 ⌝ }
 {
-    if p < 64 {
-        u64::count_ones(n % (1u64 << p))
-    } else {
-        u64::count_ones(n)
-    }
+    (x >> 4) as u32
 }
 
-// The sheet position at which operation p begins, that is, its first barrier: behind the operations before p and the
-// barriers before those.
-pub fn start_of(placement: Placement, p: usize) -> u32
-    requires { ⌜ p < 65536 ⌝ }
-    ensures { λ r. ⌜ (r ≡ startBy (standing placement) p) × (r ≤ p + 256) ⌝ }
+// The sheet position at which operation p begins, that is, its first barrier; 0 past the plan.
+pub(crate) fn start_of(plan: &[u16], p: usize) -> u32
+    ensures { λ r. ⌜ r ≡ beginning (now (plan .entry)) p ⌝ }
 {
-    let behind_loads = ones_below(placement.ll, p) + ones_below(placement.ls, p);
-    let behind_stores = ones_below(placement.ss, p) + ones_below(placement.sl, p);
-    p as u32 + behind_loads + behind_stores
+    if p < plan.len() { begin_of(plan[p]) } else { 0 }
 }

@@ -8,7 +8,6 @@ ghost use Rattle.sheet.specs.Put.{Puts};
 ghost use Rattle.laying.specs.Put.{rowIf, Begins, barrierRows, ownRow, stepRows};
 use crate::starts::bit_at;
 use crate::starts::start_of;
-use placement::place::Placement;
 use rows::read::word_at;
 use writing::put::put_row;
 use writing::put::store_eight;
@@ -24,16 +23,15 @@ fn put_barrier(out: &mut [u8], at: usize, stands: bool, code: u8) -> usize
     at + 8 * (stands as usize)
 }
 
-// Writes the barriers that stand before position p from `at` on; the position behind them.
-fn put_barriers(out: &mut [u8], at: usize, placement: Placement, p: usize) -> usize
-    requires { ⌜ p < 64 ⌝ }
-    requires { ⌜ at + length (barrierRows placement p) + 8 ≤ length (now out) ⌝ }
-    ensures { λ r. ⌜ Begins (now (out .entry)) at (barrierRows placement p) (now (out .exit)) r ⌝ }
+// Writes the barriers of a set from `at` on; the position behind them.
+fn put_barriers(out: &mut [u8], at: usize, set: u16) -> usize
+    requires { ⌜ at + length (barrierRows set) + 8 ≤ length (now out) ⌝ }
+    ensures { λ r. ⌜ Begins (now (out .entry)) at (barrierRows set) (now (out .exit)) r ⌝ }
 {
-    let behind_ll = put_barrier(out, at, bit_at(placement.ll, p), 11);
-    let behind_ls = put_barrier(out, behind_ll, bit_at(placement.ls, p), 12);
-    let behind_ss = put_barrier(out, behind_ls, bit_at(placement.ss, p), 13);
-    put_barrier(out, behind_ss, bit_at(placement.sl, p), 14)
+    let behind_ll = put_barrier(out, at, bit_at(set, 0), 11);
+    let behind_ls = put_barrier(out, behind_ll, bit_at(set, 1), 12);
+    let behind_ss = put_barrier(out, behind_ls, bit_at(set, 2), 13);
+    put_barrier(out, behind_ss, bit_at(set, 3), 14)
 }
 
 // Copies the eight bytes of a row.
@@ -57,30 +55,26 @@ fn copy_row(out: &mut [u8], at: usize, rows: &[u8], from: usize)
 
 // Writes an operation's row from `at` on, a SKIP's aimed at where its target begins in the sheet. The row is copied
 // first, whatever it is: eight bytes are one store then, and not four.
-fn put_own(out: &mut [u8], at: usize, rows: &[u8], from: usize, placement: Placement)
+fn put_own(out: &mut [u8], at: usize, rows: &[u8], from: usize, plan: &[u16])
     requires { ⌜ (at + 8 ≤ length (now out)) × (from + 8 ≤ length (now rows)) ⌝ }
-    ensures { λ r. ⌜ now (out .exit) ≡ sets (now (out .entry)) at (ownRow placement (drop from (now (rows .entry)))) ⌝ }
+    ensures { λ r. ⌜ now (out .exit) ≡ sets (now (out .entry)) at
+        (ownRow (now (plan .entry)) (drop from (now (rows .entry)))) ⌝ }
 {
     copy_row(out, at, rows, from);
     if rows[from] == 7 {
-        let target = start_of(placement, word_at(rows, from + 4) as usize);
+        let target = start_of(plan, word_at(rows, from + 4) as usize);
         put_row(out, at, 7, rows[from + 1], rows[from + 2], target);
     }
 }
 
 // Writes row p from `at` on, behind the barriers that stand before it; the position behind it.
-pub(crate) fn put_step(
-    out: &mut [u8],
-    at: usize,
-    rows: &[u8],
-    p: usize,
-    placement: Placement,
-) -> usize
-    requires { ⌜ (p < 64) × (8 * p + 8 ≤ length (now rows)) ⌝ }
-    requires { ⌜ at + length (stepRows placement (now rows) p) ≤ length (now out) ⌝ }
-    ensures { λ r. ⌜ Puts (now (out .entry)) at (stepRows placement (now (rows .entry)) p) (now (out .exit)) r ⌝ }
+pub(crate) fn put_step(out: &mut [u8], at: usize, rows: &[u8], p: usize, plan: &[u16]) -> usize
+    requires { ⌜ (8 * p + 8 ≤ length (now rows)) × (p < length (now plan)) ⌝ }
+    requires { ⌜ at + length (stepRows (now plan) (now rows) p) ≤ length (now out) ⌝ }
+    ensures { λ r. ⌜ Puts (now (out .entry)) at (stepRows (now (plan .entry)) (now (rows .entry)) p)
+        (now (out .exit)) r ⌝ }
 {
-    let behind = put_barriers(out, at, placement, p);
-    put_own(out, behind, rows, 8 * p, placement);
+    let behind = put_barriers(out, at, plan[p]);
+    put_own(out, behind, rows, 8 * p, plan);
     behind + 8
 }

@@ -1,9 +1,9 @@
 // One line of a listing, laid into a buffer.
 use rows::read::row_at;
 use texts::put::put;
-use texts::put::put_decimal;
-use texts::put::put_one;
 use texts::put::put_text;
+use wording::put_decimal;
+use wording::put_one;
 ghost use Prim.Native.Nat.{_+_, _≤_, _^_};
 ghost use mathlib.Core.List.{_++_};
 ghost use lib.ListN.{length, drop};

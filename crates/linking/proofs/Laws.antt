@@ -4,4 +4,3 @@ pub mod Walks
 pub mod Lanes
 pub mod Chains
 pub mod Places
-pub mod Reach

@@ -1,5 +1,3 @@
--- Ordered: the records of a file in the order of its lanes. Walks: the order while the lanes are walked. Reach: what a
--- place reaches.
+-- Ordered: the records of a file in the order of its lanes. Walks: the order while the lanes are walked.
 pub mod Ordered
 pub mod Walks
-pub mod Reach

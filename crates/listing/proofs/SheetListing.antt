@@ -12,7 +12,8 @@ use Rattle.sheet.specs.Levels.{level2}
 use Rattle.sheet.specs.Bytes.{sheetBytes}
 use Rattle.sheet.proofs.ReadBack.{lawful-back}
 use Rattle.lines.specs.Line.{firstLine}
-use Rattle.listing.specs.Listing.{ones, sheetLines, listing, sheetText}
+use Rattle.titling.specs.Ones.{ones}
+use Rattle.listing.specs.Listing.{sheetLines, listing, sheetText}
 
 pub lawful-text : (k : Program) (rest : List ℕ) → Lawful k
     → sheetText (sheetBytes level2 k ++ rest) (k .mask) ≡ listing k

@@ -1,7 +1,6 @@
 -- The text of a level 2 sheet: of a kernel, and of the bytes of a sheet with the kernel's mask.
 use Prim.Native.Nat.{ℕ, suc}
 use mathlib.Core.List.{List, [], _∷_, _++_}
-use lib.Count.{onesIn}
 use lib.ListN.{length, getD}
 use Rattle.kernel.specs.Accepted.{Program}
 use Rattle.verdict.specs.Verdict.{Verdict, refused, accepted, verdict}
@@ -9,10 +8,7 @@ use Rattle.sheet.specs.Layout.{Instr}
 use Rattle.sheet.specs.Levels.{level2, sheetLanes}
 use Rattle.sheet.specs.Read.{readSheet}
 use Rattle.lines.specs.Line.{lineOf, firstLine, refusalLine}
-
--- the ones in a mask of 16 bits
-unfoldable pub ones : ℕ → ℕ
-ones mask = onesIn 16 mask
+use Rattle.titling.specs.Ones.{ones}
 
 -- a lane's instructions, the first of which stands at a position
 unfoldable pub laneLines : ℕ → ℕ → List Instr → List ℕ

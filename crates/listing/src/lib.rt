@@ -1,5 +1,4 @@
-// The text of a level 2 sheet, and of a refusal, as bytes.
+// The text of a level 2 sheet, as bytes.
 mod whole;
 
-pub use whole::list_refusal;
 pub use whole::list_sheet;

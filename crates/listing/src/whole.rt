@@ -3,17 +3,14 @@ use lines::line::put_line;
 use rows::read::byte_at;
 use rows::read::word_at;
 use sheet::Lowered;
-use texts::put::put;
-use texts::put::put_one;
+use titling::put_first;
 ghost use mathlib.Core.Path.{_≡_};
-ghost use Prim.Native.Nat.{_+_, _*_, _≤_, _<_, _^_};
+ghost use Prim.Native.Nat.{_+_, _*_, _≤_, _^_};
 ghost use lib.ListN.{length, drop};
-ghost use Rattle.kernel.specs.Fields.{byte};
 ghost use Rattle.sheet.specs.Read.{readRows, readSheet, counts};
 ghost use Rattle.sheet.specs.Put.{Puts};
-ghost use Rattle.listing.specs.Listing.{ones, laneLines, sheetLines, sheetText};
+ghost use Rattle.listing.specs.Listing.{laneLines, sheetLines, sheetText};
 ghost use Rattle.sheet.specs.Bytes.{writeInto};
-ghost use Rattle.lines.specs.Line.{firstLine, refusalLine};
 
 // The lines of a lane of `count` instructions, whose bytes begin at `from`.
 fn put_lane(out: &mut [u8], start: usize, lane: u32, count: u32, sheet: &[u8], from: usize) -> usize
@@ -61,21 +58,6 @@ fn put_lanes(out: &mut [u8], start: usize, sheet: &[u8]) -> usize
     at
 }
 
-// The first line. The volatile locations are the ones of the kernel's mask.
-fn put_first(out: &mut [u8], sheet: &[u8], mask: u16) -> usize
-    ensures { λ r. ⌜ (r ≤ 75)
-        × Puts (now (out .entry)) 0
-        (firstLine (byte (now (sheet .entry)) 0) (byte (now (sheet .entry)) 1) (ones mask)
-        (byte (now (sheet .entry)) 2))
-        (now (out .exit)) r ⌝ }
-{
-    let i = put_one(out, 0, b"lanes ", byte_at(sheet, 0) as u32);
-    let j = put_one(out, i, b" locations ", byte_at(sheet, 1) as u32);
-    let k = put_one(out, j, b" volatile ", u16::count_ones(mask));
-    let m = put_one(out, k, b" locks ", byte_at(sheet, 2) as u32);
-    put(out, m, b'\n')
-}
-
 // The whole text, as far as the buffer reaches.
 fn put_sheet(out: &mut [u8], sheet: &[u8], mask: u16) -> usize
     ensures { λ r. ⌜ Puts (now (out .entry)) 0 (sheetText (now (sheet .entry)) mask) (now (out .exit)) r ⌝ }
@@ -95,27 +77,5 @@ pub fn list_sheet(sheet: &[u8], mask: u16, out: &mut [u8]) -> Lowered
         return Lowered::Refuses(9, 0);
     }
     let end = put_sheet(out, sheet, mask);
-    Lowered::Wrote(end)
-}
-
-// The line of a refusal, as far as the buffer reaches.
-fn put_refusal(out: &mut [u8], number: u32, rec: u32) -> usize
-    ensures { λ r. ⌜ Puts (now (out .entry)) 0 (refusalLine number rec) (now (out .exit)) r ⌝ }
-{
-    let i = put_one(out, 0, b"refused ", number);
-    let j = put_one(out, i, b" record ", rec);
-    put(out, j, b'\n')
-}
-
-// The line of a refusal, likewise.
-pub fn list_refusal(number: u32, rec: u32, out: &mut [u8]) -> Lowered
-    ensures { λ r. ⌜ (r, now (out .exit)) ≡ writeInto (refusalLine number rec) (now (out .entry)) ⌝ }
-{
-    let mut none = [0u8; 1];
-    let size = put_refusal(&mut none, number, rec);
-    if out.len() < size {
-        return Lowered::Refuses(9, 0);
-    }
-    let end = put_refusal(out, number, rec);
     Lowered::Wrote(end)
 }

@@ -3,23 +3,19 @@
 ghost use mathlib.Core.Path.{_≡_};
 ghost use mathlib.Core.Bool.{true, false, cond};
 ghost use mathlib.Core.List.{List};
-ghost use Prim.Native.Nat.{ℕ, min, _+_, _-_, _*_, _<_, _≤_};
+ghost use Prim.Native.Nat.{ℕ, _+_, _-_, _*_, _<_, _≤_};
 ghost use lib.ListN.{length, set, getD, take, drop};
 ghost use Rattle.kernel.specs.declared.accepted.Op.{Op};
+ghost use Rattle.kernel.specs.Fields.{recordCount};
 ghost use Rattle.kernel.specs.Accepted.{programOf};
 ghost use Rattle.kernel.specs.Held.{faultPosition, laneFault, lockFault};
 ghost use Rattle.sheet.specs.Bytes.{over};
 ghost use Rattle.rows.specs.Lanes.{fieldsOf};
 ghost use Rattle.chaining.specs.Chains.{chainBytes};
-ghost use Rattle.chaining.specs.Structured.{Structured};
+ghost use Rattle.threading.specs.Structured.{Structured};
 ghost use Rattle.locking.specs.Sets.{bitFor, stepNumber, partsLed, bring};
 ghost use Rattle.locking.specs.Lanes.{LaneIn, Stepped};
-
-fn lower(a: usize, b: usize) -> usize
-    ensures { λ r. ⌜ r ≡ min a b ⌝ }
-{
-    if a <= b { a } else { b }
-}
+use rows::number::least;
 
 // One of the tests holds.
 fn either(a: bool, b: bool) -> bool
@@ -119,23 +115,25 @@ fn wide(x: u16) -> usize
 
 // The record where the lane from `from` to `end` of the order breaks the rule, or 0; for the end the last one.
 fn lane_fault(rows: &[u8], order: &[u16; 257], from: usize, end: usize) -> usize
-    requires { ⌜ 2064 ≤ length (now rows) ⌝ }
     ensures { λ r.
-        ⌜ ((ops : List Op) → from ≤ end → end ≤ 256 → end - from ≤ 64 → length (now (order .entry)) ≡ 257
-        → LaneIn (drop (16 + 8 * from) (now (rows .entry))) (end - from) ops
+        ⌜ ((ops : List Op) → from ≤ end → end ≤ 256 → end - from ≤ 64 → 16 + 8 * end ≤ length (now (rows .entry))
+        → length (now (order .entry)) ≡ 257 → LaneIn (drop (16 + 8 * from) (now (rows .entry))) (end - from) ops
         → r ≡ laneFault (take (end - from) (drop from (now (order .entry)))) ops) ⌝ }
 {
     if 256 < end {
         return 0;
     }
-    if end < from {
+    if end <= from {
         return 0;
     }
     let n = end - from;
     if 64 < n {
         return 0;
     }
-    let i = lower(fault_position(&rows[16 + 8 * from..], n), n);
+    if rows.len() < 16 + 8 * end {
+        return 0;
+    }
+    let i = least(fault_position(&rows[16 + 8 * from..], n), n);
     if i == 0 {
         return 0;
     }
@@ -146,12 +144,9 @@ fn lane_fault(rows: &[u8], order: &[u16; 257], from: usize, end: usize) -> usize
 pub fn lock_fault(rows: &[u8], order: &[u16; 257], ends: &[usize; 4]) -> usize
     ensures { λ r.
         ⌜ ((s place own : List ℕ) → Structured s (now (order .entry)) place (now (ends .entry))
-        → now (rows .entry) ≡ over (chainBytes (programOf s)) own → 2064 ≤ length own
+        → now (rows .entry) ≡ over (chainBytes (programOf s)) own → 16 + 8 * recordCount s ≤ length own
         → r ≡ lockFault (programOf s)) ⌝ }
 {
-    if rows.len() < 2064 {
-        return 0;
-    }
     let mut from = 0;
     let mut t = 0;
     while t < 4 {

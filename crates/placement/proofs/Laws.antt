@@ -11,3 +11,4 @@ pub mod Pass
 pub mod Chosen
 pub mod Layout
 pub mod Lowered
+pub mod Plan

@@ -7,3 +7,4 @@ pub mod Sentence
 pub mod Place
 pub mod Placed
 pub mod Sheet
+pub mod Plan

@@ -1,22 +1,15 @@
--- What the code of the placement holds: a placement and what is due as the bits of numbers, and where a step lands.
+-- What the code of the placement holds: a set of barriers and what is due as the bits of numbers, and where a step
+-- lands.
 use Prim.Native.Nat.{ℕ, _+_, _*_, _/_, _%_, _^_}
 use mathlib.Core.Bool.{Bool, cond}
 use mathlib.Core.Option.{Option, none, some}
 use lib.Dec.{eqb, leb}
-use Rattle.placement.specs.declared.place.Placement.{Placement}
 use Rattle.placement.specs.Cookbook.{Class, PL, PS, VL, VS, Barrier, LL, LS, SS, SL, numberOf, cell}
 use Rattle.placement.specs.Chain.{Step, Access, Skip, Other}
 
 -- bit j of a number
 abbrev pub bit : ℕ → ℕ → Bool
 bit n j = eqb (n / 2 ^ j % 2) 1
-
--- the positions before which a barrier stands, as the bits of a number
-abbrev pub flags : Placement → Barrier → ℕ
-flags r LL = r .ll
-flags r LS = r .ls
-flags r SS = r .ss
-flags r SL = r .sl
 
 -- each barrier's bit of a set of barriers, which is a number below 16
 abbrev pub bitOf : Barrier → ℕ

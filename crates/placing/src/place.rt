@@ -1,33 +1,29 @@
-// The placement: one pass over a lane's rows that carries what is due, for each later class a set of barriers.
+// The placement: one pass over a lane's rows that carries what is due, for each later class a set of barriers, and
+// writes the lane's plan, for each position a set of barriers and where it begins in the sheet.
 // A set of barriers is a number below 16: bit 0 is LL, 1 LS, 2 SS and 3 SL. What is due is four such numbers in one.
 use crate::steps::class_of;
 use crate::steps::landing_of;
 use crate::table::call_table;
-use placement::place::Placement;
 use rows::read::whole_row;
 ghost use mathlib.Core.Path.{_≡_};
 ghost use mathlib.Core.Bool.{not, _&&_, _||_};
 ghost use mathlib.Core.List.{List};
-ghost use Prim.Native.Nat.{ℕ, _*_, _<_, _≤_};
-ghost use lib.Dec.{eqb};
-ghost use lib.ListN.{length};
+ghost use Prim.Native.Nat.{ℕ, suc, _+_, _*_, _<_, _≤_};
+ghost use lib.ListN.{length, set, getD};
 ghost use Rattle.kernel.specs.Accepted.{isVolatile};
 ghost use Rattle.kernel.specs.declared.accepted.Op.{Op};
 ghost use Rattle.placement.specs.declared.cookbook.Barrier.{Barrier};
 ghost use Rattle.placement.specs.declared.cookbook.Class.{Class};
 ghost use Rattle.placement.specs.declared.steps.Step.{Step};
 ghost use Rattle.placement.specs.Place.{standsAt, raises as raisesFor, stands};
-ghost use Rattle.placement.specs.Placed.{bit, flags, bitOf, dueIn};
+ghost use Rattle.placement.specs.Placed.{bit, bitOf, dueIn};
+ghost use Rattle.placement.specs.Plan.{barriersIn, beginning, Counted};
 ghost use Rattle.placement.specs.Steps.{steps as stepsBy};
 ghost use Rattle.rows.specs.Lanes.{Holds};
 ghost use Rattle.placing.specs.Classes.{classByte, callTable};
 
-const NONE: Placement = Placement {
-    ll: 0,
-    ls: 0,
-    ss: 0,
-    sl: 0,
-};
+// A digit for each set of barriers, from the last on: how many instructions an operation makes with them.
+const WIDTHS: u64 = 0x5443_4332_4332_3221;
 
 // The barriers that stand before a step of class x, given what is due there.
 fn stands_at(x: u8, due: u16) -> u16
@@ -63,49 +59,47 @@ fn after(stood: u16, due: u16, new: u16) -> u16
     (due ^ met) | new
 }
 
-// The number with bit p set, where the test holds.
-fn set_bit(n: u64, p: usize, set: bool) -> u64
-    requires { ⌜ p < 64 ⌝ }
-    ensures { λ r. ⌜ ((j : ℕ) → bit r j ≡ (bit n j || (eqb p j && set))) ⌝ }
+// How many instructions an operation makes with these barriers before it.
+fn width_of(stood: u16) -> u16
+    requires { ⌜ stood < 16 ⌝ }
+    ensures { λ r. ⌜ (r ≡ suc (length (barriersIn stood))) × (r ≤ 5) ⌝ }
 {
-    n | ((set as u64) << p)
+    ((WIDTHS >> (4 * stood)) % 16) as u16
 }
 
-// The placement with the barriers that stand before position p.
-fn mark(out: Placement, p: usize, stood: u16) -> Placement
-    requires { ⌜ p < 64 ⌝ }
-    ensures { λ r. ⌜
-        ((b : Barrier) (j : ℕ) → bit (flags r b) j ≡ (bit (flags out b) j || (eqb p j && bit stood (bitOf b))))
-        ⌝ }
+// Writes position p of the plan, which begins at `at`; where the next position begins.
+fn plan_step(plan: &mut [u16], p: usize, at: u16, stood: u16) -> u16
+    requires { ⌜ (p < length (now plan)) × (at ≤ 320) × (stood < 16) ⌝ }
+    ensures plan { λ r. ⌜ now (plan .exit) ≡ set (now (plan .entry)) p (16 * at + stood) ⌝ }
+    ensures next { λ r. ⌜ (r ≡ at + suc (length (barriersIn stood))) × (r ≤ at + 5) ⌝ }
 {
-    Placement {
-        ll: set_bit(out.ll, p, stood % 2 == 1),
-        ls: set_bit(out.ls, p, (stood >> 1) % 2 == 1),
-        ss: set_bit(out.ss, p, (stood >> 2) % 2 == 1),
-        sl: set_bit(out.sl, p, (stood >> 3) % 2 == 1),
-    }
+    plan[p] = 16 * at + stood;
+    at + width_of(stood)
 }
 
-// Where each barrier stands in the lane whose n rows are given.
+// Writes the plan of the lane whose n rows are given; how many instructions it makes.
 // A SKIP brings what is due to its target; a jump back brings nothing to the positions ahead.
-pub fn place_lane(rows: &[u8], n: usize, mask: u16) -> Placement
-    requires { ⌜ (n ≤ 64) × (8 * n ≤ length (now rows)) ⌝ }
-    ensures { λ r. ⌜
-        ((ops : List Op) → Holds (now (rows .entry)) n ops
-        → (b : Barrier) (j : ℕ) → bit (flags r b) j ≡ stands (stepsBy (isVolatile mask) ops) b j)
+pub fn place_lane(rows: &[u8], n: usize, mask: u16, plan: &mut [u16]) -> usize
+    requires { ⌜ (n ≤ 64) × (8 * n ≤ length (now rows)) × (n < length (now plan)) ⌝ }
+    ensures size { λ r. ⌜ (r ≡ beginning (now (plan .exit)) n) × (r ≤ 320) ⌝ }
+    ensures begins { λ r. ⌜ Counted (now (plan .exit)) n ⌝ }
+    ensures stands { λ r. ⌜
+        ((ops : List Op) → Holds (now (rows .entry)) n ops → (b : Barrier) (p : ℕ) → p < n
+        → bit (getD (now (plan .exit)) p 0) (bitOf b) ≡ stands (stepsBy (isVolatile mask) ops) b p)
         ⌝ }
+    ensures rest { λ r. ⌜ ((p : ℕ) → n < p → getD (now (plan .exit)) p 0 ≡ getD (now (plan .entry)) p 0) ⌝ }
 {
     let calls = call_table();
     let mut due = 0u16;
     let mut brought = [0u16; 65];
-    let mut out = NONE;
+    let mut at = 0u16;
     let mut p = 0;
     while p < n {
         let row = whole_row(rows, 8 * p);
         let x = class_of(row.code, row.b, mask);
         let here = due | brought[p];
         let stood = stands_at(x, here);
-        out = mark(out, p, stood);
+        at = plan_step(plan, p, at, stood);
         due = after(stood, here, raises(&calls, x));
         let t = landing_of(row.code, row.word);
         if p < t {
@@ -114,5 +108,6 @@ pub fn place_lane(rows: &[u8], n: usize, mask: u16) -> Placement
         }
         p += 1;
     }
-    out
+    plan[n] = 16 * at;
+    at as usize
 }

@@ -9,8 +9,9 @@ ghost use Rattle.placement.specs.Steps.{stepOf};
 ghost use Rattle.rows.specs.Lanes.{fieldsOf};
 ghost use Rattle.placing.specs.Classes.{classByte};
 
-// By operation code, at a plain location and then at a volatile one: an access's class, 4 where there is none.
-const CLASS: [u8; 16] = [4, 4, 4, 0, 1, 2, 3, 4, 4, 4, 4, 2, 3, 2, 3, 4];
+// A digit for each operation code, from the last on, at a plain location and then at a volatile one: an access's class,
+// 4 where there is none.
+const CLASSES: u64 = 0x4323_2444_4321_0444;
 
 // Bit x of the mask.
 fn is_volatile(mask: u16, x: u8) -> bool
@@ -26,8 +27,8 @@ pub(crate) fn class_of(code: u8, b: u8, mask: u16) -> u8
         × (r ≤ 4)
         ⌝ }
 {
-    let volatile = is_volatile(mask, b) as usize;
-    CLASS[(code % 8) as usize + 8 * volatile]
+    let i = code % 8 + 8 * (is_volatile(mask, b) as u8);
+    ((CLASSES >> (4 * i)) % 16) as u8
 }
 
 // Where the operation with this code and this last field lands: at a SKIP's target, else at 0, to which nothing goes

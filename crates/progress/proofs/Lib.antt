@@ -1,2 +1,2 @@
--- Laws of a run so far over rows, and of one move on it.
+-- Laws of a run so far over rows.
 pub mod Laws

@@ -1,3 +1,2 @@
--- Stands: where a schedule stands and what a move makes of it. Settles: what the code writes back after a move.
+-- Stands: where a schedule stands and what a move makes of it.
 pub mod Stands
-pub mod Settles

@@ -1,4 +1,3 @@
-// A run so far as one value, and one move made on it.
+// A run so far as one value, and its start.
 pub mod moves;
 pub mod progress;
-mod ready;

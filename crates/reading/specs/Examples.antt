@@ -1,7 +1,7 @@
 -- Texts of schedules by computation.
 use mathlib.Core.Path.{_≡_, refl}
 use mathlib.Core.List.{[], _∷_}
-use Rattle.reading.specs.declared.place.Place.the-variants.{Blank}
+use Rattle.spelling.specs.declared.place.Place.the-variants.{Blank}
 use Rattle.reading.specs.Text.{malformedFrom, movesFrom, movesOf}
 
 -- "0 1 # x", an empty line, " 3", a tab, "300" and a carriage return: moves 0 1 and 3 255, and no line is malformed

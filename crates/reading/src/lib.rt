@@ -1,6 +1,5 @@
 // A schedule as text, read into bytes.
 mod lines;
-mod place;
 mod whole;
 
 pub use whole::Read;

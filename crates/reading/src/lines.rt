@@ -4,9 +4,9 @@ ghost use mathlib.Core.List.{[], _∷_};
 ghost use Prim.Native.Nat.{_+_, _<_, _^_};
 ghost use Rattle.sheet.specs.Put.{Puts};
 ghost use Rattle.reading.specs.Text.{malformedFrom, moveAt, movesOf};
-use crate::place::Place;
-use crate::place::after;
-use crate::place::is_wrong;
+use spelling::place::Place;
+use spelling::place::after;
+use spelling::place::is_wrong;
 use texts::put::store;
 
 // The first line, counted from 1, that is neither a move nor empty; 0 where there is none.

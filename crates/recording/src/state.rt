@@ -6,13 +6,23 @@ ghost use Rattle.sheet.specs.Bytes.{over};
 ghost use Rattle.sheet.specs.Put.{Puts};
 ghost use Rattle.machine.specs.State.{idle};
 ghost use Rattle.moving.specs.States.{rowsOf, lanesIn, heldIn, stateIn};
-ghost use Rattle.recording.specs.Record.{flag, headBytes, stateLane, recordOf};
+ghost use Rattle.noting.specs.Lanes.{stateLane};
+ghost use Rattle.recording.specs.Record.{double, flag, headBytes, recordOf};
 ghost use Rattle.recording.specs.Stored.{SmallLocks};
-use crate::lane::write_lane;
-use crate::put::put_double;
-use crate::put::put_four;
-use crate::put::put_table;
-use crate::put::word_at;
+use noting::lane::write_lane;
+use noting::put::put_four;
+use noting::put::put_quad;
+use noting::put::put_table;
+use noting::put::word_at;
+
+// A number of 64 bits.
+fn put_double(out: &mut [u8], at: usize, n: usize) -> usize
+    requires { ⌜ at + 8 ≤ length (now out) ⌝ }
+    ensures { λ r. ⌜ Puts (now (out .entry)) at (double n) (now (out .exit)) r ⌝ }
+{
+    let next = put_quad(out, at, n);
+    put_quad(out, next, n / 4294967296)
+}
 
 fn flag(b: bool) -> u8
     ensures { λ r. ⌜ r ≡ flag b ⌝ }

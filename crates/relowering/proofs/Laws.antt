@@ -1,5 +1,4 @@
 -- Laws by subject.
-pub mod Whole
 pub mod Proper
 pub mod Lower
 pub mod Through

@@ -1,3 +1,2 @@
--- Rows: what is known of a level 1 sheet that is made into level 2. Through: the way by such a sheet.
-pub mod Rows
+-- Through: level 2 by way of a level 1 sheet in a buffer of the translator's own.
 pub mod Through

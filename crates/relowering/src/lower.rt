@@ -5,7 +5,7 @@ ghost use Prim.Native.Nat.{ℕ, _+_, _*_, _≤_, _<_};
 ghost use lib.ListN.{length};
 ghost use Rattle.sheet.specs.Bytes.{lower2 as lowered};
 ghost use Rattle.relowering.specs.Through.{throughSheet};
-use crate::whole::relower;
+use converting::whole::relower;
 use lowering::lower::lower1;
 use sheet::Lowered;
 

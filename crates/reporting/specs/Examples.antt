@@ -3,8 +3,9 @@ use mathlib.Core.Path.{_≡_, refl}
 use mathlib.Core.List.{[], _∷_, _++_}
 use lib.ListN.{replicate}
 use Rattle.sheet.specs.Put.{inTurn}
-use Rattle.texts.specs.Decimal.{digits, decimal}
-use Rattle.reporting.specs.States.{laneText, stateText}
+use Rattle.wording.specs.Decimal.{digits, decimal}
+use Rattle.describing.specs.Lanes.{laneText}
+use Rattle.reporting.specs.States.{stateText}
 
 -- one lane, one location, no locks, two entries pending:
 -- "done 0 waited 0", "finished no", "memory 0", "locks", "lane 0 position 0 registers 0 0 0 0 0 0 0 0",

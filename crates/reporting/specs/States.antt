@@ -3,17 +3,11 @@ use Prim.Native.Nat.{ℕ, _+_, _*_}
 use mathlib.Core.Bool.{cond}
 use mathlib.Core.List.{List, [], _∷_, _++_}
 use lib.Dec.{eqb}
-use Rattle.kernel.specs.Fields.{byte, word, quad}
+use Rattle.kernel.specs.Fields.{byte, quad}
 use Rattle.sheet.specs.Put.{inTurn}
-use Rattle.texts.specs.Decimal.{decimal}
-use Rattle.texts.specs.Words.{space, newline, named}
+use Rattle.wording.specs.Words.{newline, named}
 use Rattle.fields.specs.Words.{doneCount, waitedCount, finishedYes, finishedNo, memoryWord, locksWord}
-use Rattle.fields.specs.Words.{laneStart, positionWord, registersWord, pendingWord}
-use Rattle.fields.specs.Places.{laneFrom, positionIn, registerIn, entryFrom, entryText}
-
--- n numbers, each behind a space
-abbrev pub spaced : (ℕ → ℕ) → ℕ → List ℕ
-spaced f n = inTurn (λ i. space ∷ decimal (f i)) n
+use Rattle.describing.specs.Lanes.{spaced, laneText}
 
 -- the low halves of the counts: a schedule of text has fewer moves
 abbrev pub countsLine : List ℕ → List ℕ
@@ -27,18 +21,6 @@ memoryLine s locations = memoryWord ++ spaced (λ i. quad s (24 + 4 * i)) locati
 
 abbrev pub locksLine : List ℕ → ℕ → List ℕ
 locksLine s locks = locksWord ++ spaced (λ i. byte s (4 + i)) locks ++ newline ∷ []
-
-abbrev pub laneLine : List ℕ → ℕ → List ℕ
-laneLine s t =
-    named laneStart t ++ named positionWord (positionIn s t) ++ registersWord ++ spaced (registerIn s t) 8
-    ++ newline ∷ []
-
-abbrev pub pendingLine : List ℕ → ℕ → ℕ → List ℕ
-pendingLine s t i = named laneStart t ++ pendingWord ++ entryText s (entryFrom t i) ++ newline ∷ []
-
--- a lane and its pending entries, oldest first
-unfoldable pub laneText : List ℕ → ℕ → List ℕ
-laneText s t = laneLine s t ++ inTurn (pendingLine s t) (word s (laneFrom t + 2))
 
 unfoldable pub stateText : List ℕ → ℕ → ℕ → ℕ → List ℕ
 stateText s lanes locations locks =

@@ -1,7 +1,7 @@
-// Numbers as bytes, tests as numbers, and whether eight bytes fit.
+// Numbers as bytes, tests as numbers, the smaller of two numbers, and whether eight bytes fit.
 ghost use mathlib.Core.Path.{_≡_};
 ghost use mathlib.Core.Bool.{cond};
-ghost use Prim.Native.Nat.{_+_, _%_, _≤_};
+ghost use Prim.Native.Nat.{min, _+_, _%_, _≤_};
 ghost use lib.Dec.{leb};
 
 // The lowest byte of a number.
@@ -23,6 +23,13 @@ pub fn wide(x: u32) -> usize
     ensures { λ r. ⌜ r ≡ x ⌝ }
 {
     x as usize
+}
+
+// The smaller of two numbers.
+pub fn least(a: usize, b: usize) -> usize
+    ensures { λ r. ⌜ r ≡ min a b ⌝ }
+{
+    if a < b { a } else { b }
 }
 
 // Eight bytes from `at` on fit.

@@ -1,2 +1,2 @@
-// The rules of a kernel file's header, length and records, in code (refusals 2 to 4).
+// The rule of a kernel file's records, in code (refusal 4).
 pub mod rules;

@@ -1,8 +1,8 @@
 // The moves of a schedule in turn.
 ghost use Rattle.progress.specs.Stands.{Follows};
+use folding::fold_move;
 use progress::moves::Move;
 use progress::progress::Progress;
-use progress::progress::fold_move;
 
 // Each move on what the one before it left.
 pub fn run_moves(rows: &[u8], ms: &[Move], mut x: Progress) -> Progress

@@ -19,7 +19,7 @@ use Rattle.sheet.proofs.Laws.Written.{written-all}
 use Rattle.sheet.proofs.Sizes.{sheet-small}
 
 -- the number and the record of a refusal, and which of the two an answer is
-abbrev numberIn : Lowered → ℕ
+abbrev pub numberIn : Lowered → ℕ
 numberIn (Wrote n) = 0
 numberIn (Refuses n r) = n
 
@@ -27,7 +27,7 @@ abbrev recordIn : Lowered → ℕ
 recordIn (Wrote n) = 0
 recordIn (Refuses n r) = r
 
-abbrev kindOf : Lowered → ℕ
+abbrev pub kindOf : Lowered → ℕ
 kindOf (Wrote n) = 0
 kindOf (Refuses n r) = 1
 
@@ -78,6 +78,20 @@ module _ (bytes : Program → List ℕ) (s own : List ℕ) where
           ∙ ap₂ refused (ap (λ (z : Lowered × List ℕ). numberIn (z .0)) (sym x))
           (ap (λ (z : Lowered × List ℕ). recordIn (z .0)) (sym x))
       go (accepted k) e x = absurd (by k (ltb (length own) (length (bytes k))) x)
+
+  -- a refusal leaves the buffer
+  pub refuses-left : {n r : ℕ} {after : List ℕ} → (Refuses n r, after) ≡ answerBy bytes (verdict s) own → after ≡ own
+  refuses-left {n} {r} {after} = go (verdict s)
+    where
+      by : (k : Program) (b : Bool) → _≡_ {A = Lowered × List ℕ} (Refuses n r, after) (outcome k b) → after ≡ own
+      by k true x = ap (λ (z : Lowered × List ℕ). z .1) x
+      by k false x =
+          let clash : _≡_ {A = ℕ} 1 0 = ap (λ (z : Lowered × List ℕ). kindOf (z .0)) x in
+          absurd (omega arith)
+
+      go : (v : Verdict) → (Refuses n r, after) ≡ answerBy bytes v own → after ≡ own
+      go (refused m q) x = ap (λ (z : Lowered × List ℕ). z .1) x
+      go (accepted k) x = by k (ltb (length own) (length (bytes k))) x
 
 -- in a buffer that takes the bytes of every kernel
 module _

@@ -1,2 +1,2 @@
-// Texts laid into a buffer: one byte, a text, a decimal, a word with its number.
+// Texts laid into a buffer: one byte, a text.
 pub mod put;

@@ -1,7 +1,7 @@
 // A lane's part of the level 2 sheet, from the rows of its level 1 part.
 ghost use mathlib.Core.Path.{_≡_};
 ghost use mathlib.Core.Bool.{cond};
-ghost use Prim.Native.Nat.{ℕ, min, _*_, _+_, _≤_, _<_};
+ghost use Prim.Native.Nat.{ℕ, _*_, _+_, _≤_, _<_};
 ghost use lib.Dec.{eqb};
 ghost use lib.ListN.{length, drop};
 ghost use Rattle.sheet.specs.Levels.{level2};
@@ -11,6 +11,7 @@ ghost use Rattle.sheet.specs.Relower.{relower};
 ghost use Rattle.thinning.specs.Rows.{Proper, aims, rowBytes, Onto};
 use crate::positions::find_positions;
 use crate::positions::stays;
+use rows::number::least;
 use rows::number::one;
 use rows::number::wide;
 use rows::read::whole_row;
@@ -21,12 +22,6 @@ fn code_of(code: u8) -> u8
     ensures { λ r. ⌜ r ≡ cond (eqb code 14) 15 code ⌝ }
 {
     if code == 14 { 15 } else { code }
-}
-
-fn least(a: usize, b: usize) -> usize
-    ensures { λ r. ⌜ r ≡ min a b ⌝ }
-{
-    if a < b { a } else { b }
 }
 
 // The new position of a target; the end, n, stands for every position behind it.

@@ -1,4 +1,5 @@
--- Verdicts computed from bytes: one row for each refusal, for faults that come together, and for what is accepted.
+-- Verdicts computed from bytes: rows for the refusals, for faults that come together, and for what is accepted. The
+-- rows on the length of a chain alone stand in the crate `lawful` (Longest).
 use Prim.Native.Nat.{ℕ, zero, suc}
 use mathlib.Core.Path.{_≡_, refl}
 use mathlib.Core.List.{List, [], _∷_, _++_, map}
@@ -17,7 +18,7 @@ use Rattle.kernel.specs.Held.{heldFrom, same, partedBy, faultAt, faultPosition,
 use Rattle.verdict.specs.Verdict.{structureThen, refusalOf}
 
 -- a header of one lane, with its counts of locations, locks and records, and the head of lane 0
-header : ℕ → ℕ → ℕ → ℕ → List ℕ
+unfoldable pub header : ℕ → ℕ → ℕ → ℕ → List ℕ
 header ls ks n h = 1 ∷ ls ∷ ks ∷ 0 ∷ 0 ∷ 0 ∷ n ∷ 0 ∷ h ∷ 0 ∷ 0 ∷ 0 ∷ 0 ∷ 0 ∷ 0 ∷ 0 ∷ []
 
 -- the same of two lanes, with both heads
@@ -25,7 +26,7 @@ header2 : ℕ → ℕ → ℕ → ℕ → ℕ → List ℕ
 header2 ls ks n h g = 2 ∷ ls ∷ ks ∷ 0 ∷ 0 ∷ 0 ∷ n ∷ 0 ∷ h ∷ 0 ∷ g ∷ 0 ∷ 0 ∷ 0 ∷ 0 ∷ 0 ∷ []
 
 -- a record of an operation, register, operand and next, with all else zero
-entry : ℕ → ℕ → ℕ → ℕ → List ℕ
+unfoldable pub entry : ℕ → ℕ → ℕ → ℕ → List ℕ
 entry op a b n = op ∷ a ∷ b ∷ 0 ∷ 0 ∷ 0 ∷ 0 ∷ 0 ∷ 0 ∷ 0 ∷ n ∷ 0 ∷ []
 
 -- a SKIP on a register, with its target and next
@@ -33,7 +34,7 @@ skip : ℕ → ℕ → ℕ → List ℕ
 skip a t n = 7 ∷ a ∷ 0 ∷ 0 ∷ 0 ∷ 0 ∷ 0 ∷ 0 ∷ t ∷ 0 ∷ n ∷ 0 ∷ []
 
 -- records i, .., i + k - 1 that SET register 0 to 0, each followed by the next one, and the last by none
-sets : ℕ → ℕ → List ℕ
+unfoldable pub sets : ℕ → ℕ → List ℕ
 sets i zero = []
 sets i (suc zero) = entry 1 0 0 0
 sets i (suc (suc k)) = entry 1 0 0 (suc i) ++ sets (suc i) (suc k)
@@ -57,8 +58,6 @@ table =
     ∷ (header 1 0 1 1 ++ entry 1 0 0 1, BadLinkage 1)
     ∷ (header 1 0 2 1 ++ entry 1 0 0 0 ++ entry 1 0 0 0, BadLinkage 2)
     ∷ (header2 1 0 2 1 2 ++ entry 1 0 0 2 ++ entry 1 0 0 0, BadLinkage 2)
-    ∷ (header 1 0 64 1 ++ sets 1 64, Accepted)
-    ∷ (header 1 0 65 1 ++ sets 1 65, ChainTooLong 65)
     -- a target that stands earlier, and one in another lane
     ∷ (header 1 0 2 1 ++ entry 1 0 0 2 ++ skip 0 1 0, BadTarget 2)
     ∷ (header2 1 0 2 1 2 ++ skip 0 2 0 ++ entry 1 0 0 0, BadTarget 1)
@@ -71,7 +70,11 @@ table =
     ∷ (header 1 1 4 1 ++ skip 0 3 2 ++ entry 5 0 0 3 ++ entry 1 0 0 4 ++ entry 6 0 0 0, LockFault 3)
     -- the end of lane 0 comes before the records of lane 1
     ∷ (header2 1 1 2 1 2 ++ entry 5 0 0 0 ++ entry 6 0 0 0, LockFault 1)
-    -- several faults at once: the order of the table decides
+    -- two faults at once, of each check and the next: the order of the table decides. Rows above have 1 and 2, 3 and 4
+    -- (records of no operation), and 5 and 6 (a record chained to itself)
+    ∷ (5 ∷ 1 ∷ replicate 15 0, BadHeader)
+    ∷ (header 1 0 1 1 ++ entry 8 0 0 1, BadRecord 1)
+    ∷ (header 1 0 65 1 ++ skip 0 1 2 ++ sets 2 64, ChainTooLong 65)
     ∷ (header 1 1 2 1 ++ entry 5 0 0 2 ++ skip 0 1 2, BadLinkage 2)
     ∷ (header 1 1 2 1 ++ entry 5 0 0 2 ++ skip 0 1 0, BadTarget 2)
     ∷ (1 ∷ 1 ∷ replicate 14 0, Accepted)
@@ -81,5 +84,5 @@ examples : map (λ e. refusalOf (e .0)) table ≡ map (λ e. e .1) table
 unfolding refusalOf structureThen headerRule headRule badRecord recordRule limitA limitB limitConstant limitTarget
     lowest firstOf badLinkage linkageFrom chain member walkOf chainTooLong badTarget unreachableTarget lockFault
     position
-    opOf opsFrom recordAt faultPosition faultAt partedBy heldFrom same header header2 entry sets skip table
+    opOf opsFrom recordAt faultPosition faultAt partedBy heldFrom same header header2 entry skip sets table
 examples = refl

@@ -5,6 +5,7 @@ use native.Mathlib.Omega.{arith}
 use borrow.Author.Tests.{eqb-true, not-false}
 use Rattle.kernel.specs.Accepted.{programOf}
 use Rattle.verdict.proofs.Laws.Verdict.{sound, accepted-as}
+use Rattle.accepting.specs.Checks.{Fielded}
 use Rattle.accepting.proofs.Laws.Checks.{refuses1, refuses2, refuses3, refuses4, past4, not-accepted}
 use borrow.Author.Needs.{needs}
 use Rattle.accepting.proofs.accept.Statement.{statement}
@@ -53,24 +54,30 @@ judge-requires c κs =
     let fourth = c .before in
     let third = fourth .before .before in
     let second = third .before .before in
-    record {
+    let a = second .before .before .before .before .before in
+    let fielded : Fielded (a .args .file .now) = record {
       header = sym (second .before .header-rule .ensures) ∙ not-false _ (second .if2 .left);
       sized = eqb-true _ _ (not-false _ (sym (third .before .bad-length .ensures) ∙ third .if3 .left));
       records = sym (fourth .before .bad-record .ensures) ∙ fourth .if4 .left;
-    }
+    } in
+    (fielded, a .pre fielded)
+
+same-length : tie.Need-same-length
+same-length c = search needs
 
 returns-5 : tie.Need-returns-5
 returns-5 c =
-    let fourth = c .before .before in
+    let judged = c .before .before in
+    let fourth = judged .before .before in
     let third = fourth .before .before in
     let second = third .before .before in
-    let s = second .before .before .before .before .args .file .now in
+    let s = second .before .before .before .before .before .args .file .now in
     let h2 = sym (ap not (second .before .header-rule .ensures)) ∙ second .if2 .left in
     let h3 = sym (third .before .bad-length .ensures) ∙ third .if3 .left in
     let z4 = sym (fourth .before .bad-record .ensures) ∙ fourth .if4 .left in (
-      c .judge .ensures .0 ∙ past4 s (second .before .before .if1 .left) h2 h3 z4,
+      judged .judge .ensures .0 ∙ past4 s (second .before .before .if1 .left) h2 h3 z4,
       λ v. let st = sound s (accepted-as s (programOf s) v .0) .0 in
-          c .judge .ensures .1 (st .linkage) (st .chains) (st .targets),
+          judged .judge .ensures .1 (st .linkage) (st .chains) (st .targets),
     )
 
 pub accept-spec : {M : Type 1} → statement M
@@ -85,4 +92,5 @@ accept-spec =
     bad-record-requires
     returns-4
     judge-requires
+    same-length
     returns-5)

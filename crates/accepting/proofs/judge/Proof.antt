@@ -1,6 +1,5 @@
 -- `accepting::judge` meets its contract: each return is the first of checks 5 to 8 that refuses.
 use mathlib.Core.Path.{sym, _∙_}
-use native.Mathlib.Omega.{arith}
 use Rattle.linking.proofs.Laws.Places.{end-fits}
 use Rattle.accepting.proofs.Laws.Checks.{refuses5, refuses6, refuses7, refuses8, accepts}
 use Rattle.accepting.proofs.Laws.Checks.{structured}
@@ -61,45 +60,50 @@ write-chains-requires c κs =
     let o = linked .ensures .1 z5 in
     let z6 = sym (second .before .too-long .ensures _ _ o) ∙ second .if2 .left in
     let z7 = sym (third .before .bad-target .ensures _ o z6) ∙ third .if3 .left in
-    (omega arith, structured o (first .before .before .before .before .before .pre) z6 z7)
+    let a = first .before .before .before .before .before .before in
+    (a .pre .1, structured o (a .pre .0) z6 z7)
 
 lock-fault-requires : tie.Need-lock-fault-requires
 lock-fault-requires c κs = search needs
 
+same-length : tie.Need-same-length
+same-length c = search needs
+
 returns-4 : tie.Need-returns-4
 returns-4 c =
-    let written = c .before .before .before .before .before .before in
+    let written = c .before .before .before .before .before .before .before in
     let third = written .before .before .before .before .before in
     let second = third .before .before .before .before in
     let first = second .before .before .before .before .before in
     let linked = first .before .link in
-    let a = first .before .before .before .before .before in
+    let a = first .before .before .before .before .before .before in
     let z5 = sym (linked .ensures .0) ∙ first .if1 .left in
     let o = linked .ensures .1 z5 in
     let z6 = sym (second .before .too-long .ensures _ _ o) ∙ second .if2 .left in
     let z7 = sym (third .before .bad-target .ensures _ o z6) ∙ third .if3 .left in
-    let st = structured o (a .pre) z6 z7 in
+    let st = structured o (a .pre .0) z6 z7 in
     let rows-are = written .write-chains .ensures in
-    let room = written .before .before .before .before .write-chains-arg .given in
-    let fault-is = c .before .lock-fault .ensures _ _ _ st rows-are (omega (arith, room)) in
+    let fault-is = c .before .lock-fault .ensures _ _ _ st rows-are (a .pre .1) in
     (refuses8 _ z5 z6 z7 fault-is (c .if4 .taken), λ e5 e6 e7. rows-are)
+
+same-length-2 : tie.Need-same-length-2
+same-length-2 c = search needs
 
 returns-5 : tie.Need-returns-5
 returns-5 c =
-    let written = c .before .before .before .before .before .before in
+    let written = c .before .before .before .before .before .before .before in
     let third = written .before .before .before .before .before in
     let second = third .before .before .before .before in
     let first = second .before .before .before .before .before in
     let linked = first .before .link in
-    let a = first .before .before .before .before .before in
+    let a = first .before .before .before .before .before .before in
     let z5 = sym (linked .ensures .0) ∙ first .if1 .left in
     let o = linked .ensures .1 z5 in
     let z6 = sym (second .before .too-long .ensures _ _ o) ∙ second .if2 .left in
     let z7 = sym (third .before .bad-target .ensures _ o z6) ∙ third .if3 .left in
-    let st = structured o (a .pre) z6 z7 in
+    let st = structured o (a .pre .0) z6 z7 in
     let rows-are = written .write-chains .ensures in
-    let room = written .before .before .before .before .write-chains-arg .given in
-    let fault-is = c .before .lock-fault .ensures _ _ _ st rows-are (omega (arith, room)) in
+    let fault-is = c .before .lock-fault .ensures _ _ _ st rows-are (a .pre .1) in
     (accepts _ z5 z6 z7 fault-is (c .if4 .left), λ e5 e6 e7. rows-are)
 
 pub judge-spec : {M : Type 1} → statement M
@@ -114,5 +118,7 @@ judge-spec =
     returns-3
     write-chains-requires
     lock-fault-requires
+    same-length
     returns-4
+    same-length-2
     returns-5)

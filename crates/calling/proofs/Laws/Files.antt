@@ -26,7 +26,7 @@ use Rattle.permitting.specs.declared.rules.Machine.{Machine as Coded}
 use Rattle.permitting.specs.declared.rules.Machine.the-variants.{Source, Tso}
 use Rattle.permitting.specs.Machines.{machineIn}
 use Rattle.starting.specs.Programs.{programBytes, programBy}
-use Rattle.calling.specs.Calls.{runInto, runFileBy}
+use Rattle.answering.specs.Calls.{runInto, runFileBy}
 use Rattle.starting.specs.Setup.{ProgramIn, ranInto}
 use Rattle.starting.proofs.Laws.Programs.{header-read}
 

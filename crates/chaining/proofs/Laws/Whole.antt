@@ -6,7 +6,7 @@ use mathlib.Core.List.{List, [], _∷_, _++_, map}
 use native.Mathlib.Omega.{arith}
 use lib.ListN.{length, getD, length-map}
 use lib.Seq.{sets}
-use Rattle.kernel.specs.Fields.{laneCount, locations, locks, mask, head}
+use Rattle.kernel.specs.Fields.{laneCount, locations, locks, mask, recordCount, head}
 use Rattle.kernel.specs.Rules.{headerRule}
 use Rattle.kernel.specs.Accepted.{programOf, opsAt}
 use Rattle.sheet.specs.Layout.{op}
@@ -15,10 +15,9 @@ use Rattle.sheet.specs.Put.{laid, inTurn}
 use Rattle.sheet.proofs.Laws.Loaded.{sizes-by, put-by}
 use Rattle.sheet.proofs.Laws.Written.{written-all}
 use Rattle.linking.specs.Ordered.{countOf}
-use Rattle.linking.proofs.Laws.Places.{end-inside}
 use Rattle.chaining.specs.Chains.{chainBytes, chainAt}
-use Rattle.chaining.specs.Structured.{Structured}
-use Rattle.chaining.proofs.Laws.Records.{few, lane-count-is}
+use Rattle.threading.specs.Structured.{Structured}
+use Rattle.threading.proofs.Laws.Records.{lane-count-is}
 
 module _
     (s : List ℕ) (header : headerRule s ≡ true) {a b c d : ℕ} (ea : a ≡ length (opsAt s (head s 0)))
@@ -51,9 +50,9 @@ module _ {s order place ends : List ℕ} (st : Structured s order place ends) wh
   first-is : getD ends 0 0 ≡ length (opsAt s (head s 0))
   first-is = omega (arith, lane-count-is st 0 (omega arith))
 
-  -- 256 records take 2,064 bytes
-  pub chains-fit : length (chainBytes (programOf s)) ≤ 2064
-  chains-fit =
+  -- one row for each record
+  pub chains-counted : length (chainBytes (programOf s)) ≡ 16 + 8 * recordCount s
+  chains-counted =
       omega (
         arith,
         chains-size s (st .header) first-is (lane-count-is st 1 (omega arith)) (lane-count-is st 2 (omega arith))
@@ -61,13 +60,12 @@ module _ {s order place ends : List ℕ} (st : Structured s order place ends) wh
         st .ordered .rising 1 (omega arith),
         st .ordered .rising 2 (omega arith),
         st .ordered .rising 3 (omega arith),
-        end-inside (st .ordered) 3 (omega arith),
-        few st,
+        st .ordered .all,
       )
 
   -- the header with the counts of the lanes, and the lanes
   pub chains-from : {n ls ks m : ℕ} → n ≡ laneCount s → ls ≡ locations s → ks ≡ locks s → m ≡ mask s
-      → {l₁ l₂ l₃ : List ℕ} (buffer : List ℕ) → 2064 ≤ length buffer
+      → {l₁ l₂ l₃ : List ℕ} (buffer : List ℕ) → 16 + 8 * recordCount s ≤ length buffer
       → l₁ ≡ laid buffer 0 (n ∷ ls ∷ ks ∷ 0 ∷ word m ++ 0 ∷ 0 ∷ [])
       → l₂ ≡ laid l₁ 8 (word (getD ends 0 0) ++ (word (countOf ends 1) ++ (word (countOf ends 2)
       ++ (word (countOf ends 3) ++ []))))
@@ -75,4 +73,4 @@ module _ {s order place ends : List ℕ} (st : Structured s order place ends) wh
       → l₃ ≡ over (chainBytes (programOf s)) buffer
   chains-from en els eks em buffer room =
       chains-put s (st .header) first-is (lane-count-is st 1 (omega arith)) (lane-count-is st 2 (omega arith))
-      (lane-count-is st 3 (omega arith)) en els eks em buffer (omega (arith, chains-fit))
+      (lane-count-is st 3 (omega arith)) en els eks em buffer (omega (arith, chains-counted))

@@ -9,18 +9,16 @@ use lib.ListN.{length, getD, take, drop, length-append, length-drop}
 use lib.Seq.{drop-cons, length-take-le}
 use borrow.Author.Tests.{ne-eqb}
 use Rattle.kernel.specs.Fields.{byte, word}
-use Rattle.placement.specs.declared.place.Placement.{Placement}
 use Rattle.placement.specs.Placed.{bit}
-use Rattle.placement.specs.Sheet.{start as startBy}
+use Rattle.placement.specs.Plan.{beginning}
 use Rattle.sheet.specs.Bytes.{row}
 use Rattle.rows.proofs.Laws.Read.{shifted}
-use Rattle.laying.specs.Put.{standing, rowIf, barrierRows, ownRow, stepRows}
+use Rattle.laying.specs.Put.{rowIf, barrierRows, ownRow, stepRows}
 
-pub barriers-length : (r : Placement) (p : ℕ)
-    → length (barrierRows r p)
-    ≡ length (rowIf (bit (r .ll) p) 11) + length (rowIf (bit (r .ls) p) 12) + length (rowIf (bit (r .ss) p) 13)
-    + length (rowIf (bit (r .sl) p) 14)
-barriers-length r p = simp length-append
+pub barriers-length : (x : ℕ) → length (barrierRows x)
+    ≡ length (rowIf (bit x 0) 11) + length (rowIf (bit x 1) 12) + length (rowIf (bit x 2) 13)
+    + length (rowIf (bit x 3) 14)
+barriers-length x = simp length-append
 
 -- ## the row
 
@@ -55,42 +53,42 @@ module _ (l : List ℕ) where
   word-at : (k : ℕ) → word l (k + 4) ≡ word (drop k l) 4
   word-at k = omega (arith, shifted l k 4 (k + 4) refl, shifted l k 5 (k + 4 + 1) (omega arith))
 
-  module _ (r : Placement) (k : ℕ) where
+  module _ (plan : List ℕ) (k : ℕ) where
     -- a SKIP's row, and any other's
     pub own-skip : {a b t : ℕ} → getD l k 0 ≡ 7 → a ≡ getD l (k + 1) 0 → b ≡ getD l (k + 2) 0
-        → t ≡ startBy (standing r) (word l (k + 4)) → row 7 a b t ≡ ownRow r (drop k l)
+        → t ≡ beginning plan (word l (k + 4)) → row 7 a b t ≡ ownRow plan (drop k l)
     unfolding ownRow
     own-skip e ea eb et =
         let code : byte (drop k l) 0 ≡ 7 = sym (shifted l k 0 k (omega arith)) ∙ e in
         let first = ea ∙ shifted l k 1 (k + 1) refl in
         let second = eb ∙ shifted l k 2 (k + 2) refl in
-        let target = et ∙ ap (startBy (standing r)) (word-at k) in
+        let target = et ∙ ap (beginning plan) (word-at k) in
         (λ i. row 7 (first i) (second i) (target i))
         ∙ sym (ap (λ n. cond (eqb n 7)
-        (row 7 (byte (drop k l) 1) (byte (drop k l) 2) (startBy (standing r) (word (drop k l) 4)))
+        (row 7 (byte (drop k l) 1) (byte (drop k l) 2) (beginning plan (word (drop k l) 4)))
         (take 8 (drop k l))) code)
 
-    pub own-copy : ¬ getD l k 0 ≡ 7 → take 8 (drop k l) ≡ ownRow r (drop k l)
+    pub own-copy : ¬ getD l k 0 ≡ 7 → take 8 (drop k l) ≡ ownRow plan (drop k l)
     unfolding ownRow
     own-copy h =
         let code = ap (λ n. eqb n 7) (sym (shifted l k 0 k (omega arith))) ∙ ne-eqb (getD l k 0) 7 h in
         sym (ap (λ t. cond t
-        (row 7 (byte (drop k l) 1) (byte (drop k l) 2) (startBy (standing r) (word (drop k l) 4)))
+        (row 7 (byte (drop k l) 1) (byte (drop k l) 2) (beginning plan (word (drop k l) 4)))
         (take 8 (drop k l))) code)
 
-    pub own-length : k + 8 ≤ length l → length (ownRow r (drop k l)) ≡ 8
+    pub own-length : k + 8 ≤ length l → length (ownRow plan (drop k l)) ≡ 8
     unfolding ownRow
     own-length h = go (eqb (byte (drop k l) 0) 7)
       where
         go : (b : Bool) → length (cond b
-            (row 7 (byte (drop k l) 1) (byte (drop k l) 2) (startBy (standing r) (word (drop k l) 4)))
+            (row 7 (byte (drop k l) 1) (byte (drop k l) 2) (beginning plan (word (drop k l) 4)))
             (take 8 (drop k l))) ≡ 8
         go true = refl
         go false = length-take-le 8 (drop k l) (omega (arith, length-drop k l))
 
 -- row p with its barriers
-pub step-length : (r : Placement) (rows : List ℕ) (p : ℕ) → 8 * p + 8 ≤ length rows
-    → length (stepRows r rows p) ≡ length (barrierRows r p) + 8
-step-length r rows p h =
-    length-append (barrierRows r p) (ownRow r (drop (8 * p) rows))
-    ∙ ap (λ n. length (barrierRows r p) + n) (own-length rows r (8 * p) h)
+pub step-length : (plan rows : List ℕ) (p : ℕ) → 8 * p + 8 ≤ length rows
+    → length (stepRows plan rows p) ≡ length (barrierRows (getD plan p 0)) + 8
+step-length plan rows p h =
+    length-append (barrierRows (getD plan p 0)) (ownRow plan (drop (8 * p) rows))
+    ∙ ap (λ n. length (barrierRows (getD plan p 0)) + n) (own-length rows plan (8 * p) h)

@@ -1,11 +1,8 @@
--- Laws of the lines of lanes: one instruction more, one lane more; the ones of a mask.
-use Prim.Native.Nat.{ℕ, zero, suc, _+_, _*_, _/_, _%_, _^_, _<_, min}
-use mathlib.Core.Path.{_≡_, refl, sym, ap, ap₂, subst, _∙_}
+-- Laws of the lines of lanes: one instruction more, one lane more.
+use Prim.Native.Nat.{ℕ, zero, suc, _+_, _*_, _<_, min}
+use mathlib.Core.Path.{_≡_, sym, ap, ap₂, _∙_}
 use mathlib.Core.List.{List, [], _∷_, _++_, append-assoc, append-nil}
-use native.Mathlib.Nat.{pow-suc, div-lt-iff-lt-mul}
 use native.Mathlib.Omega.{arith}
-use lib.Count.{onesIn, ones-step}
-use lib.Count as Count
 use lib.ListN.{length, getD, take, drop, length-take}
 use lib.Seq.{drop-drop, take-suc, getD-take}
 use Rattle.kernel.specs.Fields.{word}
@@ -13,7 +10,7 @@ use Rattle.sheet.specs.Read.{readInstr, readRows, pastRows, readLanes, counts}
 use Rattle.rows.proofs.Laws.Parts.{past, four-at}
 use Rattle.rows.proofs.Laws.Read.{rows-on}
 use Rattle.lines.specs.Line.{lineOf}
-use Rattle.listing.specs.Listing.{ones, laneLines, sheetLines}
+use Rattle.listing.specs.Listing.{laneLines, sheetLines}
 
 -- one instruction more
 lane-on : (lane q n : ℕ) (b : List ℕ)
@@ -110,17 +107,3 @@ pub from-next : (b : List ℕ) (t from n : ℕ) → t < length (counts b) → fr
     → n ≡ word b (8 + 2 * t) → from + 8 * n ≡ 16 + 8 * total (take (t + 1) (counts b))
 from-next b t from n h e count =
     omega (arith, total-on (take t (counts b)) (word b (8 + 2 * t)), ap total (counts-next b t h))
-
--- the ones of a mask of n bits
-ones-in : (n m : ℕ) → m < 2 ^ n → Count.ones m ≡ onesIn n m
-unfolding onesIn Count.ones
-ones-in zero m h =
-    let none : m ≡ 0 = omega arith in
-    ap Count.ones none
-ones-in (suc n) m h =
-    let small : m < 2 ^ n * 2 = subst (λ k. m < k) (pow-suc 2 n) h in
-    ones-step m ∙ ap (λ k. m % 2 + k) (ones-in n (m / 2) (div-lt-iff-lt-mul (omega arith) .1 small))
-
-pub ones-16 : (m : ℕ) → m < 65536 → Count.ones m ≡ ones m
-unfolding ones
-ones-16 m h = ones-in 16 m (omega arith)

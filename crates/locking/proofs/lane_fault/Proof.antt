@@ -1,8 +1,9 @@
 -- `locking::lane_fault` meets its contract.
-use Prim.Native.Nat.{_+_, _-_, _*_, _≤_, min}
+use Prim.Native.Nat.{_+_, _-_, _*_, _≤_, _<_, min}
 use lib.ListN.{length}
-use mathlib.Core.Path.{sym, ap, subst, _∙_}
+use mathlib.Core.Path.{refl, sym, ap, subst, _∙_}
 use native.Mathlib.Omega.{arith}
+use Rattle.kernel.specs.Held.{faultPosition}
 use Rattle.kernel.proofs.Laws.Lists.{part-from}
 use Rattle.locking.specs.Lanes.{LaneIn}
 use Rattle.locking.proofs.Laws.Held.{record-none, record-some}
@@ -12,13 +13,28 @@ use Rattle.locking.proofs.lane_fault.Statement.{statement}
 use Rattle.locking.proofs.lane_fault.Tie as tie
 
 returns : tie.Need-returns
-returns c = λ ops up few short room lane. absurd (omega (arith, c .if1 .taken))
+returns c = λ ops up few short big room lane. absurd (omega (arith, c .if1 .taken))
 
 returns-2 : tie.Need-returns-2
-returns-2 c = λ ops up few short room lane. absurd (omega (arith, c .if2 .taken))
+returns-2 c =
+    let a = c .before .before .before .args in
+    λ ops up few short big room lane. record-none (a .order .now) (a .from) (a .end - a .from) (faultPosition ops) 0
+    (omega (arith, up, few, room)) (omega (arith, c .if2 .taken)) refl
+
+sub-n : tie.Need-sub-n
+sub-n c = search needs
 
 returns-3 : tie.Need-returns-3
-returns-3 c = λ ops up few short room lane. absurd (omega (arith, c .if3 .taken))
+returns-3 c = λ ops up few short big room lane. absurd (omega (arith, c .if3 .taken))
+
+mul-if4 : tie.Need-mul-if4
+mul-if4 c = search needs
+
+add-if4 : tie.Need-add-if4
+add-if4 c = search needs
+
+returns-4 : tie.Need-returns-4
+returns-4 c = λ ops up few short big room lane. absurd (omega (arith, c .if4 .taken))
 
 mul-fault-position : tie.Need-mul-fault-position
 mul-fault-position c = search needs
@@ -37,37 +53,26 @@ part-fault-position-end c = search needs
 
 fault-position-requires : tie.Need-fault-position-requires
 fault-position-requires c κs =
-    let a = c .before .before .before .before .before in
-    let from = 16 + 8 * a .args .from in
-    let fits : from ≤ length (a .args .rows .now) = omega (
-      arith,
-      a .pre,
-      c .before .before .before .if1 .left,
-      c .before .before .if2 .left,
-    ) in (
-      omega (arith, c .before .if3 .left),
-      omega (
-        arith,
-        part-length (a .args .rows .now) from fits,
-        a .pre,
-        c .before .before .before .if1 .left,
-        c .before .before .if2 .left,
-      ),
+    let a = c .before .before .before .before .before .before .args in
+    let fits : 16 + 8 * a .end ≤ length (a .rows .now) = c .before .if4 .left in
+    let some : a .from < a .end = c .before .before .before .if2 .left in (
+      omega (arith, c .before .before .if3 .left),
+      omega (arith, part-length (a .rows .now) (16 + 8 * a .from) (omega (arith, fits, some)), fits, some),
     )
 
-lower-requires : tie.Need-lower-requires
-lower-requires c κs = search needs
+least-requires : tie.Need-least-requires
+least-requires c κs = search needs
 
-returns-4 : tie.Need-returns-4
-returns-4 c =
+returns-5 : tie.Need-returns-5
+returns-5 c =
     let w = c .before .before in
-    let a = w .before .before .before .before .before .before .args in
-    λ ops up few short room lane.
+    let a = w .before .before .before .before .before .before .before .args in
+    λ ops up few short big room lane.
     let from = 16 + 8 * a .from in
     let found = w .fault-position .ensures ops
     (subst (λ x. LaneIn x (a .end - a .from) ops) (sym (part-from from (a .rows .now))) lane) in
     record-none (a .order .now) (a .from) (a .end - a .from) _ _ (omega (arith, up, few, room))
-    (c .before .lower .ensures ∙ ap (λ x. min x (a .end - a .from)) found) (c .if4 .taken)
+    (c .before .least .ensures ∙ ap (λ x. min x (a .end - a .from)) found) (c .if5 .taken)
 
 add-wide : tie.Need-add-wide
 add-wide c = search needs
@@ -84,17 +89,17 @@ element-copy-out-wide c = search needs
 wide-requires : tie.Need-wide-requires
 wide-requires c κs = search needs
 
-returns-5 : tie.Need-returns-5
-returns-5 c =
+returns-6 : tie.Need-returns-6
+returns-6 c =
     let w = c .before .before .before .before in
-    let a = w .before .before .before .before .before .before .args in
-    λ ops up few short room lane.
+    let a = w .before .before .before .before .before .before .before .args in
+    λ ops up few short big room lane.
     let from = 16 + 8 * a .from in
     let found = w .fault-position .ensures ops
     (subst (λ x. LaneIn x (a .end - a .from) ops) (sym (part-from from (a .rows .now))) lane) in
     c .wide .ensures ∙ record-some (a .order .now) (a .from) (a .end - a .from) _ _ (omega (arith, up, few, room))
-    (c .before .before .before .lower .ensures ∙ ap (λ x. min x (a .end - a .from)) found)
-    (c .before .before .if4 .left)
+    (c .before .before .before .least .ensures ∙ ap (λ x. min x (a .end - a .from)) found)
+    (c .before .before .if5 .left)
 
 pub lane-fault-spec : {M : Type 1} → statement M
 lane-fault-spec =
@@ -102,18 +107,22 @@ lane-fault-spec =
     (tie.spec
     returns
     returns-2
+    sub-n
     returns-3
+    mul-if4
+    add-if4
+    returns-4
     mul-fault-position
     add-fault-position
     sub-fault-position
     part-fault-position-start
     part-fault-position-end
     fault-position-requires
-    lower-requires
-    returns-4
+    least-requires
+    returns-5
     add-wide
     sub-wide
     mul-wide
     element-copy-out-wide
     wide-requires
-    returns-5)
+    returns-6)

@@ -1,9 +1,10 @@
 -- `locking::lock_fault` meets its contract. The first fault from lane t on is the first of all.
-use Prim.Native.Nat.{ℕ, suc, _+_, _≤_, _-_}
+use Prim.Native.Nat.{ℕ, suc, _+_, _*_, _≤_, _-_}
 use lib.ListN.{length}
 use mathlib.Core.List.{List}
 use mathlib.Core.Path.{_≡_, refl, sym, ap}
 use native.Mathlib.Omega.{arith}
+use Rattle.kernel.specs.Fields.{recordCount}
 use Rattle.kernel.specs.Accepted.{programOf}
 use Rattle.kernel.specs.Held.{lockFault}
 use Rattle.kernel.specs.Search.{firstOf}
@@ -11,8 +12,8 @@ use Rattle.kernel.proofs.Laws.Search.{first-on, first-found, first-none}
 use Rattle.linking.specs.Ordered.{beginOf}
 use Rattle.sheet.specs.Bytes.{over}
 use Rattle.chaining.specs.Chains.{chainBytes}
-use Rattle.chaining.specs.Structured.{Structured}
-use Rattle.locking.proofs.Laws.Order.{fault, fault-is, fault-first, rows-room}
+use Rattle.threading.specs.Structured.{Structured}
+use Rattle.locking.proofs.Laws.Order.{fault, fault-is, fault-first}
 use borrow.Author.Needs.{needs}
 use Rattle.locking.proofs.lock_fault.Statement.{statement}
 use Rattle.locking.proofs.lock_fault.Tie as tie
@@ -21,16 +22,10 @@ abbrev Inv-loop : tie.InvT-loop
 Inv-loop rows order ends from₀ t₀ from t =
     (from ≡ beginOf ends t)
     × ((s place own : List ℕ) → Structured s order place ends → rows ≡ over (chainBytes (programOf s)) own
-    → 2064 ≤ length own → firstOf (fault s) t (4 - t) ≡ lockFault (programOf s))
+    → 16 + 8 * recordCount s ≤ length own → firstOf (fault s) t (4 - t) ≡ lockFault (programOf s))
 
 abbrev μ-loop : tie.MeasureT-loop
 μ-loop rows order ends from₀ t₀ from t = 4 - t
-
-returns : tie.Need-returns Inv-loop μ-loop
-returns c =
-    let rows = c .before .before .args .rows .now in
-    λ s place own st front big.
-    absurd (omega (arith, rows-room rows own (chainBytes (programOf s)) front, c .if1 .taken, big))
 
 loop-holds : tie.Need-loop-holds Inv-loop μ-loop
 loop-holds c = (refl, λ s place own st front big. fault-first s)
@@ -42,17 +37,17 @@ element-copy-out-end : tie.Need-element-copy-out-end Inv-loop μ-loop
 element-copy-out-end c = search needs
 
 lane-fault-requires : tie.Need-lane-fault-requires Inv-loop μ-loop
-lane-fault-requires c κs = omega (arith, c .before .before .before .if1 .left)
+lane-fault-requires c κs = search needs
 
-returns-2 : tie.Need-returns-2 Inv-loop μ-loop
-returns-2 c =
+returns : tie.Need-returns Inv-loop μ-loop
+returns c =
     let w = c .before .before .before in
-    let a = w .before .before .before .before .args in
+    let a = w .before .before .before .args in
     let l = w .before .loop in
     λ s place own st front big. first-found (fault s) _ _ (w .loop-test .taken)
-    (fault-is s (a .order .now) place (a .ends .now) st (a .rows .now) own front (l .t) (w .loop-test .taken)
+    (fault-is s (a .order .now) place (a .ends .now) st (a .rows .now) own front big (l .t) (w .loop-test .taken)
     (l .inv .0) (c .before .lane-fault .ensures))
-    (c .if2 .taken) (l .inv .1 s place own st front big)
+    (c .if1 .taken) (l .inv .1 s place own st front big)
 
 add-t : tie.Need-add-t Inv-loop μ-loop
 add-t c = omega arith
@@ -63,18 +58,18 @@ loop-less c = omega arith
 loop-again : tie.Need-loop-again Inv-loop μ-loop
 loop-again c =
     let w = c .before .before .before in
-    let a = w .before .before .before .before .args in
+    let a = w .before .before .before .args in
     let l = w .before .loop in
     let next : l .t + 1 ≡ suc (l .t) = omega arith in (
       ap (beginOf (a .ends .now)) (sym next),
       λ s place own st front big. first-on (fault s) _ _ (w .loop-test .taken)
-          (fault-is s (a .order .now) place (a .ends .now) st (a .rows .now) own front (l .t) (w .loop-test .taken)
+          (fault-is s (a .order .now) place (a .ends .now) st (a .rows .now) own front big (l .t) (w .loop-test .taken)
           (l .inv .0) (c .before .lane-fault .ensures))
-          (c .if2 .left) (l .inv .1 s place own st front big),
+          (c .if1 .left) (l .inv .1 s place own st front big),
     )
 
-returns-3 : tie.Need-returns-3 Inv-loop μ-loop
-returns-3 c =
+returns-2 : tie.Need-returns-2 Inv-loop μ-loop
+returns-2 c =
     λ s place own st front big. first-none (fault s) _ _ (c .loop-test .left)
     (c .before .loop .inv .1 s place own st front big)
 
@@ -84,13 +79,12 @@ lock-fault-spec =
     (tie.spec
     Inv-loop
     μ-loop
-    returns
     loop-holds
     mul-end
     element-copy-out-end
     lane-fault-requires
-    returns-2
+    returns
     add-t
     loop-less
     loop-again
-    returns-3)
+    returns-2)

@@ -8,7 +8,7 @@ use lib.Dec.{leb, ltb}
 use borrow.Author.Tests.{leb-true, ltb-true}
 use Rattle.placement.specs.Cookbook.{Class, Barrier, LL, LS, SS, SL, codeOf, cellCode}
 use Rattle.placement.specs.Chain.{Step, Access, Skip, Other}
-use Rattle.placement.specs.Placed.{bit, flags, bitOf, dueIn, setOf, landing}
+use Rattle.placement.specs.Placed.{bit, bitOf, dueIn, setOf, landing}
 use Rattle.placement.proofs.Laws.Bools.{agrees, agree, below-at}
 use Rattle.placement.proofs.Laws.Cookbook.{everyClass, class-at, everyBarrier, barrier-at}
 
@@ -30,13 +30,6 @@ code-set (some SL) = refl
 pub set-small : (o : Option Barrier) → setOf o ≤ 8
 set-small none = omega arith
 set-small (some b) = leb-true (2 ^ bitOf b) 8 (barrier-at (λ a. leb (2 ^ bitOf a) 8) refl b)
-
--- a placement with no barrier
-pub none-flags : (b : Barrier) → flags (record { ll = 0; ls = 0; ss = 0; sl = 0 }) b ≡ 0
-none-flags LL = refl
-none-flags LS = refl
-none-flags SS = refl
-none-flags SL = refl
 
 -- a set of barriers, four times over
 abbrev spreadAgrees : ℕ → Barrier → Class → Bool

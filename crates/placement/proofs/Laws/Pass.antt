@@ -16,7 +16,7 @@ use Rattle.placement.specs.Cookbook.{Class, Barrier, numberOf}
 use Rattle.placement.specs.Chain.{Step, Access, Skip, Other, Chain, at}
 use Rattle.placement.specs.Place.{has, noClasses, standsAt, raises, after, jumps, arrives, rowsTo, due, stands}
 use Rattle.placement.specs.Placed.{bit, bitOf, dueIn, landing}
-use Rattle.placement.proofs.Laws.Bits.{bit-or, bit-zero, Marked, marked-none, marked-more}
+use Rattle.placement.proofs.Laws.Bits.{bit-or, bit-zero}
 use Rattle.placement.proofs.Laws.Bytes.{landing-small}
 use Rattle.placement.proofs.Laws.Lists.{replicate-at}
 use Rattle.placement.proofs.Laws.Rows.{row-has}
@@ -122,35 +122,37 @@ module _ (s : Chain) (b : Barrier) where
           ∙ g .ahead x (omega arith) k d
           ∙ sym (jumped-by p x false d i k (there x false w))
 
-  -- what is known before position p: what is due, what jumps have brought, and what stands below p
-  pub record Reached (d : ℕ) (l : List ℕ) (out p : ℕ) : Type 0 where
+  -- what is known before position p: what is due, what jumps have brought, and in the plan what stands below p
+  pub record Reached (d : ℕ) (l plan : List ℕ) (p : ℕ) : Type 0 where
     pub due-here : (c : Class) → dueIn d b c ≡ passed p c
     pub gathered : Gathered l p
-    pub marked : Marked (stands s b) out p
+    pub planned : (j : ℕ) → j < p → bit (getD plan j 0) (bitOf b) ≡ stands s b j
 
-  pub reached-none : Reached 0 (replicate 65 0) 0 0
-  reached-none = record {
+  pub reached-none : (plan : List ℕ) → Reached 0 (replicate 65 0) plan 0
+  reached-none plan = record {
     due-here = λ c. bit-zero (4 * numberOf c + bitOf b);
     gathered = gathered-none;
-    marked = marked-none (stands s b);
+    planned = λ j h. absurd (omega arith);
   }
 
-  -- A turn of the pass, at a step that lands at t; l′ is the list of what jumps bring after it.
-  pub turn : {d here next out out′ p t : ℕ} {l l′ : List ℕ} {stood : Bool} (new : ℕ)
-      → Reached d l out p → p < 64
+  -- A turn of the pass, at a step that lands at t; l′ is the list of what jumps bring after it, and x what the plan
+  -- has of p.
+  pub turn : {d here next p t : ℕ} {l l′ plan : List ℕ} {stood : Bool} (new x : ℕ)
+      → Reached d l plan p → p < 64
       → here ≡ bitOr d (getD l p 0)
       → stood ≡ standsAt (at s p) (dueIn here b)
-      → ((j : ℕ) → bit out′ j ≡ (bit out j || (eqb p j && stood)))
+      → bit x (bitOf b) ≡ stood
+      → p < length plan
       → ((c : Class) → dueIn new b c ≡ raises b (at s p) c)
       → ((c : Class) → dueIn next b c ≡ ((not stood && dueIn here b c) || dueIn new b c))
       → t ≡ landing (at s p)
       → ((p < t) × (l′ ≡ set l t (bitOr next (getD l t 0)))) ⊎ ((t ≤ p) × (l′ ≡ l))
-      → Reached next l′ out′ (p + 1)
+      → Reached next l′ (set plan p x) (p + 1)
   unfolding stands
-  turn {d} {here} {next} {out} {out′} {p} {t} {l} {l′} {stood} new r h eh es em en el et w = record {
+  turn {d} {here} {next} {p} {t} {l} {l′} {plan} {stood} new x r h eh es ex room en el et w = record {
     due-here = λ c. next-is c ∙ ap (λ (k : ℕ). passed k c) (sym (add-one p));
     gathered = go w;
-    marked = marked-more (stands s b) (r .marked) stood-is em;
+    planned = λ j i. stands-at j i (eqb j p) refl;
   }
     where
       here-is : (c : Class) → dueIn here b c ≡ due s b p c
@@ -162,6 +164,15 @@ module _ (s : Chain) (b : Barrier) where
 
       stood-is : stood ≡ standsAt (at s p) (due s b p)
       stood-is = es ∙ ap (standsAt (at s p)) (fun-ext here-is)
+
+      stands-at : (j : ℕ) → j < p + 1 → (u : Bool) → eqb j p ≡ u
+          → bit (getD (set plan p x) j 0) (bitOf b) ≡ stands s b j
+      stands-at j i true e =
+          subst (λ (y : ℕ). bit (getD (set plan p x) y 0) (bitOf b) ≡ stands s b y) (sym (eqb-true j p e))
+          (ap (λ (y : ℕ). bit y (bitOf b)) (getD-set-same plan p x 0 room) ∙ ex ∙ stood-is)
+      stands-at j i false e =
+          let ne : ¬ j ≡ p = eqb-false j p e in
+          ap (λ (y : ℕ). bit y (bitOf b)) (getD-set-other plan p j x 0 ne) ∙ r .planned j (omega arith)
 
       next-is : (c : Class) → dueIn next b c ≡ left p c
       next-is c = el c ∙ (λ i. (not (stood-is i) && here-is c i) || en c i)

@@ -1,16 +1,15 @@
 -- The rows of the placement: what is due after each position.
-use Prim.Native.Nat.{ℕ, zero, suc, _<_, _≤_}
+use Prim.Native.Nat.{ℕ, zero, suc, _<_}
 use native.Mathlib.Nat.{not-suc-le-zero, le-of-suc-le-suc, eq-or-lt-of-le}
 use native.Mathlib.Omega.{arith}
 use mathlib.Core.Path.{_≡_, refl, sym, _∙_, ap, subst}
-use mathlib.Core.Bool.{false}
 use mathlib.Core.List.{[], _∷_, _++_}
 use mathlib.Core.Logic.{_⊎_, inl, inr}
-use lib.ListN.{length, getD, length-append, List·getD-append, List·getD-eq-default}
+use lib.ListN.{length, getD, length-append, List·getD-append}
 use lib.Seq.{getD-at}
 use Rattle.placement.specs.Cookbook.{Class, Barrier}
-use Rattle.placement.specs.Chain.{Step, Other, Chain, at}
-use Rattle.placement.specs.Place.{Classes, has, classes, noClasses, standsAt, after, arrives, rowsTo, due, stands}
+use Rattle.placement.specs.Chain.{Chain, at}
+use Rattle.placement.specs.Place.{Classes, has, classes, noClasses, after, arrives, rowsTo, due}
 use Rattle.placement.proofs.Laws.Place.{has-classes}
 
 length-rows : (s : Chain) (b : Barrier) (k : ℕ) → length (rowsTo s b k) ≡ k
@@ -39,8 +38,3 @@ row-at s b (suc k) q h = go (row-at s b k q) (eq-or-lt-of-le (le-of-suc-le-suc h
 pub row-has : (s : Chain) (b : Barrier) (k q : ℕ) (d : Class) → q < k
     → has (getD (rowsTo s b k) q noClasses) d ≡ after b (at s q) (due s b q) d
 row-has s b k q d h = ap (λ (r : Classes). has r d) (row-at s b k q h) ∙ has-classes (after b (at s q) (due s b q)) d
-
--- behind the end nothing stands
-pub stands-behind : (s : Chain) (b : Barrier) (j : ℕ) → length s ≤ j → stands s b j ≡ false
-unfolding stands
-stands-behind s b j h = ap (λ (x : Step). standsAt x (due s b j)) (List·getD-eq-default s Other h)

@@ -31,11 +31,11 @@ use Rattle.rows.specs.Lanes.{fieldsOf, Holds}
 use Rattle.placing.specs.Classes.{classByte, callTable}
 
 -- the code's table of classes by an operation's code, plain and volatile
-abbrev pub classTable : List ℕ
-classTable = 4 ∷ 4 ∷ 4 ∷ 0 ∷ 1 ∷ 2 ∷ 3 ∷ 4 ∷ 4 ∷ 4 ∷ 4 ∷ 2 ∷ 3 ∷ 2 ∷ 3 ∷ 4 ∷ []
+abbrev pub classIn : ℕ → ℕ
+classIn i = 4837750300328657988 / 2 ^ (4 * i) % 16
 
-pub class-small : (i : ℕ) → i < 16 → getD classTable i 0 ≤ 4
-class-small i h = leb-true (getD classTable i 0) 4 (below-at (λ k. leb (getD classTable k 0) 4) 16 refl i h)
+pub class-small : (i : ℕ) → i < 16 → classIn i ≤ 4
+class-small i h = leb-true (classIn i) 4 (below-at (λ k. leb (classIn k) 4) 16 refl i h)
 
 -- a law of a test, by its two values
 by-test : (f g : Bool → ℕ) → f true ≡ g true → f false ≡ g false → (u : Bool) → f u ≡ g u
@@ -44,7 +44,7 @@ by-test f g t e false = e
 
 module _ (vol : ℕ → Bool) where
   abbrev entry : ℕ → Bool → ℕ
-  entry k u = getD classTable (k + 8 * boolByte u) 0
+  entry k u = classIn (k + 8 * boolByte u)
 
   -- the entry of an operation's code and location
   pub class-of : (o : Op) → entry (fieldsOf o .code % 8) (vol (fieldsOf o .b)) ≡ classByte (stepOf vol o)
@@ -98,8 +98,5 @@ class-raises b Other d = bit-zero (4 * numberOf d + bitOf b)
 
 -- the steps of the operations that a buffer holds
 module _ (vol : ℕ → Bool) {rows : List ℕ} {n : ℕ} {ops : List Op} (h : Holds rows n ops) where
-  pub steps-length : length (steps vol ops) ≡ n
-  steps-length = length-map ops (stepOf vol) ∙ h .count
-
   pub step-is : (p : ℕ) → p < n → stepOf vol (getD ops p noOp) ≡ at (steps vol ops) p
   step-is p l = sym (map-at (stepOf vol) ops p noOp Other (omega (arith, h .count)))

@@ -4,10 +4,11 @@ use mathlib.Core.Bool.{Bool, true, false, cond}
 use mathlib.Core.List.{List, [], _∷_, _++_}
 use native.Mathlib.Omega.{arith}
 use lib.ListN.{length, length-append}
-use Rattle.reading.specs.declared.place.Place.{Place}
-use Rattle.reading.specs.declared.place.Place.the-variants.{Blank, Lane, Between, Choice, Full, Remark, Noted}
-use Rattle.reading.specs.declared.place.Place.the-variants.{Wrong}
-use Rattle.reading.specs.Text.{isBlank, isDigit, isHash, isNewline, sorted, after, moveAt, movesFrom, movesOf}
+use Rattle.spelling.specs.declared.place.Place.{Place}
+use Rattle.spelling.specs.declared.place.Place.the-variants.{Blank, Lane, Between, Choice, Full, Remark, Noted}
+use Rattle.spelling.specs.declared.place.Place.the-variants.{Wrong}
+use Rattle.spelling.specs.Place.{isBlank, isDigit, isHash, sorted, after}
+use Rattle.reading.specs.Text.{isNewline, moveAt, movesFrom, movesOf}
 
 -- how many bytes of moves a line may come to have made, at a place in it
 weight : Place → ℕ

@@ -10,9 +10,10 @@ use lib.ListN.{length, getD, drop, set, drop-of-length-le}
 use lib.Seq.{drop-cons, sets}
 use Rattle.sheet.specs.Put.{Puts}
 use Rattle.sheet.proofs.Laws.Put.{puts-as, puts-on}
-use Rattle.reading.specs.declared.place.Place.{Place}
-use Rattle.reading.specs.declared.place.Place.the-variants.{Blank}
-use Rattle.reading.specs.Text.{after, isWrong, malformedFrom, moveAt, movesFrom, movesOf}
+use Rattle.spelling.specs.declared.place.Place.{Place}
+use Rattle.spelling.specs.declared.place.Place.the-variants.{Blank}
+use Rattle.spelling.specs.Place.{after, isWrong}
+use Rattle.reading.specs.Text.{malformedFrom, moveAt, movesFrom, movesOf}
 use Rattle.reading.proofs.Laws.Few.{moves-few}
 
 -- the byte at which the reader stands, and what is left behind it

@@ -10,7 +10,7 @@ use lib.ListN.{length, drop, length-append, length-drop}
 use Rattle.sheet.specs.Bytes.{over}
 use Rattle.sheet.specs.Put.{Puts}
 use Rattle.sheet.proofs.Laws.Put.{puts-front}
-use Rattle.reading.specs.declared.place.Place.the-variants.{Blank}
+use Rattle.spelling.specs.declared.place.Place.the-variants.{Blank}
 use Rattle.reading.specs.declared.whole.Read.{Read}
 use Rattle.reading.specs.declared.whole.Read.the-variants.{Moves, Malformed, TooLong}
 use Rattle.reading.specs.Text.{malformedFrom, movesOf, readInto}

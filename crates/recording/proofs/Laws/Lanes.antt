@@ -13,9 +13,11 @@ use Rattle.machine.specs.State.{State, idle, laneAt}
 use Rattle.pending.specs.Lanes.{laneIn}
 use Rattle.moving.specs.States.{Rows, laneOf, lanesIn}
 use Rattle.moving.proofs.Laws.States.{lane-in}
-use Rattle.recording.specs.Record.{entriesBytes, stateLane, headBytes, recordOf}
-use Rattle.recording.specs.Stored.{storedOf}
-use Rattle.recording.proofs.Sizes.{lane-length, head-length, record-length}
+use Rattle.noting.specs.Lanes.{entriesBytes, stateLane}
+use Rattle.noting.specs.Stored.{storedOf}
+use Rattle.noting.proofs.Sizes.{lane-length}
+use Rattle.recording.specs.Record.{headBytes, recordOf}
+use Rattle.recording.proofs.Sizes.{head-length, record-length}
 
 -- a lane of zeros is written as the idle one
 zeros : stateLane (laneIn (storedOf 0 (replicate 8 0) (replicate 64 0) (replicate 64 0) 0)) ≡ stateLane idle

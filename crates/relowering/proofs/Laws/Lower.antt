@@ -21,7 +21,7 @@ use Rattle.sheet.proofs.Answers.{BytesIn, wrote-any}
 use Rattle.sheet.proofs.ReadBack.{lawful-back}
 use Rattle.sheet.proofs.RelowerBytes.{relowered-bytes}
 use Rattle.sheet.proofs.Sizes.{sheet-size, lane-few}
-use Rattle.relowering.specs.Rows.{Readable}
+use Rattle.converting.specs.Rows.{Readable}
 use Rattle.relowering.proofs.Laws.Proper.{sheet-proper}
 
 -- a level 1 sheet can be read

@@ -1,27 +1,16 @@
 -- Laws of the way through a level 1 sheet: what its answer says of the answer that is asked for.
 use Prim.Native.Nat.{ℕ, _≤_}
 use mathlib.Core.Path.{_≡_, refl, sym, ap, _∙_}
-use mathlib.Core.Bool.{Bool, true, false, cond}
 use mathlib.Core.List.{List}
 use native.Mathlib.Omega.{arith}
-use lib.Dec.{ltb}
 use lib.ListN.{length}
-use Rattle.verdict.specs.Verdict.{Verdict, refused, accepted, verdict}
 use Rattle.sheet.specs.declared.Lowered.{Lowered}
 use Rattle.sheet.specs.declared.Lowered.the-variants.{Wrote, Refuses}
 use Rattle.sheet.specs.Levels.{level1, level2}
-use Rattle.sheet.specs.Bytes.{sheetBytes, over, answerBy, lower1, lower2}
-use Rattle.sheet.proofs.Answers.{refuses-any, refuses-as}
+use Rattle.sheet.specs.Bytes.{sheetBytes, lower1, lower2}
+use Rattle.sheet.proofs.Answers.{kindOf, numberIn, refuses-any, refuses-left, refuses-as}
 use Rattle.relowering.specs.Through.{afterFirst, throughSheet}
 use Rattle.relowering.proofs.Laws.Lower.{first-refused}
-
-abbrev kind : Lowered → ℕ
-kind (Wrote n) = 0
-kind (Refuses n r) = 1
-
-abbrev number : Lowered → ℕ
-number (Wrote n) = 0
-number (Refuses n r) = n
 
 module _ (s own out : List ℕ) where
   -- by the answer of the first level
@@ -49,7 +38,7 @@ module _ (s own out : List ℕ) where
           → (Wrote n, after) ≡ lower2 s out
       go (Wrote m) p = p
       go (Refuses m r) p =
-          let clash : _≡_ {A = ℕ} 0 1 = ap (λ (z : Lowered × List ℕ). kind (z .0)) p in absurd (omega arith)
+          let clash : _≡_ {A = ℕ} 0 1 = ap (λ (z : Lowered × List ℕ). kindOf (z .0)) p in absurd (omega arith)
 
   pub through-refused : {n r : ℕ} {after : List ℕ} → (n ≡ 9 → ⊥) → (Refuses n r, after) ≡ throughSheet s own out
       → (Refuses n r, after) ≡ lower2 s out
@@ -60,28 +49,14 @@ module _ (s own out : List ℕ) where
           → (Refuses n r, after) ≡ lower2 s out
       go (Wrote m) e p = p
       go (Refuses m q) e p =
-          let same : n ≡ m = ap (λ (z : Lowered × List ℕ). number (z .0)) p in
+          let same : n ≡ m = ap (λ (z : Lowered × List ℕ). numberIn (z .0)) p in
           p ∙ first-refused s out (refuses-any (sheetBytes level1) s own (λ z. other (same ∙ z)) (first-is e))
 
   -- a refusal leaves the buffer
-  left : {n r : ℕ} {after : List ℕ} → (Refuses n r, after) ≡ lower2 s out → after ≡ out
-  left {n} {r} {after} = go (verdict s)
-    where
-      by : (b : Bool) (m : ℕ) (x : List ℕ)
-          → _≡_ {A = Lowered × List ℕ} (Refuses n r, after) (cond b (Refuses 9 0, out) (Wrote m, x)) → after ≡ out
-      by true m x p = ap (λ (z : Lowered × List ℕ). z .1) p
-      by false m x p =
-          let clash : _≡_ {A = ℕ} 1 0 = ap (λ (z : Lowered × List ℕ). kind (z .0)) p in absurd (omega arith)
-
-      go : (v : Verdict) → _≡_ {A = Lowered × List ℕ} (Refuses n r, after) (answerBy (sheetBytes level2) v out)
-          → after ≡ out
-      go (refused m q) p = ap (λ (z : Lowered × List ℕ). z .1) p
-      go (accepted k) p = by (ltb (length out) (length (sheetBytes level2 k))) _ _ p
-
   pub through-left : {n r : ℕ} {after : List ℕ} → (Refuses n r, after) ≡ throughSheet s own out → after ≡ out
   through-left {n} {r} {after} = go (lower1 s own .0)
     where
       go : (a : Lowered) → _≡_ {A = Lowered × List ℕ} (Refuses n r, after) (afterFirst a (lower2 s out) out)
           → after ≡ out
-      go (Wrote m) p = left p
+      go (Wrote m) p = refuses-left (sheetBytes level2) s out p
       go (Refuses m q) p = ap (λ (z : Lowered × List ℕ). z .1) p

@@ -1,4 +1,4 @@
--- Laws of a part `&l[i..]` or `&mut l[i..]` of a buffer.
+-- Laws of a part `&l[i..]`, `&mut l[i..]` or `&mut l[i..e]` of a buffer.
 use Prim.Native.Nat.{ℕ, _+_, _-_, _≤_}
 use mathlib.Core.Path.{_≡_, sym, ap, _∙_}
 use mathlib.Core.List.{List, [], _++_, append-assoc, append-nil}
@@ -29,3 +29,14 @@ part-back l xs i {ys} h p =
           ∙ sym (append-assoc (take i l) xs (drop (i + length xs) l)) ∙ sym (sets-eq xs l i h);
       behind = omega (arith, p .behind);
     }
+
+-- a part `&mut l[i..e]` that comes back filled
+pub part-filled : (l xs : List ℕ) (i e : ℕ) {ys : List ℕ} → i + length xs ≡ e → e ≤ length l → ys ≡ xs
+    → Puts l i xs (putMid i (e - i) l ys) e
+part-filled l xs i e {ys} whole h filled = record {
+  bytes =
+      ap (λ z. take i l ++ (z ++ postOf i (e - i) l)) filled
+      ∙ ap (λ z. take i l ++ (xs ++ z)) (post-is i e l (omega arith) ∙ ap (λ n. drop n l) (sym whole))
+      ∙ sym (append-assoc (take i l) xs (drop (i + length xs) l)) ∙ sym (sets-eq xs l i (omega arith));
+  behind = sym whole;
+}

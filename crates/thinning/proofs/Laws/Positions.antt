@@ -52,20 +52,6 @@ module _ (o : ℕ) where
       by 1 _ _ refl (by 2 _ _ refl (by 3 _ _ refl (by 4 _ _ refl (by 5 _ _ refl (by 6 _ _ refl (by 7 _ _ refl
       barrier-stays))))))
 
--- a SKIP is aimed by the position of its own target alone
-module _ (r : ℕ → ℕ) (c : ℕ) where
-  abbrev Same : Instr → Type 0
-  Same i = aimed (λ t. r c) i ≡ aimed r i
-
-  either : (t : Bool) (x y : Instr) → Same x → Same y → Same (cond t x y)
-  either true x y p q = p
-  either false x y p q = q
-
-  pub aimed-word : (o a b : ℕ) → Same (instrBy o a b c)
-  aimed-word o a b =
-      either (eqb o 1) _ _ refl (either (eqb o 2) _ _ refl (either (eqb o 3) _ _ refl (either (eqb o 4) _ _ refl
-      (either (eqb o 5) _ _ refl (either (eqb o 6) _ _ refl (either (eqb o 7) _ _ refl refl))))))
-
 module _ (r : ℕ → ℕ) where
   relower-on : (is : List Instr) (i : Instr)
       → relowerBy level2 r (is ++ i ∷ []) ≡ relowerBy level2 r is ++ relowerBy level2 r (i ∷ [])

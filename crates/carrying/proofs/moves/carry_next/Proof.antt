@@ -2,7 +2,7 @@
 use lib.ListN.{getD, drop}
 use Rattle.sheet.specs.Read.{readRows}
 use Rattle.pending.specs.Lanes.{flags}
-use Rattle.carrying.proofs.Laws.Codes.{of-row, ready-as, carried-as}
+use Rattle.performing.proofs.Laws.Codes.{of-row, ready-as, carried-as}
 use Rattle.carrying.proofs.Laws.Programs.{row-past, row-from, ready-at, made-carry, made-wait}
 use borrow.Author.Needs.{needs}
 use Rattle.carrying.proofs.moves.carry_next.Statement.{statement}

@@ -6,13 +6,14 @@ use native.Mathlib.Omega.{arith}
 use lib.ListN.{length, getD}
 use lib.Seq.{sets}
 use Rattle.linking.specs.Ordered.{beginOf}
+use Rattle.linking.proofs.Laws.Places.{end-inside}
 use Rattle.sheet.specs.Put.{Puts, inTurn}
 use Rattle.sheet.proofs.Laws.Put.{puts-as, puts-length}
 use Rattle.sheet.proofs.Laws.Turn.{turn-none, turn-on}
 use Rattle.rows.specs.Lanes.{opRows}
 use Rattle.chaining.specs.Chains.{chainAt}
-use Rattle.chaining.specs.Records.{LaneIn}
-use Rattle.chaining.proofs.Laws.Records.{in-file, ops-in}
+use Rattle.threading.specs.Records.{LaneIn}
+use Rattle.threading.proofs.Laws.Records.{ops-in}
 use borrow.Author.Needs.{needs}
 use Rattle.chaining.proofs.whole.write_lanes.Statement.{statement}
 use Rattle.chaining.proofs.whole.write_lanes.Tie as tie
@@ -47,7 +48,8 @@ write-chain-requires c κs =
       from = l .inv .1;
       to = refl;
     } in
-    (omega (arith, in-file lane, puts-length (l .inv .2), a .pre .0), lane)
+    let inside = end-inside (a .pre .1 .ordered) (l .t) (test .loop-test .taken) in
+    (omega (arith, inside, puts-length (l .inv .2), a .pre .0), lane)
 
 add-t : tie.Need-add-t Inv-loop μ-loop
 add-t c = omega (arith, c .before .before .before .before .before .loop-test .taken)

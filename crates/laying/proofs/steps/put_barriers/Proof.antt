@@ -24,7 +24,7 @@ put-barrier-requires-2 c κs =
     let f = c .before .before .before .before in
     let s = f .before .before .before .before in
     let ll = ap (λ x. length (rowIf x 11)) (f .before .bit-at .ensures) in
-    omega (arith, barriers-length (s .args .placement) (s .args .p), s .pre .1, ll, f .put-barrier .ensures .1)
+    omega (arith, barriers-length (s .args .set), s .pre, ll, f .put-barrier .ensures .1)
 
 bit-at-requires-3 : tie.Need-bit-at-requires-3
 bit-at-requires-3 c κs = search needs
@@ -38,8 +38,8 @@ put-barrier-requires-3 c κs =
     let ls = ap (λ x. length (rowIf x 12)) (g .before .bit-at2 .ensures) in
     omega (
       arith,
-      barriers-length (s .args .placement) (s .args .p),
-      s .pre .1,
+      barriers-length (s .args .set),
+      s .pre,
       ll,
       ls,
       f .put-barrier .ensures .1,
@@ -60,8 +60,8 @@ put-barrier-requires-4 c κs =
     let ss = ap (λ x. length (rowIf x 13)) (h .before .bit-at3 .ensures) in
     omega (
       arith,
-      barriers-length (s .args .placement) (s .args .p),
-      s .pre .1,
+      barriers-length (s .args .set),
+      s .pre,
       ll,
       ls,
       ss,

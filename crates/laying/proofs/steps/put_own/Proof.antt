@@ -3,9 +3,8 @@ use mathlib.Core.Path.{refl, ap, _∙_}
 use native.Mathlib.Omega.{arith}
 use lib.ListN.{take, drop, length-take}
 use lib.Seq.{sets}
-use Rattle.placement.specs.Sheet.{start as startBy}
+use Rattle.placement.specs.Plan.{beginning}
 use Rattle.sheet.specs.Bytes.{row}
-use Rattle.laying.specs.Put.{standing}
 use Rattle.laying.proofs.Laws.Begins.{laid-over}
 use Rattle.laying.proofs.Laws.Put.{own-skip, own-copy}
 use borrow.Author.Needs.{needs}
@@ -53,16 +52,15 @@ returns c =
     let w = c .before .before in
     let t = w .before .before .before .before in
     let k = t .before .before .before .before .before .before in
-    let a = k .before .before .before .before in
+    let a = k .before .before .before .before .before in
     let rows = a .args .rows .now in
-    let target =
-    t .start-of .ensures .0 ∙ ap (startBy (standing (a .args .placement))) (t .before .word-at .ensures .0) in
+    let target = t .start-of .ensures ∙ ap (beginning (a .args .plan .now)) (t .before .word-at .ensures .0) in
     let skip = t .before .before .if1 .taken in
     laid-over (a .args .out .now) (a .args .at) (take 8 (drop (a .args .from) rows)) (row 7 _ _ _)
     (omega (arith, length-take 8 (drop (a .args .from) rows))) (omega (arith, a .pre .0)) (k .copy-row .ensures)
     (w .put-row .ensures)
     ∙ ap (sets (a .args .out .now) (a .args .at))
-    (own-skip rows (a .args .placement) (a .args .from) skip refl refl target)
+    (own-skip rows (a .args .plan .now) (a .args .from) skip refl refl target)
 
 same-length-2 : tie.Need-same-length-2
 same-length-2 c = search needs
@@ -70,10 +68,10 @@ same-length-2 c = search needs
 returns-2 : tie.Need-returns-2
 returns-2 c =
     let k = c .before .before .before .before in
-    let a = k .before .before .before .before in
+    let a = k .before .before .before .before .before in
     k .copy-row .ensures
     ∙ ap (sets (a .args .out .now) (a .args .at))
-    (own-copy (a .args .rows .now) (a .args .placement) (a .args .from) (c .if1 .left))
+    (own-copy (a .args .rows .now) (a .args .plan .now) (a .args .from) (c .if1 .left))
 
 pub put-own-spec : {M : Type 1} → statement M
 put-own-spec =

@@ -17,20 +17,26 @@ inside k false = omega arith
 is-volatile-requires : tie.Need-is-volatile-requires
 is-volatile-requires c κs = search needs
 
-cast-volatile : tie.Need-cast-volatile
-cast-volatile c = search needs
+cast-i : tie.Need-cast-i
+cast-i c = search needs
 
-cast-result : tie.Need-cast-result
-cast-result c = search needs
+mul-i : tie.Need-mul-i
+mul-i c = omega (arith, inside (c .before .args .code) (c .is-volatile .result))
+
+add-i : tie.Need-add-i
+add-i c = omega (arith, inside (c .before .args .code) (c .is-volatile .result))
 
 mul-result : tie.Need-mul-result
 mul-result c = omega (arith, inside (c .before .args .code) (c .is-volatile .result))
 
-add-result : tie.Need-add-result
-add-result c = omega (arith, inside (c .before .args .code) (c .is-volatile .result))
+cast-result : tie.Need-cast-result
+cast-result c = omega (arith, inside (c .before .args .code) (c .is-volatile .result))
 
-array-read-result : tie.Need-array-read-result
-array-read-result c = inside (c .before .args .code) (c .is-volatile .result)
+shr-result : tie.Need-shr-result
+shr-result c = omega (arith, inside (c .before .args .code) (c .is-volatile .result))
+
+cast-result-2 : tie.Need-cast-result-2
+cast-result-2 c = search needs
 
 returns : tie.Need-returns
 returns c = (
@@ -43,9 +49,11 @@ class-of-spec =
     tie.close
     (tie.spec
     is-volatile-requires
-    cast-volatile
-    cast-result
+    cast-i
+    mul-i
+    add-i
     mul-result
-    add-result
-    array-read-result
+    cast-result
+    shr-result
+    cast-result-2
     returns)

@@ -1,6 +1,6 @@
 -- `reading::lines::lay_move` meets its contract.
 use Rattle.sheet.proofs.Laws.Put.{puts-as, puts-none}
-use Rattle.reading.proofs.Laws.Place.{no-move}
+use Rattle.reading.proofs.Laws.Move.{no-move}
 use borrow.Author.Needs.{needs}
 use Rattle.reading.proofs.lines.lay_move.Statement.{statement}
 use Rattle.reading.proofs.lines.lay_move.Tie as tie

@@ -4,7 +4,7 @@ use mathlib.Core.Logic.{⊎-elim}
 use mathlib.Core.Path.{_≡_, refl, sym, _∙_}
 use native.Mathlib.Omega.{arith}
 use lib.ListN.{length, drop}
-use Rattle.reading.specs.declared.place.Place.the-variants.{Blank}
+use Rattle.spelling.specs.declared.place.Place.the-variants.{Blank}
 use Rattle.reading.specs.Text.{malformedFrom}
 use Rattle.reading.proofs.Laws.Lines.{malformed-line, malformed-next, malformed-on, malformed-end}
 use borrow.Author.Needs.{needs}

@@ -7,7 +7,7 @@ use Rattle.sheet.specs.Put.{Puts, inTurn}
 use Rattle.sheet.proofs.Laws.Put.{puts-as, puts-length}
 use Rattle.machine.specs.State.{idle, laneAt}
 use Rattle.moving.specs.States.{rowsOf, lanesIn, heldIn, stateIn}
-use Rattle.recording.specs.Record.{stateLane}
+use Rattle.noting.specs.Lanes.{stateLane}
 use Rattle.sheet.proofs.Laws.Turn.{turn-none, turn-on}
 use Rattle.recording.proofs.Laws.Lanes.{lane-room, record-put}
 use borrow.Author.Needs.{needs}

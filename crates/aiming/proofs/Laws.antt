@@ -1,0 +1,2 @@
+-- Laws of the targets that a record reaches.
+pub mod Reach

@@ -1,0 +1,2 @@
+-- Laws that the code's proofs cite.
+pub mod Laws

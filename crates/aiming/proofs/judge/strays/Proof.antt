@@ -1,0 +1,85 @@
+-- `aiming::judge::strays` meets its contract.
+use borrow.Author.Needs.{needs}
+use borrow.Author.Tests.{eq-eqb}
+use lib.ListN.{getD}
+use mathlib.Core.Bool.{not}
+use mathlib.Core.Path.{_∙_, refl, sym, ap, ap₂}
+use native.Mathlib.Omega.{arith}
+use Rattle.kernel.specs.Targets.{unreachableTarget}
+use Rattle.aiming.specs.Reach.{reached}
+use Rattle.aiming.proofs.Laws.Reach.{target-small, strays-as}
+use Rattle.aiming.proofs.judge.strays.Statement.{statement}
+use Rattle.aiming.proofs.judge.strays.Tie as tie
+
+mul-word-at : tie.Need-mul-word-at
+mul-word-at c = search needs
+
+add-word-at : tie.Need-add-word-at
+add-word-at c = search needs
+
+add-word-at-2 : tie.Need-add-word-at-2
+add-word-at-2 c = search needs
+
+word-at-requires : tie.Need-word-at-requires
+word-at-requires c κs = search needs
+
+returns : tie.Need-returns
+unfolding unreachableTarget
+returns c order o short = rw (eq-eqb _ _ (sym (c .before .word-at .ensures .0) ∙ c .if1 .taken)) refl
+
+mul-wide : tie.Need-mul-wide
+mul-wide c = search needs
+
+element-copy-out-wide : tie.Need-element-copy-out-wide
+element-copy-out-wide c = search needs
+
+wide-requires : tie.Need-wide-requires
+wide-requires c κs = search needs
+
+mul-wide-2 : tie.Need-mul-wide-2
+mul-wide-2 c = search needs
+
+element-copy-out-wide-2 : tie.Need-element-copy-out-wide-2
+element-copy-out-wide-2 c =
+    let w = c .before .before .before in
+    let s = w .before .before in
+    let small = target-small (s .args .s .now) (s .pre .1) (s .args .i) (s .pre .2) (s .pre .3) in
+    omega (arith, w .word-at .ensures .0)
+
+wide-requires-2 : tie.Need-wide-requires-2
+wide-requires-2 c κs = search needs
+
+reaches-requires : tie.Need-reaches-requires
+reaches-requires c κs = search needs
+
+returns-2 : tie.Need-returns-2
+returns-2 c order o short =
+    let first = c .before .before .before in
+    let test = first .before .before in
+    let s = test .before .before .before in
+    let a = s .args in
+    let is = test .before .word-at .ensures .0 in
+    let small = target-small (a .s .now) (s .pre .1) (a .i) (s .pre .2) (s .pre .3) in
+    ap not
+    (c .reaches .ensures
+    ∙ ap₂ (reached (a .ends .now)) (first .wide .ensures)
+    (c .before .wide2 .ensures ∙ ap (λ x. getD (a .place .now) x 0) is))
+    ∙ strays-as o short (a .i) (s .pre .2) (s .pre .3) (λ z. test .if1 .left (is ∙ z)) small
+
+pub strays-spec : {M : Type 1} → statement M
+strays-spec =
+    tie.close
+    (tie.spec
+    mul-word-at
+    add-word-at
+    add-word-at-2
+    word-at-requires
+    returns
+    mul-wide
+    element-copy-out-wide
+    wide-requires
+    mul-wide-2
+    element-copy-out-wide-2
+    wide-requires-2
+    reaches-requires
+    returns-2)

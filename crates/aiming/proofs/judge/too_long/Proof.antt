@@ -1,0 +1,103 @@
+-- `aiming::judge::too_long` meets its contract.
+use Prim.Native.Nat.{ℕ, _+_, _-_, _≤_}
+use borrow.Author.Needs.{needs}
+use lib.ListN.{getD}
+use mathlib.Core.List.{List}
+use mathlib.Core.Path.{_≡_, _∙_, refl, sym, ap}
+use native.Mathlib.Numerals.{add-one}
+use native.Mathlib.Omega.{arith}
+use Rattle.kernel.specs.Fields.{head}
+use Rattle.kernel.specs.Search.{firstOf}
+use Rattle.kernel.specs.Linkage.{chain, chainTooLong}
+use Rattle.kernel.proofs.Laws.Search.{first-on, first-found, first-none}
+use Rattle.linking.specs.Ordered.{beginOf, Ordered}
+use Rattle.linking.proofs.Laws.Places.{none-over, one-over}
+use Rattle.aiming.proofs.judge.too_long.Statement.{statement}
+use Rattle.aiming.proofs.judge.too_long.Tie as tie
+
+abbrev Inv-loop : tie.InvT-loop
+Inv-loop order ends from₀ t₀ from t =
+    (from ≤ 257)
+    × (from ≡ beginOf ends t)
+    × ((s place : List ℕ) → Ordered s order place ends
+    → firstOf (λ n. getD (chain s 65 (head s n)) 64 0) t (4 - t) ≡ chainTooLong s)
+
+abbrev μ-loop : tie.MeasureT-loop
+μ-loop order ends from₀ t₀ from t = 4 - t
+
+loop-holds : tie.Need-loop-holds Inv-loop μ-loop
+unfolding chainTooLong
+loop-holds c = (omega arith, refl, λ s place o. refl)
+
+mul-end : tie.Need-mul-end Inv-loop μ-loop
+mul-end c = search needs
+
+element-copy-out-end : tie.Need-element-copy-out-end Inv-loop μ-loop
+element-copy-out-end c = search needs
+
+add-if1 : tie.Need-add-if1 Inv-loop μ-loop
+add-if1 c = omega arith
+
+add-wide : tie.Need-add-wide Inv-loop μ-loop
+add-wide c = omega arith
+
+mul-wide : tie.Need-mul-wide Inv-loop μ-loop
+mul-wide c = omega arith
+
+element-copy-out-wide : tie.Need-element-copy-out-wide Inv-loop μ-loop
+element-copy-out-wide c =
+    let test = c .before .before in
+    omega (arith, test .before .before .pre (test .before .loop .t))
+
+wide-requires : tie.Need-wide-requires Inv-loop μ-loop
+wide-requires c κs = search needs
+
+returns : tie.Need-returns Inv-loop μ-loop
+returns c s place o =
+    let test = c .before .before .before .before in
+    let l = test .before .loop in
+    let a = test .before .before .args in
+    let over = one-over o (l .t) (test .loop-test .taken) (omega arith) in
+    let value : c .wide .result ≡ getD (a .order .now) (beginOf (a .ends .now) (l .t) + 64) 0 =
+    c .wide .ensures ∙ ap (λ n. getD (a .order .now) (n + 64) 0) (l .inv .1) in
+    first-found _ _ _ (test .loop-test .taken) (value ∙ over .0) (λ z. omega (arith, over .1)) (l .inv .2 s place o)
+
+add-t : tie.Need-add-t Inv-loop μ-loop
+add-t c = search needs
+
+loop-less : tie.Need-loop-less Inv-loop μ-loop
+loop-less c = search needs
+
+loop-again : tie.Need-loop-again Inv-loop μ-loop
+loop-again c =
+    let test = c .before .before in
+    let l = test .before .loop in
+    let start = test .before .before in (
+      start .pre (l .t),
+      sym (ap (beginOf (start .args .ends .now)) (add-one (l .t))),
+      λ s place o. first-on _ _ _ (test .loop-test .taken) (none-over o (l .t) (test .loop-test .taken) (omega arith))
+          refl (l .inv .2 s place o),
+    )
+
+returns-2 : tie.Need-returns-2 Inv-loop μ-loop
+returns-2 c s place o = first-none _ _ _ (c .loop-test .left) (c .before .loop .inv .2 s place o)
+
+pub too-long-spec : {M : Type 1} → statement M
+too-long-spec =
+    tie.close
+    (tie.spec
+    Inv-loop
+    μ-loop
+    loop-holds
+    mul-end
+    element-copy-out-end
+    add-if1
+    add-wide
+    mul-wide
+    element-copy-out-wide
+    wide-requires
+    returns
+    add-t
+    loop-less
+    loop-again
+    returns-2)

@@ -1,0 +1,2 @@
+-- Reach: what a place of the order reaches.
+pub mod Reach

@@ -1,0 +1,5 @@
+-- The C interface. Calls: a run from the bytes of a kernel file and a schedule to the record; Interface: the four
+-- calls; Examples: a kernel through each of them.
+pub mod Calls
+pub mod Interface
+pub mod Examples

@@ -1,0 +1,4 @@
+-- Laws by subject.
+pub mod Targets
+pub mod Held
+pub mod Level1

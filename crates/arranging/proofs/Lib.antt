@@ -1,0 +1,2 @@
+-- Laws of a level 1 sheet and of the rows that it is made from.
+pub mod Laws

@@ -1,2 +1,0 @@
--- Calls: a run from the bytes of a kernel file and a schedule to the record.
-pub mod Calls

@@ -1,0 +1,2 @@
+-- Laws: Whole header and lanes together.
+pub mod Whole

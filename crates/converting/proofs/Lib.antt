@@ -1,0 +1,2 @@
+-- Laws of making a whole level 2 sheet from a level 1 sheet.
+pub mod Laws

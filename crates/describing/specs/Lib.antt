@@ -1,0 +1,2 @@
+-- Lanes: the text of a lane at the end of a run.
+pub mod Lanes

@@ -1,0 +1,2 @@
+-- Laws: Copied rows that are copied.
+pub mod Copied

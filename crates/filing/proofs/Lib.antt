@@ -1,0 +1,2 @@
+-- What is proved of the chains in a buffer: Laws of the code.
+pub mod Laws

@@ -1,0 +1,2 @@
+-- Size: how many bytes a file's rows take.
+pub mod Size

@@ -1,0 +1,2 @@
+-- Laws about one move of a schedule.
+pub mod Follows

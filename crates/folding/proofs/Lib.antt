@@ -1,0 +1,2 @@
+-- Laws of one move of a schedule.
+pub mod Laws

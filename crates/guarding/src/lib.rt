@@ -1,0 +1,2 @@
+// Operations of a lane that take or release a lock: LOCK and UNLOCK.
+pub mod step;

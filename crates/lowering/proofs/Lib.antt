@@ -1,2 +1,0 @@
--- Laws of the code of lowering.
-pub mod Laws

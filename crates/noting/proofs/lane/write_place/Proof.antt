@@ -1,0 +1,54 @@
+-- `noting::lane::write_place` meets its contract.
+use mathlib.Core.Path.{refl, sym, ap}
+use mathlib.Core.Bool.{cond}
+use mathlib.Core.Option.{none, some}
+use Rattle.sheet.proofs.Laws.Put.{laid-put, puts-as}
+use Rattle.pending.specs.Lanes.{entryOf}
+use Rattle.noting.specs.Lanes.{placeBytes}
+use borrow.Author.Needs.{needs}
+use Rattle.noting.proofs.lane.write_place.Statement.{statement}
+use Rattle.noting.proofs.lane.write_place.Tie as tie
+
+write-entry-requires : tie.Need-write-entry-requires
+write-entry-requires c κs = search needs
+
+same-length : tie.Need-same-length
+same-length c = search needs
+
+returns : tie.Need-returns
+returns c =
+    let a = c .before .before .before .before .before .before .args in
+    puts-as
+    (ap (λ b. placeBytes (cond b (some (entryOf (a .cell) (a .value))) none))
+    (sym (c .before .before .before .before .if1 .taken)))
+    (c .before .before .write-entry .ensures)
+
+put-row-requires : tie.Need-put-row-requires
+put-row-requires c κs = search needs
+
+add-result : tie.Need-add-result
+add-result c = search needs
+
+same-length-2 : tie.Need-same-length-2
+same-length-2 c = search needs
+
+returns-2 : tie.Need-returns-2
+returns-2 c =
+    let s = c .before .before .before .before .before .before in
+    let a = s .args in
+    puts-as
+    (ap (λ b. placeBytes (cond b (some (entryOf (a .cell) (a .value))) none))
+    (sym (c .before .before .before .before .if1 .left)))
+    (laid-put (a .out .now) (a .at) _ refl refl (s .pre) (c .before .before .put-row .ensures))
+
+pub write-place-spec : {M : Type 1} → statement M
+write-place-spec =
+    tie.close
+    (tie.spec
+    write-entry-requires
+    same-length
+    returns
+    put-row-requires
+    add-result
+    same-length-2
+    returns-2)

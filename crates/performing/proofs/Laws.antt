@@ -1,0 +1,2 @@
+-- Laws: Codes the instruction of an operation code.
+pub mod Codes

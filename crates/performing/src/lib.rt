@@ -1,0 +1,2 @@
+// One instruction of a sheet row, carried out by a lane.
+pub mod carry;

@@ -1,0 +1,4 @@
+-- Laws by subject.
+pub mod Lane
+pub mod Plan
+pub mod Rows

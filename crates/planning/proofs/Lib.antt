@@ -1,0 +1,2 @@
+-- Laws of lanes that are planned and written.
+pub mod Laws

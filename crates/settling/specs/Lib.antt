@@ -1,0 +1,2 @@
+-- Settles: what the code writes back after a move.
+pub mod Settles

@@ -1,0 +1,2 @@
+-- Small laws by subject.
+pub mod Place

@@ -1,0 +1,2 @@
+-- Small laws of places in a line.
+pub mod Laws

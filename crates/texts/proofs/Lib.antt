@@ -1,2 +1,0 @@
--- What is proved of texts: small laws.
-pub mod Laws

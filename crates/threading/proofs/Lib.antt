@@ -1,0 +1,2 @@
+-- Laws of a lane's rows.
+pub mod Laws

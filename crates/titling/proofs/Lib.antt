@@ -1,0 +1,2 @@
+-- What is proved of the first line: small laws.
+pub mod Laws

@@ -1,0 +1,2 @@
+-- Ones: how many locations a mask names.
+pub mod Ones

@@ -1,0 +1,2 @@
+-- Laws of a lane's move on a run so far.
+pub mod Laws

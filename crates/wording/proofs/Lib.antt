@@ -1,0 +1,2 @@
+-- What is proved of words and numbers: small laws.
+pub mod Laws
