@@ -10,13 +10,8 @@ ghost use Rattle.kernel.specs.Linkage.{chainTooLong};
 ghost use Rattle.kernel.specs.Targets.{unreachableTarget, badTarget};
 ghost use Rattle.linking.specs.Ordered.{Ordered};
 ghost use Rattle.aiming.specs.Reach.{reached};
+use kernel::fields::wide_word;
 use kernel::fields::word_at;
-
-fn wide(x: u16) -> usize
-    ensures { λ r. ⌜ r ≡ x ⌝ }
-{
-    x as usize
-}
 
 // The 65th record of the first lane that has one, or 0.
 pub fn too_long(order: &[u16; 257], ends: &[usize; 4]) -> usize
@@ -29,7 +24,7 @@ pub fn too_long(order: &[u16; 257], ends: &[usize; 4]) -> usize
     while t < 4 {
         let end = ends[t];
         if from + 64 < end {
-            return wide(order[from + 64]);
+            return wide_word(order[from + 64]);
         }
         from = end;
         t += 1;
@@ -66,7 +61,7 @@ fn strays(s: &[u8], place: &[u16; 257], ends: &[usize; 4], i: usize) -> bool
     if x == 0 {
         return false;
     }
-    !reaches(ends, wide(place[i]), wide(place[x]))
+    !reaches(ends, wide_word(place[i]), wide_word(place[x]))
 }
 
 // The lowest SKIP whose target is neither zero nor later in its lane, or 0.

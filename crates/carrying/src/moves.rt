@@ -6,9 +6,9 @@ ghost use Rattle.sheet.specs.Read.{readRows};
 ghost use Rattle.pending.specs.Lanes.{flags};
 ghost use Rattle.moving.specs.Ready.{Movable};
 ghost use Rattle.moving.specs.States.{rowsOf, heldIn, Made};
-use committing::commit::commit;
 use moving::Moved;
 use performing::carry::carry;
+use performing::commit::commit;
 use permitting::rules::Machine;
 use rows::read::row_at;
 

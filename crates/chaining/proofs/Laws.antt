@@ -1,3 +1,6 @@
 -- Laws by subject.
-pub mod Whole
 pub mod Holds
+pub mod Lane
+pub mod Records
+pub mod Row
+pub mod Whole

@@ -1,5 +1,3 @@
--- What is proved of chains: Laws of the code; ChainsBack: reading them gives back the lanes, and how many bytes they
--- take; ChainAnswers: what an answer tells of the file.
-pub mod Laws
+-- Laws of chains as rows.
 pub mod ChainsBack
-pub mod ChainAnswers
+pub mod Laws

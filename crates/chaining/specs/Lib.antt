@@ -1,2 +1,4 @@
--- The chains of an accepted kernel as rows.
+-- The chains of a kernel file as rows, from the order of its records.
 pub mod Chains
+pub mod Records
+pub mod Structured

@@ -1,2 +1,3 @@
-// The chains of a kernel file as rows, for the source machine.
+// The chains of a kernel file as rows, from the order of its records.
+mod chain;
 pub mod whole;

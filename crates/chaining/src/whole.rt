@@ -8,10 +8,10 @@ ghost use Rattle.kernel.specs.Accepted.{programOf};
 ghost use Rattle.sheet.specs.Bytes.{over};
 ghost use Rattle.sheet.specs.Put.{inTurn};
 ghost use Rattle.chaining.specs.Chains.{chainAt, chainBytes};
-ghost use Rattle.threading.specs.Structured.{Structured};
+ghost use Rattle.chaining.specs.Structured.{Structured};
+use crate::chain::write_chain;
 use rows::read::byte_at;
 use rows::read::word_at;
-use threading::write_chain;
 use writing::put::put_counts;
 use writing::put::put_first;
 

@@ -12,9 +12,9 @@ use Rattle.placement.specs.Place.{stands, due, rowsTo}
 use Rattle.sheet.specs.Bytes.{sheetBytes}
 use Rattle.sheet.specs.Read.{readSheet}
 use lib.Count.{onesIn}
-use Rattle.wording.specs.Decimal.{digits, decimal}
+use Rattle.texts.specs.Decimal.{digits, decimal}
 use Rattle.lines.specs.Line.{instrText, lineOf, firstLine}
-use Rattle.titling.specs.Ones.{ones}
+use Rattle.listing.specs.Ones.{ones}
 use Rattle.listing.specs.Listing.{laneLines, sheetLines, listing}
 use Rattle.examples.specs.Table.{table, Each, end, _▸_}
 use Rattle.examples.proofs.Never.{never-on-tso, never-on-source}

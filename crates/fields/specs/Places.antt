@@ -6,7 +6,7 @@ use lib.Dec.{eqb}
 use lib.ListN.{getD}
 use Rattle.kernel.specs.Fields.{byte, word, quad}
 use Rattle.rows.specs.Rows.{partsIn}
-use Rattle.wording.specs.Words.{named}
+use Rattle.texts.specs.Words.{named}
 use Rattle.fields.specs.Words.{locationWord, valueWord, releaseWord}
 
 -- where lane t begins in a state record, and its register r

@@ -4,7 +4,7 @@ ghost use Rattle.sheet.specs.Put.{Puts};
 ghost use Rattle.fields.specs.Places.{entryText};
 use rows::read::byte_at;
 use rows::read::quad_at;
-use wording::put_one;
+use texts::words::put_one;
 
 // The entry whose bytes begin at `from`: a store, which is kind 1, or the release of a lock.
 pub fn put_entry(out: &mut [u8], at: usize, s: &[u8], from: usize) -> usize

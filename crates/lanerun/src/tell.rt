@@ -1,11 +1,11 @@
 // A run, told move by move.
 ghost use Prim.Native.Nat.{_+_, _≤_, _<_};
 ghost use lib.ListN.{length};
-use calling::call::run_file;
-use calling::program::program_of;
 use console::print::say;
 use console::print::say_part;
 use console::print::say_refusal;
+use lanes::call::run_file;
+use lanes::program::program_of;
 use permitting::rules::Machine;
 use reporting::tell_state;
 use sheet::Lowered;

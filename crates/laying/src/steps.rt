@@ -1,7 +1,7 @@
 // Writing an operation's row behind the barriers that stand before it.
 ghost use mathlib.Core.Path.{_≡_};
 ghost use Prim.Native.Nat.{_+_, _*_, _<_, _≤_};
-ghost use lib.ListN.{length, take, drop};
+ghost use lib.ListN.{length, drop};
 ghost use lib.Seq.{sets};
 ghost use Rattle.sheet.specs.Bytes.{row};
 ghost use Rattle.sheet.specs.Put.{Puts};
@@ -9,6 +9,7 @@ ghost use Rattle.laying.specs.Put.{rowIf, Begins, barrierRows, ownRow, s
 use crate::starts::bit_at;
 use crate::starts::start_of;
 use rows::read::word_at;
+use writing::put::copy_eight;
 use writing::put::put_row;
 use writing::put::store_eight;
 
@@ -34,25 +35,6 @@ fn put_barriers(out: &mut [u8], at: usize, set: u16) -> usize
     put_barrier(out, behind_ss, bit_at(set, 3), 14)
 }
 
-// Copies the eight bytes of a row.
-fn copy_row(out: &mut [u8], at: usize, rows: &[u8], from: usize)
-    requires { ⌜ (at + 8 ≤ length (now out)) × (from + 8 ≤ length (now rows)) ⌝ }
-    ensures { λ r. ⌜ now (out .exit) ≡ sets (now (out .entry)) at (take 8 (drop from (now (rows .entry)))) ⌝ }
-{
-    store_eight(
-        out,
-        at,
-        rows[from],
-        rows[from + 1],
-        rows[from + 2],
-        rows[from + 3],
-        rows[from + 4],
-        rows[from + 5],
-        rows[from + 6],
-        rows[from + 7],
-    );
-}
-
 // Writes an operation's row from `at` on, a SKIP's aimed at where its target begins in the sheet. The row is copied
 // first, whatever it is: eight bytes are one store then, and not four.
 fn put_own(out: &mut [u8], at: usize, rows: &[u8], from: usize, plan: &[u16])
@@ -60,7 +42,7 @@ fn put_own(out: &mut [u8], at: usize, rows: &[u8], from: usize, plan: &[u16])
     ensures { λ r. ⌜ now (out .exit) ≡ sets (now (out .entry)) at
         (ownRow (now (plan .entry)) (drop from (now (rows .entry)))) ⌝ }
 {
-    copy_row(out, at, rows, from);
+    copy_eight(out, at, rows, from);
     if rows[from] == 7 {
         let target = start_of(plan, word_at(rows, from + 4) as usize);
         put_row(out, at, 7, rows[from + 1], rows[from + 2], target);

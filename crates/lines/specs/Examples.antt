@@ -3,7 +3,7 @@ use mathlib.Core.Path.{_≡_, refl}
 use mathlib.Core.List.{[], _∷_}
 use Rattle.kernel.specs.declared.accepted.Op.the-variants.{Set, Unlock, Skip}
 use Rattle.sheet.specs.Layout.{op}
-use Rattle.wording.specs.Decimal.{digits, decimal}
+use Rattle.texts.specs.Decimal.{digits, decimal}
 use Rattle.lines.specs.Line.{instrText, lineOf}
 
 -- "3 12 SET 7 4294967295", "0 0 SKIP 1 130", "0 9 UNLOCK 3"

@@ -6,8 +6,8 @@ use Rattle.kernel.specs.declared.accepted.Op.the-variants.{Set, Add, Load, Stor
 use Rattle.placement.specs.declared.cookbook.Barrier.{Barrier}
 use Rattle.placement.specs.declared.cookbook.Barrier.the-variants.{LL, LS, SS, SL}
 use Rattle.sheet.specs.Layout.{Instr, op, barrier}
-use Rattle.wording.specs.Decimal.{decimal}
-use Rattle.wording.specs.Words.{space, newline, named}
+use Rattle.texts.specs.Decimal.{decimal}
+use Rattle.texts.specs.Words.{space, newline, named}
 
 -- "SET ", "ADD ", "LOAD ", "STORE ", "LOCK ", "UNLOCK ", "SKIP "
 abbrev pub nameOf : Op → List ℕ

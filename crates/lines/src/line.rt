@@ -2,8 +2,8 @@
 use rows::read::row_at;
 use texts::put::put;
 use texts::put::put_text;
-use wording::put_decimal;
-use wording::put_one;
+use texts::words::put_decimal;
+use texts::words::put_one;
 ghost use Prim.Native.Nat.{_+_, _≤_, _^_};
 ghost use mathlib.Core.List.{_++_};
 ghost use lib.ListN.{length, drop};

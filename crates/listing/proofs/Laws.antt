@@ -1,2 +1,3 @@
--- Small laws by subject.
+-- Laws by subject.
+pub mod Ones
 pub mod Sheet

@@ -1,5 +1,4 @@
--- What is proved of listings: small laws, then that the text of a sheet's bytes is the kernel's listing, and how long
--- texts are.
+-- Laws of the text of a sheet.
 pub mod Laws
 pub mod SheetListing
 pub mod Sizes

@@ -12,7 +12,7 @@ use Rattle.sheet.specs.Levels.{level2}
 use Rattle.sheet.specs.Bytes.{sheetBytes}
 use Rattle.sheet.proofs.ReadBack.{lawful-back}
 use Rattle.lines.specs.Line.{firstLine}
-use Rattle.titling.specs.Ones.{ones}
+use Rattle.listing.specs.Ones.{ones}
 use Rattle.listing.specs.Listing.{sheetLines, listing, sheetText}
 
 pub lawful-text : (k : Program) (rest : List ℕ) → Lawful k

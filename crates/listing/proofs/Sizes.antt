@@ -16,9 +16,9 @@ use Rattle.sheet.proofs.Laws.Rows.{total}
 use Rattle.sheet.proofs.Fitting.{Fits, LaneFits, lanes-fit}
 use Rattle.sheet.proofs.Sizes.{sheet-size, sheet2-small}
 use Rattle.lines.specs.Line.{lineOf, firstLine, refusalLine}
-use Rattle.titling.specs.Ones.{ones}
+use Rattle.listing.specs.Ones.{ones}
 use Rattle.listing.specs.Listing.{laneLines, sheetLines, listing}
-use Rattle.wording.proofs.Laws.Decimal.{decimal-few}
+use Rattle.texts.proofs.Laws.Decimal.{decimal-few}
 use Rattle.lines.proofs.Laws.Line.{line-few}
 
 module _ (lane : ℕ) (few : lane < 2 ^ 32) where

@@ -2,7 +2,7 @@
 use mathlib.Core.Path.{_≡_, refl}
 use mathlib.Core.List.{[], _∷_}
 use Rattle.verdict.specs.Verdict.{structureThen, refusalOf}
-use Rattle.wording.specs.Decimal.{digits, decimal}
+use Rattle.texts.specs.Decimal.{digits, decimal}
 use Rattle.lines.specs.Line.{refusalLine}
 use Rattle.listing.specs.Listing.{printed}
 

@@ -1,3 +1,4 @@
--- The text of a level 2 sheet, whole, and of a refusal.
-pub mod Listing
+-- The text of a sheet, and of a refusal.
 pub mod Examples
+pub mod Listing
+pub mod Ones

@@ -8,7 +8,7 @@ use Rattle.sheet.specs.Layout.{Instr}
 use Rattle.sheet.specs.Levels.{level2, sheetLanes}
 use Rattle.sheet.specs.Read.{readSheet}
 use Rattle.lines.specs.Line.{lineOf, firstLine, refusalLine}
-use Rattle.titling.specs.Ones.{ones}
+use Rattle.listing.specs.Ones.{ones}
 
 -- a lane's instructions, the first of which stands at a position
 unfoldable pub laneLines : ℕ → ℕ → List Instr → List ℕ

@@ -1,4 +1,7 @@
-// The text of a level 2 sheet, as bytes.
+// The text of a sheet, and of a refusal.
+mod refusal;
+mod title;
 mod whole;
 
+pub use refusal::list_refusal;
 pub use whole::list_sheet;

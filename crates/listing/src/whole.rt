@@ -1,9 +1,9 @@
 // The whole listing of a level 2 sheet, from the sheet's bytes and the kernel's mask.
+use crate::title::put_first;
 use lines::line::put_line;
 use rows::read::byte_at;
 use rows::read::word_at;
 use sheet::Lowered;
-use titling::put_first;
 ghost use mathlib.Core.Path.{_≡_};
 ghost use Prim.Native.Nat.{_+_, _*_, _≤_, _^_};
 ghost use lib.ListN.{length, drop};

@@ -12,9 +12,10 @@ ghost use Rattle.kernel.specs.Held.{faultPosition, laneFault, lockFault};
 ghost use Rattle.sheet.specs.Bytes.{over};
 ghost use Rattle.rows.specs.Lanes.{fieldsOf};
 ghost use Rattle.chaining.specs.Chains.{chainBytes};
-ghost use Rattle.threading.specs.Structured.{Structured};
+ghost use Rattle.chaining.specs.Structured.{Structured};
 ghost use Rattle.locking.specs.Sets.{bitFor, stepNumber, partsLed, bring};
 ghost use Rattle.locking.specs.Lanes.{LaneIn, Stepped};
+use kernel::fields::wide_word;
 use rows::number::least;
 
 // One of the tests holds.
@@ -107,12 +108,6 @@ fn fault_position(rows: &[u8], n: usize) -> usize
     0
 }
 
-fn wide(x: u16) -> usize
-    ensures { λ r. ⌜ r ≡ x ⌝ }
-{
-    x as usize
-}
-
 // The record where the lane from `from` to `end` of the order breaks the rule, or 0; for the end the last one.
 fn lane_fault(rows: &[u8], order: &[u16; 257], from: usize, end: usize) -> usize
     ensures { λ r.
@@ -137,7 +132,7 @@ fn lane_fault(rows: &[u8], order: &[u16; 257], from: usize, end: usize) -> usize
     if i == 0 {
         return 0;
     }
-    wide(order[from + i - 1])
+    wide_word(order[from + i - 1])
 }
 
 // The same for the first lane that has one.

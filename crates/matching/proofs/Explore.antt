@@ -1,17 +1,15 @@
 -- What holds after every schedule of a small kernel, by a search that antt computes: over the tree of the moves that
 -- are done.
-use mathlib.Core.Path.{_≡_, refl}
+use mathlib.Core.Path.{_≡_}
 use mathlib.Core.Bool.{Bool, true, false, _&&_, false≢true}
 use mathlib.Core.List.{List, [], _∷_}
-use mathlib.Core.Option.{none}
-use Prim.Native.Nat.{ℕ, zero, suc, _≤_, _<_}
+use Prim.Native.Nat.{ℕ, zero, suc, _<_}
 use native.Mathlib.Decide.{decLt}
 use native.Mathlib.Omega.{arith}
 use lib.Dec.{ltb, leb}
 use borrow.Author.Tests.{ltb-true, leb-true}
-use lib.ListN.{length, getElem?}
+use lib.ListN.{length}
 use Rattle.sheet.specs.Layout.{Instr}
-use Rattle.machine.specs.Entries.{Entry}
 use Rattle.machine.specs.Rules.{Machine}
 use Rattle.machine.specs.Step.{Turn, waits, refuses, passes, does}
 use Rattle.machine.specs.Schedule.{Move, move, legal}

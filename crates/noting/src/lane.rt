@@ -1,5 +1,4 @@
 // A lane of the state record: position, number of pending entries, registers, and 64 places for entries.
-ghost use mathlib.Core.Path.{_≡_};
 ghost use mathlib.Core.Bool.{cond};
 ghost use mathlib.Core.Option.{none, some};
 ghost use Prim.Native.Nat.{_+_, _≤_};

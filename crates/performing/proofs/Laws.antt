@@ -1,2 +1,3 @@
--- Laws: Codes the instruction of an operation code.
+-- Laws by subject.
 pub mod Codes
+pub mod Commits

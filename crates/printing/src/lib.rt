@@ -2,8 +2,8 @@
 ghost use mathlib.Core.Path.{_≡_};
 ghost use Rattle.sheet.specs.Bytes.{writeInto};
 ghost use Rattle.listing.specs.Listing.{printed};
+use listing::list_refusal;
 use listing::list_sheet;
-use refusing::list_refusal;
 use relowering::lower::lower2;
 use rows::read::word_at;
 use sheet::Lowered;

@@ -1,3 +1,6 @@
--- Laws: Arrays the lengths of a progress's arrays; Fresh the start.
+-- Laws by subject.
 pub mod Arrays
+pub mod Follows
 pub mod Fresh
+pub mod Ready
+pub mod Turned

@@ -1,2 +1,2 @@
--- Laws of a run so far over rows.
+-- Laws of a run so far.
 pub mod Laws

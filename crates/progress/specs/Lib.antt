@@ -1,2 +1,4 @@
--- Stands: where a schedule stands and what a move makes of it.
+-- A run so far as one value: its start, and one move of a schedule on it.
+pub mod Makes
+pub mod Settles
 pub mod Stands

@@ -1,9 +1,9 @@
 // A run so far as one value, and its start.
 ghost use Rattle.progress.specs.Stands.{Fresh};
+use pending::flags::flags_of;
 use pending::lane::Lane;
 use permitting::rules::Machine;
 use rows::read::byte_at;
-use starting::run::flags_of;
 
 // Underway; refused at a lane's position, that of an UNLOCK of a lock that the lane does not hold; or outside, at a
 // move that no lane of the rows can make.

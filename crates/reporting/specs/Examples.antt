@@ -3,8 +3,8 @@ use mathlib.Core.Path.{_≡_, refl}
 use mathlib.Core.List.{[], _∷_, _++_}
 use lib.ListN.{replicate}
 use Rattle.sheet.specs.Put.{inTurn}
-use Rattle.wording.specs.Decimal.{digits, decimal}
-use Rattle.describing.specs.Lanes.{laneText}
+use Rattle.texts.specs.Decimal.{digits, decimal}
+use Rattle.reporting.specs.Lanes.{laneText}
 use Rattle.reporting.specs.States.{stateText}
 
 -- one lane, one location, no locks, two entries pending:

@@ -1,3 +1,4 @@
--- The text of the state at the end of a run, and an example.
-pub mod States
+-- The text of a state record.
 pub mod Examples
+pub mod Lanes
+pub mod States

@@ -5,9 +5,9 @@ use mathlib.Core.List.{List, [], _∷_, _++_}
 use lib.Dec.{eqb}
 use Rattle.kernel.specs.Fields.{byte, quad}
 use Rattle.sheet.specs.Put.{inTurn}
-use Rattle.wording.specs.Words.{newline, named}
+use Rattle.texts.specs.Words.{newline, named}
 use Rattle.fields.specs.Words.{doneCount, waitedCount, finishedYes, finishedNo, memoryWord, locksWord}
-use Rattle.describing.specs.Lanes.{spaced, laneText}
+use Rattle.reporting.specs.Lanes.{spaced, laneText}
 
 -- the low halves of the counts: a schedule of text has fewer moves
 abbrev pub countsLine : List ℕ → List ℕ

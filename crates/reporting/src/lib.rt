@@ -1,4 +1,5 @@
-// The text of the state at the end of a run, for the integrator.
+// The text of a state record.
+mod lane;
 mod states;
 
 pub use states::tell_state;

@@ -3,15 +3,15 @@ ghost use Prim.Native.Nat.{_+_, _*_, _≤_, _<_, _^_};
 ghost use mathlib.Core.List.{_++_};
 ghost use Rattle.kernel.specs.Fields.{byte};
 ghost use Rattle.sheet.specs.Put.{Puts};
-ghost use Rattle.describing.specs.Lanes.{spaced};
+ghost use Rattle.reporting.specs.Lanes.{spaced};
 ghost use Rattle.reporting.specs.States.{countsLine, finishedLine, memoryLine, locksLine, stateText};
-use describing::lane::put_lane;
-use describing::lane::put_quads;
+use crate::lane::put_lane;
+use crate::lane::put_quads;
 use rows::read::byte_at;
 use rows::read::quad_at;
 use texts::put::put;
 use texts::put::put_text;
-use wording::put_one;
+use texts::words::put_one;
 
 // n bytes from `base` on, each behind a space.
 fn put_bytes(out: &mut [u8], start: usize, s: &[u8], base: usize, n: u8) -> usize

@@ -1,2 +1,3 @@
-// The rule of a kernel file's records, in code (refusal 4).
+// The rule of records (refusal 4).
+mod limits;
 pub mod rules;

@@ -3,6 +3,7 @@ ghost use mathlib.Core.Path.{_≡_};
 ghost use Prim.Native.Nat.{_<_};
 ghost use lib.ListN.{getD};
 ghost use Rattle.kernel.specs.Rules.{Limits, recordRule, badRecord};
+use crate::limits::whole_rule;
 use kernel::fields::both;
 use kernel::fields::byte_at;
 use kernel::fields::four_at;
@@ -10,7 +11,6 @@ use kernel::fields::next_of;
 use kernel::fields::quad_at;
 use kernel::fields::wide;
 use kernel::fields::word_at;
-use limiting::whole_rule;
 
 // The limit of a field in the row of an operation; 0 where there is no such operation.
 fn limit(row: &[usize], op: usize) -> usize

@@ -1,6 +1,6 @@
 // The moves of a schedule in turn.
 ghost use Rattle.progress.specs.Stands.{Follows};
-use folding::fold_move;
+use progress::fold::fold_move;
 use progress::moves::Move;
 use progress::progress::Progress;
 

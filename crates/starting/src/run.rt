@@ -1,14 +1,15 @@
 // A legal schedule from the rows of a program to the state record.
 ghost use mathlib.Core.Path.{_≡_};
 ghost use mathlib.Core.List.{List};
-ghost use Prim.Native.Nat.{ℕ, _<_, _≤_};
+ghost use Prim.Native.Nat.{ℕ, _≤_};
 ghost use lib.ListN.{length};
-ghost use Rattle.kernel.specs.Accepted.{Program, isVolatile};
+ghost use Rattle.kernel.specs.Accepted.{Program};
 ghost use Rattle.machine.specs.Moves.{movesIn};
 ghost use Rattle.pending.specs.Lanes.{flags};
 ghost use Rattle.moving.specs.States.{heldIn};
 ghost use Rattle.starting.specs.Setup.{ProgramIn, Startable, Begins, Begun, ranInto};
 use judging::judge::ended;
+use pending::flags::flags_of;
 use permitting::rules::Machine;
 use recording::state::write_state;
 use rows::parts::parts_of;
@@ -16,20 +17,6 @@ use rows::read::byte_at;
 use running::run::Ended;
 use running::run::run_moves;
 use sheet::Lowered;
-
-// The flags of the volatile locations.
-pub fn flags_of(mask: u32) -> [bool; 16]
-    requires { ⌜ mask < 65536 ⌝ }
-    ensures { λ r. ⌜ (16 ≡ length r) × (flags r ≡ isVolatile mask) ⌝ }
-{
-    let mut flags = [false; 16];
-    let mut x = 0;
-    while x < 16 {
-        flags[x] = (mask >> x) % 2 == 1;
-        x += 1;
-    }
-    flags
-}
 
 // The moves, from n lanes at their start; then the record.
 fn run_lanes(

@@ -2,7 +2,7 @@
 use mathlib.Core.Path.{_≡_, refl}
 use mathlib.Core.List.{[], _∷_, _++_}
 use lib.ListN.{replicate}
-use Rattle.wording.specs.Decimal.{digits, decimal}
+use Rattle.texts.specs.Decimal.{digits, decimal}
 use Rattle.lines.specs.Line.{instrText}
 use Rattle.telling.specs.Moves.{moveLine}
 

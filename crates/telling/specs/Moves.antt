@@ -6,8 +6,8 @@ use lib.Dec.{eqb}
 use lib.ListN.{drop}
 use Rattle.kernel.specs.Fields.{byte, quad}
 use Rattle.sheet.specs.Read.{readInstr}
-use Rattle.wording.specs.Decimal.{decimal}
-use Rattle.wording.specs.Words.{newline, named}
+use Rattle.texts.specs.Decimal.{decimal}
+use Rattle.texts.specs.Words.{newline, named}
 use Rattle.lines.specs.Line.{instrText}
 use Rattle.fields.specs.Words.{laneWord, choiceWord, waitedWord, doneWord, valueWord, commitsWord}
 use Rattle.fields.specs.Places.{registerIn, nextRow, entryFrom, entryText}

@@ -14,8 +14,8 @@ use rows::read::quad_at;
 use rows::read::row_at;
 use texts::put::put;
 use texts::put::put_text;
-use wording::put_decimal;
-use wording::put_one;
+use texts::words::put_decimal;
+use texts::words::put_one;
 
 // Behind a LOAD, whose code is 3, the value that its register took.
 fn put_loaded(out: &mut [u8], at: usize, rows: &[u8], from: usize, after: &[u8], t: u8) -> usize

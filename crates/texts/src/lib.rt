@@ -1,2 +1,3 @@
-// Texts laid into a buffer: one byte, a text.
+// Bytes, decimals and words laid into a buffer.
 pub mod put;
+pub mod words;

@@ -1,10 +1,10 @@
 // A schedule of text, run on both machines.
 use crate::kernels::say_argument;
-use calling::call::run_file;
 use console::files::read_named;
 use console::print::say;
 use console::print::say_part;
 use console::print::say_refusal;
+use lanes::call::run_file;
 use permitting::rules::Machine;
 use reading::Read;
 use reading::read_schedule;

@@ -6,6 +6,7 @@ ghost use lib.ListN.{length};
 ghost use lib.Seq.{sets};
 ghost use Rattle.sheet.specs.Bytes.{word, row};
 ghost use Rattle.sheet.specs.Put.{laid};
+ghost use Rattle.writing.specs.Eight.{eightIn};
 use rows::number::fits;
 use rows::number::low;
 
@@ -34,6 +35,25 @@ pub fn store_eight(
     out[at + 5] = f;
     out[at + 6] = g;
     out[at + 7] = h;
+}
+
+// Eight bytes from i on, copied.
+pub fn copy_eight(out: &mut [u8], at: usize, s: &[u8], i: usize)
+    requires { ⌜ (at + 8 ≤ length (now out)) × (i + 8 ≤ length (now s)) ⌝ }
+    ensures { λ q. ⌜ now (out .exit) ≡ sets (now (out .entry)) at (eightIn (now (s .entry)) i) ⌝ }
+{
+    store_eight(
+        out,
+        at,
+        s[i],
+        s[i + 1],
+        s[i + 2],
+        s[i + 3],
+        s[i + 4],
+        s[i + 5],
+        s[i + 6],
+        s[i + 7],
+    );
 }
 
 fn put_eight(out: &mut [u8], at: usize, a: u8, b: u8, c: u8, d: u8, e: u8, f: u8, g: u8, h: u8)

@@ -19,7 +19,7 @@ use Rattle.verdict.specs.declared.Refusal.the-variants.{BadLinkage, ChainTooLon
 use Rattle.verdict.specs.Verdict.{unless, structureThen, refusalOf, numberOf, verdict, accepted}
 use Rattle.verdict.proofs.Laws.Verdict.{accepted-as}
 use Rattle.linking.specs.Ordered.{Ordered}
-use Rattle.threading.specs.Structured.{Structured}
+use Rattle.chaining.specs.Structured.{Structured}
 use Rattle.accepting.specs.Checks.{Fielded, linkedRefusal}
 
 -- a check that names a record, and one that names none

@@ -3,7 +3,7 @@
 use Prim.Native.Nat.{ℕ, zero, suc, _+_, _-_, _*_, _^_, _≤_, _<_}
 use mathlib.Core.Path.{_≡_, refl, sym, ap, _∙_}
 use mathlib.Core.Bool.{true}
-use mathlib.Core.List.{List, [], _∷_, _++_, map, map-map, append-assoc}
+use mathlib.Core.List.{List, [], _++_, map, map-map, append-assoc}
 use mathlib.Core.Option.{some}
 use native.Mathlib.Omega.{arith}
 use native.Mathlib.Decide.{decLt}
@@ -204,9 +204,6 @@ module _ (s : List ℕ) (ok : verdict s ≡ accepted (programOf s)) (rows own : 
     (front : rows ≡ over (chainBytes (programOf s)) own) (t : ℕ) (below : t < 4) where
   structure : Structured s
   structure = sound s (accepted-as s (programOf s) ok .0) .0
-
-  pub accepted-lane-holds : Holds (drop (16 + 8 * before s t) rows) (many s t) (opsAt s (head s t))
-  accepted-lane-holds = lane-holds s (structure .header) rows own front (structure .records) t below
 
   pub accepted-parts-hold : Holds (drop (getD (partsIn rows .from) t 0) rows) (getD (partsIn rows .count) t 0)
       (opsAt s (head s t))

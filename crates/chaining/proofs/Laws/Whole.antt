@@ -16,8 +16,8 @@ use Rattle.sheet.proofs.Laws.Loaded.{sizes-by, put-by}
 use Rattle.sheet.proofs.Laws.Written.{written-all}
 use Rattle.linking.specs.Ordered.{countOf}
 use Rattle.chaining.specs.Chains.{chainBytes, chainAt}
-use Rattle.threading.specs.Structured.{Structured}
-use Rattle.threading.proofs.Laws.Records.{lane-count-is}
+use Rattle.chaining.specs.Structured.{Structured}
+use Rattle.chaining.proofs.Laws.Records.{lane-count-is}
 
 module _
     (s : List ℕ) (header : headerRule s ≡ true) {a b c d : ℕ} (ea : a ≡ length (opsAt s (head s 0)))

@@ -5,7 +5,7 @@ use mathlib.Core.Bool.{Bool, true, false, cond}
 use mathlib.Core.List.{List, _++_}
 use borrow.Author.Tests.{eq-eqb, ne-eqb}
 use Rattle.kernel.specs.Fields.{byte, quad}
-use Rattle.wording.specs.Words.{named}
+use Rattle.texts.specs.Words.{named}
 use Rattle.fields.specs.Words.{locationWord, valueWord, releaseWord}
 use Rattle.fields.specs.Places.{entryText}
 

@@ -7,7 +7,7 @@ use native.Mathlib.Omega.{arith}
 use native.Mathlib.Numerals.{add-one}
 use native.Mathlib.Decide.{decLe}
 use borrow.Author.Tests.{eq-eqb, ne-eqb}
-use lib.ListN.{getD, set, length, length-set}
+use lib.ListN.{getD, set, length}
 use lib.Dec.{eqb}
 use Rattle.kernel.specs.Fields.{recordCount, next}
 use Rattle.kernel.specs.Search.{lowest}
@@ -21,12 +21,6 @@ pub chain-stop : (s : List ℕ) (k r : ℕ) → r ≡ 0 → chain s k r ≡ []
 unfolding chain
 chain-stop s zero r h = refl
 chain-stop s (suc k) r h = rw (eq-eqb r 0 h, chain)
-
-pub chain-end : (s : List ℕ) (k r : ℕ) → k ≤ 0 → chain s k r ≡ []
-unfolding chain
-chain-end s k r h =
-    let q : k ≡ 0 = omega arith in
-    rw q
 
 pub chain-step : (s : List ℕ) (k r : ℕ) → 0 < k → (r ≡ 0 → ⊥) → chain s k r ≡ r ∷ chain s (k - 1) (next s r)
 chain-step s zero r h n = absurd (omega arith)

@@ -12,9 +12,9 @@ use Rattle.placement.specs.declared.cookbook.Barrier.the-variants.{LL, LS, SS, 
 use Rattle.sheet.specs.Layout.{Instr, barrier}
 use Rattle.sheet.specs.Read.{barrierBy, instrBy}
 use Rattle.sheet.proofs.Laws.Codes.{by-code, other-code}
-use Rattle.wording.specs.Decimal.{decimal}
+use Rattle.texts.specs.Decimal.{decimal}
 use Rattle.lines.specs.Line.{pair, instrText, lineOf, firstLine}
-use Rattle.wording.proofs.Laws.Decimal.{decimal-few}
+use Rattle.texts.proofs.Laws.Decimal.{decimal-few}
 
 -- the text by a code that is known
 pub code-text : (k : ℕ) {o : ℕ} (a b c : ℕ) → o ≡ k → instrText (instrBy k a b c) ≡ instrText (instrBy o a b c)

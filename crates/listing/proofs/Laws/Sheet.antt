@@ -8,7 +8,6 @@ use lib.Seq.{drop-drop, take-suc, getD-take}
 use Rattle.kernel.specs.Fields.{word}
 use Rattle.sheet.specs.Read.{readInstr, readRows, pastRows, readLanes, counts}
 use Rattle.rows.proofs.Laws.Parts.{past, four-at}
-use Rattle.rows.proofs.Laws.Read.{rows-on}
 use Rattle.lines.specs.Line.{lineOf}
 use Rattle.listing.specs.Listing.{laneLines, sheetLines}
 

@@ -22,7 +22,7 @@ use Rattle.linking.proofs.Laws.Places.{end-inside, lane-length, lane-records}
 use Rattle.sheet.specs.Bytes.{over}
 use Rattle.rows.specs.Lanes.{fieldsOf}
 use Rattle.chaining.specs.Chains.{chainBytes}
-use Rattle.threading.specs.Structured.{Structured}
+use Rattle.chaining.specs.Structured.{Structured}
 use Rattle.chaining.proofs.Laws.Holds.{many, before, many-small, lane-holds}
 use Rattle.locking.specs.Sets.{noJump, jumpOr}
 use Rattle.locking.specs.Lanes.{LaneIn}

@@ -1,5 +1,5 @@
 -- `locking::after_row` meets its contract.
-use mathlib.Core.Path.{_≡_, sym, subst, _∙_}
+use mathlib.Core.Path.{sym, subst, _∙_}
 use native.Mathlib.Omega.{arith}
 use lib.Dec.{eqb}
 use Rattle.locking.specs.Sets.{bitFor, stepNumber}

@@ -74,20 +74,20 @@ returns-5 c =
     record-none (a .order .now) (a .from) (a .end - a .from) _ _ (omega (arith, up, few, room))
     (c .before .least .ensures ∙ ap (λ x. min x (a .end - a .from)) found) (c .if5 .taken)
 
-add-wide : tie.Need-add-wide
-add-wide c = search needs
+add-wide-word : tie.Need-add-wide-word
+add-wide-word c = search needs
 
-sub-wide : tie.Need-sub-wide
-sub-wide c = search needs
+sub-wide-word : tie.Need-sub-wide-word
+sub-wide-word c = search needs
 
-mul-wide : tie.Need-mul-wide
-mul-wide c = search needs
+mul-wide-word : tie.Need-mul-wide-word
+mul-wide-word c = search needs
 
-element-copy-out-wide : tie.Need-element-copy-out-wide
-element-copy-out-wide c = search needs
+element-copy-out-wide-word : tie.Need-element-copy-out-wide-word
+element-copy-out-wide-word c = search needs
 
-wide-requires : tie.Need-wide-requires
-wide-requires c κs = search needs
+wide-word-requires : tie.Need-wide-word-requires
+wide-word-requires c κs = search needs
 
 returns-6 : tie.Need-returns-6
 returns-6 c =
@@ -97,7 +97,8 @@ returns-6 c =
     let from = 16 + 8 * a .from in
     let found = w .fault-position .ensures ops
     (subst (λ x. LaneIn x (a .end - a .from) ops) (sym (part-from from (a .rows .now))) lane) in
-    c .wide .ensures ∙ record-some (a .order .now) (a .from) (a .end - a .from) _ _ (omega (arith, up, few, room))
+    c .wide-word .ensures .0
+    ∙ record-some (a .order .now) (a .from) (a .end - a .from) _ _ (omega (arith, up, few, room))
     (c .before .before .before .least .ensures ∙ ap (λ x. min x (a .end - a .from)) found)
     (c .before .before .if5 .left)
 
@@ -120,9 +121,9 @@ lane-fault-spec =
     fault-position-requires
     least-requires
     returns-5
-    add-wide
-    sub-wide
-    mul-wide
-    element-copy-out-wide
-    wide-requires
+    add-wide-word
+    sub-wide-word
+    mul-wide-word
+    element-copy-out-wide-word
+    wide-word-requires
     returns-6)

@@ -12,7 +12,7 @@ use Rattle.kernel.proofs.Laws.Search.{first-on, first-found, first-none}
 use Rattle.linking.specs.Ordered.{beginOf}
 use Rattle.sheet.specs.Bytes.{over}
 use Rattle.chaining.specs.Chains.{chainBytes}
-use Rattle.threading.specs.Structured.{Structured}
+use Rattle.chaining.specs.Structured.{Structured}
 use Rattle.locking.proofs.Laws.Order.{fault, fault-is, fault-first}
 use borrow.Author.Needs.{needs}
 use Rattle.locking.proofs.lock_fault.Statement.{statement}

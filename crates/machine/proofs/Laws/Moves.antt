@@ -2,25 +2,13 @@
 use Prim.Native.Nat.{ℕ, zero, suc, _+_, _*_, _/_, _%_, _≤_, _<_}
 use native.Mathlib.Omega.{arith}
 use mathlib.Core.Path.{_≡_, refl, sym, ap, ap₂, _∙_}
-use mathlib.Core.Bool.{true, false}
 use mathlib.Core.List.{List, [], _∷_, _++_, map}
 use mathlib.Core.Option.{some}
 use lib.ListN.{length, getD, getElem?, drop, drop-of-length-le}
 use lib.Seq.{drop-cons}
-use borrow.Author.Tests.{eqb-true, eqb-false}
 use Rattle.sheet.specs.Bytes.{joined}
 use Rattle.machine.specs.Schedule.{Move, move}
-use Rattle.machine.specs.Moves.{oddBytes, movesIn, moveBytes}
-
--- the test for an odd number of bytes
-pub odd-bytes : (s : List ℕ) → oddBytes s ≡ true → length s % 2 ≡ 1
-odd-bytes s e = eqb-true (length s % 2) 1 e
-
-pub even-bytes : (s : List ℕ) → oddBytes s ≡ false → length s % 2 ≡ 0
-even-bytes s e = go (eqb-false (length s % 2) 1 e)
-  where
-    go : (length s % 2 ≡ 1 → ⊥) → length s % 2 ≡ 0
-    go n = omega arith
+use Rattle.machine.specs.Moves.{movesIn, moveBytes}
 
 pub moves-length : (s : List ℕ) → length (movesIn s) ≡ length s / 2
 unfolding movesIn
@@ -61,11 +49,6 @@ unfolding movesIn
 moves-append [] r e = refl
 moves-append (t ∷ []) r e = absurd (omega arith)
 moves-append (t ∷ c ∷ s) r e = ap (λ x. move t c ∷ x) (moves-append s r (omega arith))
-
--- the bytes of one move append this move
-pub moves-snoc : (s : List ℕ) (mv : Move) → length s % 2 ≡ 0 → movesIn (s ++ moveBytes mv) ≡ movesIn s ++ (mv ∷ [])
-unfolding movesIn
-moves-snoc s mv e = moves-append s (moveBytes mv) e
 
 -- reading gives back the moves that were written
 pub moves-back : (mvs : List Move) → movesIn (joined (map moveBytes mvs)) ≡ mvs

@@ -1,12 +1,8 @@
 -- Laws of the instruction of a sheet row, and of what is said of equal instructions.
 use Prim.Native.Nat.{ℕ}
-use mathlib.Core.Path.{_≡_, refl, ap, sym, subst}
-use mathlib.Core.Bool.{Bool, true, false, cond}
-use lib.Dec.{eqb}
-use borrow.Author.Tests.{ne-eqb}
-use Rattle.placement.specs.declared.cookbook.Barrier.{Barrier}
-use Rattle.placement.specs.declared.cookbook.Barrier.the-variants.{LL, LS, SS, SL}
-use Rattle.sheet.specs.Layout.{Instr, barrier}
+use mathlib.Core.Path.{_≡_, ap, sym, subst}
+use mathlib.Core.Bool.{Bool}
+use Rattle.sheet.specs.Layout.{Instr}
 use Rattle.rows.specs.declared.read.Row.{Row}
 use Rattle.sheet.specs.Read.{instrBy}
 use Rattle.permitting.specs.declared.rules.Machine.{Machine as Coded}

@@ -1,20 +1,18 @@
 -- Laws of a buffer that begins with a lane's operations: each row has its operation's bytes and fields.
-use Prim.Native.Nat.{ℕ, zero, suc, _+_, _*_, _^_, _<_, _≤_, min}
+use Prim.Native.Nat.{ℕ, zero, suc, _+_, _*_, _^_, _<_}
 use mathlib.Core.Path.{_≡_, refl, sym, ap, _∙_}
 use mathlib.Core.List.{List, [], _∷_, _++_, map, append-assoc}
-use mathlib.Core.Option.{some}
 use native.Mathlib.Omega.{arith}
-use lib.ListN.{length, getD, take, drop, getElem?, length-map, length-take, take-append-drop}
+use lib.ListN.{length, getD, take, drop, length-map, take-append-drop}
 use lib.Seq.{drop-append-add, take-append-seam}
 use Rattle.kernel.specs.declared.accepted.Op.{Op}
 use Rattle.kernel.specs.declared.accepted.Op.the-variants.{Set, Add, Load, Store, Lock, Unlock, Skip}
 use Rattle.kernel.specs.Stored.{noOp}
 use Rattle.sheet.specs.Layout.{op}
 use Rattle.sheet.specs.Levels.{level1}
-use Rattle.sheet.specs.Bytes.{opBytes, laneBytes}
+use Rattle.sheet.specs.Bytes.{opBytes}
 use Rattle.kernel.proofs.Laws.Lists.{at-some}
 use Rattle.sheet.proofs.Laws.Rows.{instr-length, lane-bytes, quad-back}
-use Rattle.rows.specs.declared.read.Row.{Row}
 use Rattle.rows.specs.Rows.{rowIn}
 use Rattle.rows.specs.Lanes.{opRows, fieldsOf, Holds}
 
@@ -44,9 +42,6 @@ drop-rows (o ∷ os) (suc p) rest h =
     ∙ drop-rows os p rest (omega arith)
 
 module _ {rows : List ℕ} {n : ℕ} {ops : List Op} (h : Holds rows n ops) where
-  pub held-room : 8 * n ≤ length rows
-  held-room = omega (arith, length-take (8 * n) rows, ap length (h .front), rows-length ops, h .count)
-
   split : rows ≡ opRows ops ++ drop (8 * n) rows
   split = sym (take-append-drop (8 * n) rows) ∙ ap (λ x. x ++ drop (8 * n) rows) (h .front)
 

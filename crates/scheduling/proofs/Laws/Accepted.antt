@@ -36,7 +36,7 @@ use Rattle.progress.specs.declared.moves.Move.{Move as Declared}
 use Rattle.progress.specs.declared.progress.Progress.{Progress}
 use Rattle.progress.specs.Stands.{Stand, underway, outside, standOf, fromAt, rowsAt, movable}
 use Rattle.progress.specs.Stands.{turnBy, stepped, moved, moveIn, Follows, freshState, Fresh}
-use Rattle.turning.proofs.Laws.Ready.{lane-ready}
+use Rattle.progress.proofs.Laws.Ready.{lane-ready}
 
 module _ (s : List ℕ) (k : Program) (e : verdict s ≡ accepted k) (m : Coded) (rows own : List ℕ)
     (room : 4112 ≤ length own) (front : rows ≡ over (programBytes (machineIn m) k) own) where

@@ -9,7 +9,7 @@ use Rattle.permitting.specs.Machines.{machineIn}
 use Rattle.progress.specs.declared.moves.Move.{Move}
 use Rattle.progress.specs.declared.progress.Progress.{Progress}
 use Rattle.progress.specs.Stands.{Stand, standOf, moved, moveIn, Alike, Follows}
-use Rattle.turning.proofs.Laws.Turned.{same}
+use Rattle.progress.proofs.Laws.Turned.{same}
 
 pub no-moves : (rows : List ℕ) (x : Progress) → Follows rows [] x x
 no-moves rows x = record { alike = same x; stands = refl }

@@ -5,8 +5,7 @@ use mathlib.Core.Path.{_≡_, refl, sym, ap, _∙_}
 use mathlib.Core.Bool.{Bool, true, false}
 use mathlib.Core.List.{List}
 use lib.Dec.{ltb}
-use lib.ListN.{length, take, drop, length-append, length-drop}
-use lib.Seq.{take-at, drop-at}
+use lib.ListN.{length, drop, length-append, length-drop}
 use borrow.Author.Tests.{ltb-false, le-ltb, lt-ltb}
 use Rattle.sheet.specs.declared.Lowered.the-variants.{Wrote, Refuses}
 use Rattle.sheet.specs.Bytes.{over, writeInto}
@@ -16,15 +15,6 @@ module _ (bytes buffer : List ℕ) where
   pub written-all : length bytes ≤ length buffer
       → writeInto bytes buffer ≡ (Wrote (length bytes), over bytes buffer)
   written-all h = rw (le-ltb (length buffer) (length bytes) h)
-
-  pub written-front : length bytes ≤ length buffer → take (length bytes) (writeInto bytes buffer .1) ≡ bytes
-  written-front h =
-      rw (le-ltb (length buffer) (length bytes) h) (take-at bytes (drop (length bytes) buffer) (length bytes) refl)
-
-  pub written-rest : length bytes ≤ length buffer
-      → drop (length bytes) (writeInto bytes buffer .1) ≡ drop (length bytes) buffer
-  written-rest h =
-      rw (le-ltb (length buffer) (length bytes) h) (drop-at bytes (drop (length bytes) buffer) (length bytes) refl)
 
   pub short-untouched : length buffer < length bytes → writeInto bytes buffer ≡ (Refuses 9 0, buffer)
   short-untouched h = rw (lt-ltb (length buffer) (length bytes) h)

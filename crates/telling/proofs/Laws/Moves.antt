@@ -8,7 +8,7 @@ use Rattle.kernel.specs.Fields.{byte}
 use Rattle.rows.specs.declared.read.Row.{Row}
 use Rattle.rows.specs.Rows.{rowIn}
 use Rattle.sheet.specs.Read.{instrBy, readInstr}
-use Rattle.wording.specs.Words.{named}
+use Rattle.texts.specs.Words.{named}
 use Rattle.lines.specs.Line.{instrText}
 use Rattle.fields.specs.Words.{valueWord}
 use Rattle.fields.specs.Places.{registerIn, nextRow}

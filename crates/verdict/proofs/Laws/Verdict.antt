@@ -56,14 +56,6 @@ structure-check s =
     (check-then (unless (chainTooLong s) ChainTooLong) _ (check-unless (chainTooLong s) ChainTooLong (omega arith))
     (check-unless (badTarget s) BadTarget (omega arith)))))))
 
-passed : (f : Refusal → Refusal) → Check f → f Accepted ≡ Accepted → (a : Refusal) → f a ≡ a
-passed f (inl p) e a = p a
-passed f (inr p) e a = absurd (omega (arith, p .1, ap numberOf (sym (p .2 Accepted) ∙ e)))
-
-stopped : (f : Refusal → Refusal) → Check f → 0 < numberOf (f Accepted) → (a : Refusal) → f a ≡ f Accepted
-stopped f (inl p) n a = absurd (omega (arith, ap numberOf (p Accepted)))
-stopped f (inr p) n a = p .2 a ∙ sym (p .2 Accepted)
-
 -- what each of checks 1 to 7 leaves where it does not refuse
 pub record Structured (s : List ℕ) : Type 0 where
   pub header : headerRule s ≡ true
@@ -104,18 +96,6 @@ structured s e =
       chains = e6 .0;
       targets = e7 .0;
     }
-
-module _ (s : List ℕ) where
-  -- checks 1 to 7 passed: check 8 decides
-  pub structure-passed : structureThen s Accepted ≡ Accepted
-      → refusalOf s ≡ unless (lockFault (programOf s)) LockFault Accepted
-  unfolding refusalOf
-  structure-passed e = passed (structureThen s) (structure-check s) e _
-
-  -- one of them refused
-  pub structure-stopped : 0 < numberOf (structureThen s Accepted) → refusalOf s ≡ structureThen s Accepted
-  unfolding refusalOf
-  structure-stopped n = stopped (structureThen s) (structure-check s) n _
 
 -- an accepted file passed every check
 pub sound : (s : List ℕ) → refusalOf s ≡ Accepted → Structured s × (lockFault (programOf s) ≡ 0)

@@ -27,27 +27,27 @@ returns : tie.Need-returns
 unfolding unreachableTarget
 returns c order o short = rw (eq-eqb _ _ (sym (c .before .word-at .ensures .0) ∙ c .if1 .taken)) refl
 
-mul-wide : tie.Need-mul-wide
-mul-wide c = search needs
+mul-wide-word : tie.Need-mul-wide-word
+mul-wide-word c = search needs
 
-element-copy-out-wide : tie.Need-element-copy-out-wide
-element-copy-out-wide c = search needs
+element-copy-out-wide-word : tie.Need-element-copy-out-wide-word
+element-copy-out-wide-word c = search needs
 
-wide-requires : tie.Need-wide-requires
-wide-requires c κs = search needs
+wide-word-requires : tie.Need-wide-word-requires
+wide-word-requires c κs = search needs
 
-mul-wide-2 : tie.Need-mul-wide-2
-mul-wide-2 c = search needs
+mul-wide-word-2 : tie.Need-mul-wide-word-2
+mul-wide-word-2 c = search needs
 
-element-copy-out-wide-2 : tie.Need-element-copy-out-wide-2
-element-copy-out-wide-2 c =
+element-copy-out-wide-word-2 : tie.Need-element-copy-out-wide-word-2
+element-copy-out-wide-word-2 c =
     let w = c .before .before .before in
     let s = w .before .before in
     let small = target-small (s .args .s .now) (s .pre .1) (s .args .i) (s .pre .2) (s .pre .3) in
     omega (arith, w .word-at .ensures .0)
 
-wide-requires-2 : tie.Need-wide-requires-2
-wide-requires-2 c κs = search needs
+wide-word-requires-2 : tie.Need-wide-word-requires-2
+wide-word-requires-2 c κs = search needs
 
 reaches-requires : tie.Need-reaches-requires
 reaches-requires c κs = search needs
@@ -62,8 +62,8 @@ returns-2 c order o short =
     let small = target-small (a .s .now) (s .pre .1) (a .i) (s .pre .2) (s .pre .3) in
     ap not
     (c .reaches .ensures
-    ∙ ap₂ (reached (a .ends .now)) (first .wide .ensures)
-    (c .before .wide2 .ensures ∙ ap (λ x. getD (a .place .now) x 0) is))
+    ∙ ap₂ (reached (a .ends .now)) (first .wide-word .ensures .0)
+    (c .before .wide-word2 .ensures .0 ∙ ap (λ x. getD (a .place .now) x 0) is))
     ∙ strays-as o short (a .i) (s .pre .2) (s .pre .3) (λ z. test .if1 .left (is ∙ z)) small
 
 pub strays-spec : {M : Type 1} → statement M
@@ -75,11 +75,11 @@ strays-spec =
     add-word-at-2
     word-at-requires
     returns
-    mul-wide
-    element-copy-out-wide
-    wide-requires
-    mul-wide-2
-    element-copy-out-wide-2
-    wide-requires-2
+    mul-wide-word
+    element-copy-out-wide-word
+    wide-word-requires
+    mul-wide-word-2
+    element-copy-out-wide-word-2
+    wide-word-requires-2
     reaches-requires
     returns-2)

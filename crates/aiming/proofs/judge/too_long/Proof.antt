@@ -38,19 +38,19 @@ element-copy-out-end c = search needs
 add-if1 : tie.Need-add-if1 Inv-loop μ-loop
 add-if1 c = omega arith
 
-add-wide : tie.Need-add-wide Inv-loop μ-loop
-add-wide c = omega arith
+add-wide-word : tie.Need-add-wide-word Inv-loop μ-loop
+add-wide-word c = omega arith
 
-mul-wide : tie.Need-mul-wide Inv-loop μ-loop
-mul-wide c = omega arith
+mul-wide-word : tie.Need-mul-wide-word Inv-loop μ-loop
+mul-wide-word c = omega arith
 
-element-copy-out-wide : tie.Need-element-copy-out-wide Inv-loop μ-loop
-element-copy-out-wide c =
+element-copy-out-wide-word : tie.Need-element-copy-out-wide-word Inv-loop μ-loop
+element-copy-out-wide-word c =
     let test = c .before .before in
     omega (arith, test .before .before .pre (test .before .loop .t))
 
-wide-requires : tie.Need-wide-requires Inv-loop μ-loop
-wide-requires c κs = search needs
+wide-word-requires : tie.Need-wide-word-requires Inv-loop μ-loop
+wide-word-requires c κs = search needs
 
 returns : tie.Need-returns Inv-loop μ-loop
 returns c s place o =
@@ -58,8 +58,8 @@ returns c s place o =
     let l = test .before .loop in
     let a = test .before .before .args in
     let over = one-over o (l .t) (test .loop-test .taken) (omega arith) in
-    let value : c .wide .result ≡ getD (a .order .now) (beginOf (a .ends .now) (l .t) + 64) 0 =
-    c .wide .ensures ∙ ap (λ n. getD (a .order .now) (n + 64) 0) (l .inv .1) in
+    let value : c .wide-word .result ≡ getD (a .order .now) (beginOf (a .ends .now) (l .t) + 64) 0 =
+    c .wide-word .ensures .0 ∙ ap (λ n. getD (a .order .now) (n + 64) 0) (l .inv .1) in
     first-found _ _ _ (test .loop-test .taken) (value ∙ over .0) (λ z. omega (arith, over .1)) (l .inv .2 s place o)
 
 add-t : tie.Need-add-t Inv-loop μ-loop
@@ -92,10 +92,10 @@ too-long-spec =
     mul-end
     element-copy-out-end
     add-if1
-    add-wide
-    mul-wide
-    element-copy-out-wide
-    wide-requires
+    add-wide-word
+    mul-wide-word
+    element-copy-out-wide-word
+    wide-word-requires
     returns
     add-t
     loop-less

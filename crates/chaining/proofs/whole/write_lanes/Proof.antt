@@ -1,9 +1,8 @@
 -- `chaining::whole::write_lanes` meets its contract. What is written is the rows of the lanes passed.
 use Prim.Native.Nat.{_+_, _*_, _-_, _≤_, suc}
 use mathlib.Core.Path.{_≡_, refl, sym, ap, _∙_}
-use mathlib.Core.List.{_∷_}
 use native.Mathlib.Omega.{arith}
-use lib.ListN.{length, getD}
+use lib.ListN.{getD}
 use lib.Seq.{sets}
 use Rattle.linking.specs.Ordered.{beginOf}
 use Rattle.linking.proofs.Laws.Places.{end-inside}
@@ -12,8 +11,8 @@ use Rattle.sheet.proofs.Laws.Put.{puts-as, puts-length}
 use Rattle.sheet.proofs.Laws.Turn.{turn-none, turn-on}
 use Rattle.rows.specs.Lanes.{opRows}
 use Rattle.chaining.specs.Chains.{chainAt}
-use Rattle.threading.specs.Records.{LaneIn}
-use Rattle.threading.proofs.Laws.Records.{ops-in}
+use Rattle.chaining.specs.Records.{LaneIn}
+use Rattle.chaining.proofs.Laws.Records.{ops-in}
 use borrow.Author.Needs.{needs}
 use Rattle.chaining.proofs.whole.write_lanes.Statement.{statement}
 use Rattle.chaining.proofs.whole.write_lanes.Tie as tie

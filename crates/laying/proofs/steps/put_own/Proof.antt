@@ -6,13 +6,13 @@ use lib.Seq.{sets}
 use Rattle.placement.specs.Plan.{beginning}
 use Rattle.sheet.specs.Bytes.{row}
 use Rattle.laying.proofs.Laws.Begins.{laid-over}
-use Rattle.laying.proofs.Laws.Put.{own-skip, own-copy}
+use Rattle.laying.proofs.Laws.Put.{eight-bytes, own-skip, own-copy}
 use borrow.Author.Needs.{needs}
 use Rattle.laying.proofs.steps.put_own.Statement.{statement}
 use Rattle.laying.proofs.steps.put_own.Tie as tie
 
-copy-row-requires : tie.Need-copy-row-requires
-copy-row-requires c κs = search needs
+copy-eight-requires : tie.Need-copy-eight-requires
+copy-eight-requires c κs = search needs
 
 shared-slice-read-if1 : tie.Need-shared-slice-read-if1
 shared-slice-read-if1 c = search needs
@@ -57,7 +57,9 @@ returns c =
     let target = t .start-of .ensures ∙ ap (beginning (a .args .plan .now)) (t .before .word-at .ensures .0) in
     let skip = t .before .before .if1 .taken in
     laid-over (a .args .out .now) (a .args .at) (take 8 (drop (a .args .from) rows)) (row 7 _ _ _)
-    (omega (arith, length-take 8 (drop (a .args .from) rows))) (omega (arith, a .pre .0)) (k .copy-row .ensures)
+    (omega (arith, length-take 8 (drop (a .args .from) rows))) (omega (arith, a .pre .0))
+    (k .copy-eight .ensures
+    ∙ ap (sets (a .args .out .now) (a .args .at)) (eight-bytes rows (a .args .from) (a .pre .1)))
     (w .put-row .ensures)
     ∙ ap (sets (a .args .out .now) (a .args .at))
     (own-skip rows (a .args .plan .now) (a .args .from) skip refl refl target)
@@ -69,15 +71,15 @@ returns-2 : tie.Need-returns-2
 returns-2 c =
     let k = c .before .before .before .before in
     let a = k .before .before .before .before .before in
-    k .copy-row .ensures
-    ∙ ap (sets (a .args .out .now) (a .args .at))
-    (own-copy (a .args .rows .now) (a .args .plan .now) (a .args .from) (c .if1 .left))
+    k .copy-eight .ensures
+    ∙ ap (sets (a .args .out .now) (a .args .at)) (eight-bytes (a .args .rows .now) (a .args .from) (a .pre .1)
+    ∙ own-copy (a .args .rows .now) (a .args .plan .now) (a .args .from) (c .if1 .left))
 
 pub put-own-spec : {M : Type 1} → statement M
 put-own-spec =
     tie.close
     (tie.spec
-    copy-row-requires
+    copy-eight-requires
     shared-slice-read-if1
     add-word-at
     word-at-requires

@@ -1,7 +1,7 @@
 -- `lines::line::put_pair` meets its contract.
 use native.Mathlib.Omega.{arith}
 use Rattle.sheet.proofs.Laws.Put.{puts-on}
-use Rattle.wording.proofs.Laws.Decimal.{decimal-few}
+use Rattle.texts.proofs.Laws.Decimal.{decimal-few}
 use borrow.Author.Needs.{needs}
 use Rattle.lines.proofs.line.put_pair.Statement.{statement}
 use Rattle.lines.proofs.line.put_pair.Tie as tie

@@ -1,5 +1,5 @@
 -- `lowering::lower::lower_in` meets its contract.
-use mathlib.Core.Path.{refl, sym, ap, _∙_}
+use mathlib.Core.Path.{sym, ap, _∙_}
 use native.Mathlib.Omega.{arith}
 use lib.ListN.{length, drop, length-append, length-drop}
 use Rattle.kernel.specs.Accepted.{programOf}

@@ -7,9 +7,9 @@ use Rattle.kernel.specs.Fields.{byte}
 use Rattle.sheet.specs.Put.{Puts}
 use Rattle.sheet.proofs.Laws.Put.{puts-as, puts-length}
 use Rattle.sheet.proofs.Laws.Turn.{turn-none, turn-on}
-use Rattle.wording.specs.Decimal.{decimal}
-use Rattle.wording.specs.Words.{space}
-use Rattle.describing.specs.Lanes.{spaced}
+use Rattle.texts.specs.Decimal.{decimal}
+use Rattle.texts.specs.Words.{space}
+use Rattle.reporting.specs.Lanes.{spaced}
 use borrow.Author.Needs.{needs}
 use Rattle.reporting.proofs.states.put_bytes.Statement.{statement}
 use Rattle.reporting.proofs.states.put_bytes.Tie as tie

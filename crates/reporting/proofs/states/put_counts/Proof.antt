@@ -3,7 +3,7 @@ use mathlib.Core.Path.{ap₂}
 use native.Mathlib.Omega.{arith}
 use mathlib.Core.List.{[], _∷_, _++_}
 use Rattle.sheet.proofs.Laws.Put.{puts-as, puts-on}
-use Rattle.wording.specs.Words.{newline, named}
+use Rattle.texts.specs.Words.{newline, named}
 use Rattle.fields.specs.Words.{doneCount, waitedCount}
 use borrow.Author.Needs.{needs}
 use Rattle.reporting.proofs.states.put_counts.Statement.{statement}

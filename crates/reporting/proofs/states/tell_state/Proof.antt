@@ -5,7 +5,7 @@ use native.Mathlib.Omega.{arith}
 use Rattle.sheet.specs.Put.{Puts, inTurn}
 use Rattle.sheet.proofs.Laws.Put.{puts-as, puts-on, puts-length}
 use Rattle.sheet.proofs.Laws.Turn.{turn-none, turn-on}
-use Rattle.describing.specs.Lanes.{laneText}
+use Rattle.reporting.specs.Lanes.{laneText}
 use Rattle.reporting.specs.States.{stateText}
 use borrow.Author.Needs.{needs}
 use Rattle.reporting.proofs.states.tell_state.Statement.{statement}

@@ -26,9 +26,9 @@ use denote.Exit.{yes}
 use Rattle.progress.proofs.moves.Move as Mv
 use Rattle.progress.proofs.progress.Progress as T
 use Rattle.progress.proofs.progress.Progress.Laws as T′
-use Rattle.folding.proofs.fold_move.Symbol as fold-move-def
-use Rattle.folding.proofs.fold_move.Symbol.{name as #fold-move}
-use Rattle.folding.proofs.fold_move.Met as fold-move-thm
+use Rattle.progress.proofs.fold.fold_move.Symbol as fold-move-def
+use Rattle.progress.proofs.fold.fold_move.Symbol.{name as #fold-move}
+use Rattle.progress.proofs.fold.fold_move.Met as fold-move-thm
 use Rattle.scheduling.proofs.moves.run_moves.Key.{name as #run-moves}
 use Rattle.scheduling.proofs.moves.run_moves as run-moves
 use Rattle.scheduling.proofs.moves.run_moves.Statement as stated
@@ -71,4 +71,4 @@ run-moves-spec 𝓤 H 𝓜 𝓖 𝓡 =
     (tables 𝓤 H 𝓜 𝓡 code.env .C) (tables 𝓤 H 𝓜 𝓡 code.env .Λ) #run-moves code.function (code.unfolded 𝓤 H 𝓜 𝓡)
     (run-moves-meets 𝓤 H (𝓖 .A) (givenOf 𝓤 H 𝓜 𝓖) (𝓜 .mem) (𝓡 .run) (tablesOf 𝓤 H 𝓜 (tables 𝓤 H 𝓜 𝓡 code.env))
     (cited 𝓤 H (Fold 𝓤 H (𝓖 .A) (𝓜 .mem) (𝓡 .run)) 𝓜 𝓡 code.env #fold-move fold-move-def.routine
-    code.calls-folding·fold-move (fold-move-thm.met 𝓤 H 𝓜 𝓖 𝓡)))
+    code.calls-progress·fold·fold-move (fold-move-thm.met 𝓤 H 𝓜 𝓖 𝓡)))

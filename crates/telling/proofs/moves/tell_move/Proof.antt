@@ -1,6 +1,6 @@
 -- `telling::moves::tell_move` meets its contract.
 use native.Mathlib.Omega.{arith}
-use Rattle.wording.proofs.Laws.Decimal.{decimal-few}
+use Rattle.texts.proofs.Laws.Decimal.{decimal-few}
 use Rattle.sheet.proofs.Laws.Put.{puts-on}
 use Rattle.telling.specs.Moves.{moveLine}
 use borrow.Author.Needs.{needs}

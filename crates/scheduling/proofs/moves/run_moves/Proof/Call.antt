@@ -37,7 +37,7 @@ use Rattle.progress.specs.Stands.{Follows}
 use Rattle.progress.proofs.moves.Move as Mv
 use Rattle.progress.proofs.progress.Progress as T
 use Rattle.progress.proofs.progress.Progress.Laws as T′
-use Rattle.folding.proofs.fold_move as fold-move
+use Rattle.progress.proofs.fold.fold_move as fold-move
 use Rattle.scheduling.proofs.moves.run_moves as run-moves
 use Rattle.scheduling.proofs.moves.run_moves.Code.Mir.{table}
 

@@ -49,7 +49,7 @@ use Rattle.progress.proofs.moves.Move as Mv
 use Rattle.progress.proofs.moves.Move.Laws as Mv′
 use Rattle.progress.proofs.progress.Progress as T
 use Rattle.progress.proofs.progress.Progress.Laws as T′
-use Rattle.folding.proofs.fold_move.Symbol.{name as #fold-move}
+use Rattle.progress.proofs.fold.fold_move.Symbol.{name as #fold-move}
 use Rattle.scheduling.proofs.moves.run_moves as run-moves
 use Rattle.scheduling.proofs.moves.run_moves.Proof.Call.{bytes, slice, word, state, move′, sliceOf}
 use Rattle.scheduling.proofs.moves.run_moves.Proof.Call.{stateOf, Own₀, Own, Fold, at, Post, exits, to}

@@ -1,2 +1,0 @@
--- Laws of runs from bytes.
-pub mod Laws

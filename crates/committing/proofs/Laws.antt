@@ -1,2 +1,0 @@
--- Laws: Commits a commit on borrowed rows.
-pub mod Commits

@@ -1,2 +1,0 @@
-// A lane's commit of a pending entry.
-pub mod commit;

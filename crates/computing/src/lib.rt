@@ -1,2 +1,0 @@
-// Instructions of a lane that stay within it: registers, position, and barriers.
-pub mod local;

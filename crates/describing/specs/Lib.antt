@@ -1,2 +1,0 @@
--- Lanes: the text of a lane at the end of a run.
-pub mod Lanes

@@ -1,2 +1,0 @@
-// The text of a lane at the end of a run.
-pub mod lane;

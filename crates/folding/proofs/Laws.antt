@@ -1,2 +1,0 @@
--- Laws about one move of a schedule.
-pub mod Follows

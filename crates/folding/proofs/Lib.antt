@@ -1,2 +1,0 @@
--- Laws of one move of a schedule.
-pub mod Laws

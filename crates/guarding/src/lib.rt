@@ -1,2 +1,0 @@
-// Operations of a lane that take or release a lock: LOCK and UNLOCK.
-pub mod step;

@@ -1,2 +1,0 @@
--- Settles: what the code writes back after a move.
-pub mod Settles

@@ -1,0 +1,2 @@
+-- Laws of decimals.
+pub mod Laws

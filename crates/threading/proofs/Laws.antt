@@ -1,4 +1,0 @@
--- Laws by subject.
-pub mod Lane
-pub mod Row
-pub mod Records

@@ -1,2 +1,0 @@
--- Laws of a lane's rows.
-pub mod Laws

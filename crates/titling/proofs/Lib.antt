@@ -1,2 +1,0 @@
--- What is proved of the first line: small laws.
-pub mod Laws

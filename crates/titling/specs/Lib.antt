@@ -1,2 +1,0 @@
--- Ones: how many locations a mask names.
-pub mod Ones

@@ -1,2 +1,0 @@
--- Laws of a lane's move on a run so far.
-pub mod Laws

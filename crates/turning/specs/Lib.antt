@@ -1,2 +1,0 @@
--- Makes: what a lane begins its move from, and what it made of a run so far.
-pub mod Makes

@@ -1,2 +1,0 @@
--- What is proved of words and numbers: small laws.
-pub mod Laws

@@ -1,0 +1,2 @@
+-- Bytes that are copied into a sheet.
+pub mod Eight
