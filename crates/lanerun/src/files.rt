@@ -3,9 +3,9 @@ use crate::tell::run_moves;
 use console::files::read_named;
 use console::print::say;
 use console::print::say_number;
-use permitting::rules::Machine;
-use reading::Read;
-use reading::read_schedule;
+use machine_state::rules::Machine;
+use text_schedule::whole::Read;
+use text_schedule::whole::read_schedule;
 
 // The kernel file, of which the first 3,089 bytes are enough: any file that is longer is refused by its header or its
 // length.

@@ -5,7 +5,7 @@ mod tell;
 
 use console::print::say;
 use files::run_files;
-use permitting::rules::Machine;
+use machine_state::rules::Machine;
 
 fn main() {
     let mut name = io::buffer();

@@ -5,11 +5,11 @@ use console::print::say;
 use console::print::say_part;
 use console::print::say_refusal;
 use lanes::call::run_file;
-use lanes::program::program_of;
-use permitting::rules::Machine;
-use reporting::tell_state;
-use sheet::Lowered;
-use telling::tell_move;
+use machine_start::program::program_of;
+use machine_state::rules::Machine;
+use sheet_format::Lowered;
+use text_run::moves::tell_move;
+use text_run::states::tell_state;
 
 // The whole schedule first: a refusal carries out nothing.
 pub(crate) fn run_moves(machine: Machine, file: &[u8], moves: &[u8])

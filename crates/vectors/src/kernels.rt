@@ -5,9 +5,9 @@ use console::files::read_named;
 use console::print::say;
 use console::print::say_number;
 use console::print::say_refusal;
-use lowering::lower::lower1;
-use relowering::lower::lower2;
-use sheet::Lowered;
+use sheet_format::Lowered;
+use sheet_level1::lower::lower1;
+use sheet_level2::lower::lower2;
 
 pub(crate) fn tell_pairs(n: usize)
     requires { ⌜ n < 2 ^ 63 ⌝ }

@@ -5,11 +5,11 @@ use console::print::say;
 use console::print::say_part;
 use console::print::say_refusal;
 use lanes::call::run_file;
-use permitting::rules::Machine;
-use reading::Read;
-use reading::read_schedule;
-use reporting::tell_state;
-use sheet::Lowered;
+use machine_state::rules::Machine;
+use sheet_format::Lowered;
+use text_run::states::tell_state;
+use text_schedule::whole::Read;
+use text_schedule::whole::read_schedule;
 
 // The schedule that argument i names, if it names one.
 pub(crate) fn tell_schedule(i: usize, file: &[u8]) {

@@ -1,59 +1,34 @@
 -- Laws of the answer on a file and a schedule, by what its program's rows and the tests say.
 use Prim.Native.Nat.{ℕ, _%_, _≤_, _<_}
-use mathlib.Core.Path.{_≡_, refl, sym, ap, ap₂, _∙_}
+use mathlib.Core.Path.{_≡_, sym, ap, ap₂, _∙_}
 use mathlib.Core.Bool.{Bool, true, false}
 use mathlib.Core.List.{List}
 use native.Mathlib.Omega.{arith}
 use borrow.Author.Tests.{lt-ltb, le-ltb, eq-eqb, ne-eqb}
 use lib.ListN.{length, getD, drop}
-use Rattle.kernel.specs.Fields.{word}
-use Rattle.kernel.specs.Accepted.{Program}
-use Rattle.kernel.specs.Lawful.{Lawful}
-use Rattle.verdict.specs.Verdict.{verdict, accepted}
-use Rattle.verdict.proofs.Laws.Verdict.{accepted-as}
-use Rattle.sheet.specs.declared.Lowered.{Lowered}
-use Rattle.sheet.specs.declared.Lowered.the-variants.{Wrote, Refuses}
-use Rattle.sheet.proofs.Answers.{BytesIn, refuses-by, wrote-by}
-use Rattle.sheet.proofs.Sizes.{sheet2-small}
-use Rattle.chaining.proofs.ChainsBack.{chains-small}
-use Rattle.machine.specs.Rules.{Machine}
-use Rattle.machine.specs.Schedule.{Move, limit, legal}
-use Rattle.machine.specs.State.{Outcome, ran, refused}
-use Rattle.machine.specs.Run.{answerOf, startOf, programFor, runOn, runProgram}
-use Rattle.machine.specs.Moves.{movesIn}
-use Rattle.reached.proofs.Answered.{not-refused}
-use Rattle.permitting.specs.declared.rules.Machine.{Machine as Coded}
-use Rattle.permitting.specs.declared.rules.Machine.the-variants.{Source, Tso}
-use Rattle.permitting.specs.Machines.{machineIn}
-use Rattle.starting.specs.Programs.{programBytes, programBy}
-use Rattle.answering.specs.Calls.{runInto, runFileBy}
-use Rattle.starting.specs.Setup.{ProgramIn, ranInto}
-use Rattle.starting.proofs.Laws.Programs.{header-read}
+use Rattle.file_format.specs.Fields.{word}
+use Rattle.file_format.specs.Accepted.{Program}
+use Rattle.file_verdict.specs.Verdict.{verdict}
+use Rattle.file_verdict.proofs.Laws.Verdict.{accepted-as}
+use Rattle.sheet_format.specs.declared.Lowered.{Lowered}
+use Rattle.sheet_format.specs.declared.Lowered.the-variants.{Wrote, Refuses}
+use Rattle.sheet_format.proofs.Answers.{BytesIn}
+use Rattle.machine_spec.specs.Schedule.{limit, legal}
+use Rattle.machine_spec.specs.Moves.{movesIn}
+use Rattle.machine_state.specs.declared.rules.Machine.{Machine as Coded}
+use Rattle.machine_state.specs.Machines.{machineIn}
+use Rattle.machine_start.specs.Programs.{programBytes, programBy}
+use Rattle.lanes_answers.specs.Calls.{runInto, runFileBy}
+use Rattle.machine_start.specs.Setup.{ProgramIn, ranInto}
+use Rattle.machine_start.proofs.Laws.Programs.{header-read}
+use Rattle.machine_start.proofs.Laws.Files.{file-verdict, ran-number}
 
--- a legal schedule's run is no refusal
-pub ran-number : (s : List ℕ) (k : Program) → verdict s ≡ accepted k → (m : Machine) (mvs : List Move)
-    → legal (length (k .lanes)) (limit m) mvs ≡ true → runProgram m k mvs .number ≡ 0
-ran-number s k e m mvs le = rw le (go (runOn m k mvs) refl)
-  where
-    go : (o : Outcome) → runOn m k mvs ≡ o → answerOf (programFor m k) (k .records) (startOf k) o .number ≡ 0
-    go (ran r) h = refl
-    go (refused t p) h = absurd (not-refused s k e m mvs le t p h)
-
-program-small : (m : Coded) (k : Program) → Lawful k → length (programBytes (machineIn m) k) ≤ 4112
-program-small Source k w = omega (arith, chains-small k w)
-program-small Tso k w = sheet2-small k w
-
--- a machine's program, in a buffer that takes every program
-module _ (m : Coded) (s own : List ℕ) (big : 4112 ≤ length own) where
-  pub file-refused : {n r : ℕ} {after : List ℕ} → (Refuses n r, after) ≡ programBy (machineIn m) (verdict s) own
-      → (moves out : List ℕ) → (Refuses n r, out) ≡ runFileBy (machineIn m) (verdict s) moves out
-  file-refused p moves out =
-      sym (ap (λ v. runFileBy (machineIn m) v moves out)
-      (refuses-by (programBytes (machineIn m)) 4112 (program-small m) s own big p))
-
-  pub file-accepted : {n : ℕ} {after : List ℕ} → (Wrote n, after) ≡ programBy (machineIn m) (verdict s) own
-      → BytesIn (programBytes (machineIn m)) s own after
-  file-accepted = wrote-by (programBytes (machineIn m)) 4112 (program-small m) s own big
+-- a refused file
+pub file-refused : (m : Coded) (s own : List ℕ) → 4112 ≤ length own → {n r : ℕ} {after : List ℕ}
+    → (Refuses n r, after) ≡ programBy (machineIn m) (verdict s) own
+    → (moves out : List ℕ) → (Refuses n r, out) ≡ runFileBy (machineIn m) (verdict s) moves out
+file-refused m s own big p moves out =
+    sym (ap (λ v. runFileBy (machineIn m) v moves out) (file-verdict m s own big p))
 
 -- a run that takes place: what it starts from, and its answer
 pub record Takes (m : Coded) (mask : ℕ) (rows moves s out : List ℕ) : Type 0 where

@@ -1,7 +1,7 @@
 -- `lanerun::files::run_text` meets its contract. The moves that are read lie within the buffer.
 use native.Mathlib.Omega.{arith}
 use lib.ListN.{length-take}
-use Rattle.reading.proofs.Laws.Read.{read-fits}
+use Rattle.text_schedule.proofs.Laws.Read.{read-fits}
 use borrow.Author.Needs.{needs}
 use Rattle.lanerun.proofs.files.run_text.Statement.{statement}
 use Rattle.lanerun.proofs.files.run_text.Tie as tie

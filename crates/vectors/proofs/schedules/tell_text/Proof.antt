@@ -1,7 +1,7 @@
 -- `vectors::schedules::tell_text` meets its contract. The moves that are read lie within the buffer.
 use native.Mathlib.Omega.{arith}
 use lib.ListN.{length-take}
-use Rattle.reading.proofs.Laws.Read.{read-fits}
+use Rattle.text_schedule.proofs.Laws.Read.{read-fits}
 use borrow.Author.Needs.{needs}
 use Rattle.vectors.proofs.schedules.tell_text.Statement.{statement}
 use Rattle.vectors.proofs.schedules.tell_text.Tie as tie

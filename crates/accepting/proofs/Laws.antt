@@ -1,2 +1,0 @@
--- Laws: Checks the checks one after the other.
-pub mod Checks

@@ -1,2 +1,0 @@
--- What is proved of the acceptance: Laws of the code.
-pub mod Laws

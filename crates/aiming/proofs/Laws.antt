@@ -1,2 +1,0 @@
--- Laws of the targets that a record reaches.
-pub mod Reach

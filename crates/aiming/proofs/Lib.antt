@@ -1,2 +1,0 @@
--- Laws that the code's proofs cite.
-pub mod Laws

@@ -1,2 +1,0 @@
--- Reach: what a place of the order reaches.
-pub mod Reach

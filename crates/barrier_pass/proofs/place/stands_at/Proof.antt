@@ -1,0 +1,30 @@
+-- `barrier_pass::place::stands_at` meets its contract: the bits of a class are found by its number.
+use Prim.Native.Nat.{_*_, _/_, _^_}
+use native.Mathlib.Nat.{mod-lt}
+use native.Mathlib.Omega.{arith}
+use Rattle.barrier_pass.proofs.Laws.Classes.{class-stands}
+use borrow.Author.Needs.{needs}
+use Rattle.barrier_pass.proofs.place.stands_at.Statement.{statement}
+use Rattle.barrier_pass.proofs.place.stands_at.Tie as tie
+
+mul-result : tie.Need-mul-result
+mul-result c = search needs
+
+cast-result : tie.Need-cast-result
+cast-result c = search needs
+
+shr-result : tie.Need-shr-result
+shr-result c = search needs
+
+cast-result-2 : tie.Need-cast-result-2
+cast-result-2 c = search needs
+
+returns : tie.Need-returns
+returns c =
+    let a = c .args in (
+      λ s b e. rw e (class-stands s (a .due) b (c .fits .due .fits)),
+      mod-lt (a .due / 2 ^ (4 * a .x)) (omega arith),
+    )
+
+pub stands-at-spec : {M : Type 1} → statement M
+stands-at-spec = tie.close (tie.spec mul-result cast-result shr-result cast-result-2 returns)

@@ -1,0 +1,147 @@
+-- Demand 2 of every accepted kernel file, at each level; and that the sheet is whole, each byte of it below 256.
+use mathlib.Core.Path.{_≡_, refl, ap, _∙_, sym, subst}
+use mathlib.Core.Bool.{Bool, true, false, _&&_, true≢false}
+use mathlib.Core.List.{List, [], _∷_, _++_, map}
+use Prim.Native.Nat.{ℕ, _<_}
+use native.Mathlib.Omega.{arith}
+use lib.ListN.{length, getD, drop, List·getD-map, List·getD-append}
+use Rattle.file_format.specs.declared.accepted.Op.{Op}
+use Rattle.file_format.specs.Accepted.{Program}
+use Rattle.file_verdict.specs.Verdict.{accepted, verdict}
+use Rattle.file_format.specs.Lawful.{Lawful}
+use Rattle.file_wellformed.proofs.Lawful.{accepted-lawful}
+use Rattle.barrier_placement.specs.declared.cookbook.Barrier.{Barrier}
+use Rattle.barrier_placement.specs.declared.cookbook.Barrier.the-variants.{LL}
+use Rattle.barrier_placement.specs.Chain.{Chain, Path, Between}
+use Rattle.barrier_placement.specs.Steps.{steps}
+use Rattle.barrier_placement.specs.Place.{stands}
+use Rattle.barrier_placement.specs.Sentence.{Sentence}
+use Rattle.barrier_placement.proofs.Correct.{correct}
+use Rattle.barrier_placement.proofs.Laws.Bools.{and-true}
+use Rattle.barrier_placement.proofs.Laws.Chosen.{chosen-only}
+use Rattle.barrier_placement.specs.Sheet.{Item, bar, item, NextItem, ItemPair, Alone, lowered as loweredBy}
+use Rattle.barrier_placement.proofs.Laws.Layout.{locate, inside-lane, bar-at}
+use Rattle.barrier_placement.proofs.SheetCorrect.{items-covered, items-alone}
+use Rattle.sheet_format.specs.Layout.{Instr, op, barrier, Placed, operations, start, aim, cells, sheet}
+use Rattle.sheet_format.specs.Levels.{Level, keeps, placed, placedLanes, sheetLanes, volatileIn}
+use Rattle.sheet_format.specs.Bytes.{sheetBytes, lowerBy}
+use Rattle.sheet_format.specs.Read.{readSheet}
+use Rattle.sheet_format.specs.Items.{items, operationAt, keepsAt, keptBefore}
+use Rattle.sheet_format.proofs.LoweredLanes.{placed-operations, items-lowered}
+use Rattle.sheet_format.proofs.ReadBack.{lawful-back}
+use Rattle.sheet_format.proofs.SmallBytes.{sheet-bytes-small}
+use Rattle.sheet_format.proofs.Laws.Written.{written-all}
+use Rattle.sheet_format.proofs.Laws.Targets.{targets-within}
+use Rattle.claims.specs.Claims.{laneOf, laneItems, operationsIn, Demand2, lowered, Fitting}
+use Rattle.claims.proofs.KernelLanes.{forward, lane-placed}
+
+abbrev Covered : Level → List Item → Type 0
+Covered l x =
+    (b : Barrier) → ((o : Op) → keeps l o b ≡ true) → (m n : ℕ) (π : Path (NextItem x) m n) → ItemPair x b m n
+    → (y : ℕ) × Between π y × (item x y ≡ bar b)
+
+abbrev Needed : List Item → Type 0
+Needed x = (b : Barrier) (m : ℕ) → item x m ≡ bar b → Alone x b m
+
+abbrev Absent : Level → List Item → Type 0
+Absent l x = (b : Barrier) → ((o : Op) → keeps l o b ≡ false) → (m : ℕ) → item x m ≡ bar b → ⊥
+
+-- a barrier that stands in a lowered lane is one that the level keeps there
+kept-only : (l : Level) (vol : ℕ → Bool) (ops : List Op)
+    → Absent l (loweredBy (keptBefore l vol ops) (steps vol ops))
+kept-only l vol ops b h m e =
+    let s = steps vol ops in
+    let pre = keptBefore l vol ops in
+    let x = locate pre s (length s) m (inside-lane pre s m (λ e′. let z : _≡_ {A = ℕ} 0 1 = cc in omega arith)) in
+    let y = bar-at pre s (x .0) (x .1) b (x .2) (x .3) (ap (item (loweredBy pre s)) (sym (x .4)) ∙ e) in
+    let a = getD (pre (x .0)) (x .1) LL in
+    let z = and-true (keepsAt l ops a (x .0)) (stands s a (x .0))
+    (chosen-only (λ c. keepsAt l ops c (x .0) && stands s c (x .0)) (x .1) (y .0)) in
+    true≢false (sym (z .0) ∙ ap (λ c. keepsAt l ops c (x .0)) (y .1) ∙ h (operationAt ops (x .0)))
+
+module _ (l : Level) (k : Program) (w : Lawful k) (bytes : List ℕ) (same : readSheet bytes ≡ sheetLanes l k) (t : ℕ)
+  where
+    abbrev ops : List Op
+    ops = getD (k .lanes) t []
+
+    abbrev chain : Chain
+    chain = steps (volatileIn k) ops
+
+    -- lane t of the sheet
+    lane-read : laneOf bytes t ≡ sheet (placed l (volatileIn k) ops)
+    lane-read =
+        ap (λ x. getD x t []) same ∙ List·getD-map sheet (placedLanes l k) t [] ∙ ap sheet (lane-placed k l t)
+
+    -- it is the chain with the placement's barriers
+    lane-lowered : laneItems (volatileIn k) bytes t ≡ loweredBy (keptBefore l (volatileIn k) ops) chain
+    lane-lowered =
+        ap (items (volatileIn k)) lane-read ∙ items-lowered l (volatileIn k) ops (targets-within (w .lane t))
+
+    sentence : (b : Barrier) → Sentence chain b (stands chain b)
+    sentence b = correct chain b (forward (w .lane t) (volatileIn k))
+
+    lane-covered : Covered l (laneItems (volatileIn k) bytes t)
+    lane-covered =
+        subst (Covered l) (sym lane-lowered)
+        (λ b h. items-covered chain (stands chain) sentence (keepsAt l ops) b (λ p. h (operationAt ops p)))
+
+    lane-needed : Needed (laneItems (volatileIn k) bytes t)
+    lane-needed = subst Needed (sym lane-lowered) (items-alone chain (stands chain) sentence (keepsAt l ops))
+
+    lane-absent : Absent l (laneItems (volatileIn k) bytes t)
+    lane-absent = subst (Absent l) (sym lane-lowered) (kept-only l (volatileIn k) ops)
+
+sheet-demand2 : (l : Level) (k : Program) → Lawful k → (bytes : List ℕ) → readSheet bytes ≡ sheetLanes l k
+    → Demand2 l (volatileIn k) bytes
+sheet-demand2 l k w bytes same = record {
+  covered = lane-covered l k w bytes same;
+  needed = lane-needed l k w bytes same;
+  absent = lane-absent l k w bytes same;
+}
+
+operations-bars : (bs : List Barrier) (is : List Instr) → operationsIn (map barrier bs ++ is) ≡ operationsIn is
+operations-bars [] is = refl
+operations-bars (b ∷ bs) is = operations-bars bs is
+
+operations-cells : (r : ℕ → ℕ) (ps : List Placed) → operationsIn (cells r ps) ≡ map (aim r) (operations ps)
+operations-cells r [] = refl
+operations-cells r (x ∷ ps) =
+    operations-bars (x .before) (op (aim r (x .oper)) ∷ cells r ps)
+    ∙ ap (λ l. aim r (x .oper) ∷ l) (operations-cells r ps)
+
+module _ (s : List ℕ) (k : Program) (e : verdict s ≡ accepted k) where
+  w : Lawful k
+  w = accepted-lawful s k e
+
+  -- what lowering leaves in a buffer that is long enough, and what is read of it
+  lowered-bytes : Fitting (λ l buffer. lowered l s buffer
+      ≡ sheetBytes l k ++ drop (length (sheetBytes l k)) buffer) k
+  lowered-bytes l buffer h = ap (λ v. lowerBy l v buffer .1) e ∙ ap (λ r. r .1) (written-all (sheetBytes l k) buffer h)
+
+  lowered-back : Fitting (λ l buffer. readSheet (lowered l s buffer) ≡ sheetLanes l k) k
+  lowered-back l buffer h =
+      ap readSheet (lowered-bytes l buffer h) ∙ lawful-back l k (drop (length (sheetBytes l k)) buffer) w
+
+  pub demand2 : Fitting (λ l buffer. Demand2 l (volatileIn k) (lowered l s buffer)) k
+  demand2 l buffer h = sheet-demand2 l k w (lowered l s buffer) (lowered-back l buffer h)
+
+  -- every operation stands in the sheet, in order
+  pub whole : Fitting (λ l buffer. (t : ℕ)
+      → operationsIn (laneOf (lowered l s buffer) t)
+      ≡ map (aim (start (placed l (volatileIn k) (getD (k .lanes) t [])))) (getD (k .lanes) t [])) k
+  whole l buffer h t =
+      let os = getD (k .lanes) t [] in
+      let ps = placed l (volatileIn k) os in
+      ap operationsIn (lane-read l k w (lowered l s buffer) (lowered-back l buffer h) t)
+      ∙ operations-cells (start ps) ps
+      ∙ ap (map (aim (start ps))) (placed-operations l (steps (volatileIn k) os) 0 os)
+
+  -- each byte of it is below 256
+  pub bytes : Fitting (λ l buffer. (i : ℕ) → i < length (sheetBytes l k) → getD (lowered l s buffer) i 0 < 256) k
+  bytes l buffer h i inside =
+      rw (
+        lowered-bytes l buffer h,
+        List·getD-append (sheetBytes l k) (drop (length (sheetBytes l k)) buffer) 0 i
+            inside,
+      )
+      (sheet-bytes-small l k w i)

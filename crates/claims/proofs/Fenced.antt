@@ -1,0 +1,96 @@
+-- The one fact on barriers that the matching needs: a barrier parts each pair that it has to part.
+use mathlib.Core.Path.{_≡_}
+use mathlib.Core.Bool.{Bool, true, false}
+use mathlib.Core.List.{List, map}
+use mathlib.Core.Option.{some}
+use Prim.Native.Nat.{ℕ, suc}
+use lib.ListN.{getElem?}
+use Rattle.file_format.specs.declared.accepted.Op.{Op}
+use Rattle.file_format.specs.declared.accepted.Op.the-variants.{Set, Add, Load, Store, Lock, Unlock, Skip}
+use Rattle.barrier_placement.specs.declared.cookbook.Barrier.{Barrier}
+use Rattle.barrier_placement.specs.declared.cookbook.Barrier.the-variants.{LL, LS, SS, SL}
+use Rattle.file_format.specs.Accepted.{jump}
+use Rattle.sheet_format.specs.Layout.{Instr, op, Placed, operations, sheet, has}
+use Rattle.sheet_format.specs.Levels.{Level, level2, keeps}
+use Rattle.machine_spec.specs.Rules.{Target, tso}
+
+-- the programs of the source machine and of a target, of lanes with their barriers
+abbrev pub kernelProgram : List (List Placed) → List (List Instr)
+kernelProgram = map (λ ps. map op (operations ps))
+
+abbrev pub sheetProgram : List (List Placed) → List (List Instr)
+sheetProgram = map sheet
+
+-- volatile store or UNLOCK
+abbrev pub publishes : (ℕ → Bool) → Op → Bool
+publishes vol (Set a c) = false
+publishes vol (Add a b) = false
+publishes vol (Load a x) = false
+publishes vol (Store a x) = vol x
+publishes vol (Lock l) = false
+publishes vol (Unlock l) = true
+publishes vol (Skip a t) = false
+
+-- volatile load
+abbrev pub acquires : (ℕ → Bool) → Op → Bool
+acquires vol (Set a c) = false
+acquires vol (Add a b) = false
+acquires vol (Load a x) = vol x
+acquires vol (Store a x) = false
+acquires vol (Lock l) = false
+acquires vol (Unlock l) = false
+acquires vol (Skip a t) = false
+
+-- LOCK: a target carries it out only with nothing pending
+abbrev pub drains : Op → Bool
+drains (Set a c) = false
+drains (Add a b) = false
+drains (Load a x) = false
+drains (Store a x) = false
+drains (Lock l) = true
+drains (Unlock l) = false
+drains (Skip a t) = false
+
+-- is the operation the earlier one of a pair that b parts
+abbrev pub opens : Barrier → (ℕ → Bool) → Op → Bool
+opens LL vol o = false
+opens LS vol o = false
+opens SS vol o = false
+opens SL vol o = publishes vol o
+
+-- is it the later one; LOCK, which drains, apart
+abbrev pub needs : Barrier → (ℕ → Bool) → Op → Bool
+needs LL vol o = false
+needs LS vol o = false
+needs SS vol o = false
+needs SL vol o = acquires vol o
+
+-- a way of one step from position p
+pub data Edge (ps : List Placed) : ℕ → ℕ → Type 0 where
+  falls : {p : ℕ} → Edge ps p (suc p)
+  jumps : {p t : ℕ} (s : Placed) → getElem? ps p ≡ some s → jump (s .oper) ≡ some t → Edge ps p t
+
+-- some path leads to p from an operation that opens b, with no b before an operation strictly between, and no LOCK
+-- there
+pub data Open (b : Barrier) (vol : ℕ → Bool) (ps : List Placed) : ℕ → Type 0 where
+  starts : {i p : ℕ} (s : Placed) → getElem? ps i ≡ some s → opens b vol (s .oper) ≡ true → Edge ps i p
+      → Open b vol ps p
+  goes-on : {i p : ℕ} (s : Placed) → Open b vol ps i → getElem? ps i ≡ some s → has b (s .before) ≡ false
+      → drains (s .oper) ≡ false → Edge ps i p → Open b vol ps p
+
+-- b stands before each operation that needs it and that such a path leads to
+abbrev pub Fenced : Barrier → (ℕ → Bool) → List Placed → Type 0
+Fenced b vol ps =
+    (p : ℕ) (s : Placed) → getElem? ps p ≡ some s → needs b vol (s .oper) ≡ true → Open b vol ps p
+    → has b (s .before) ≡ true
+
+-- the level of a target's sheets
+abbrev pub levelOf : Target → Level
+levelOf tso = level2
+
+-- the level keeps b before every operation that does not drain
+abbrev pub KeptAt : Target → Barrier → Type 0
+KeptAt m b = (o : Op) → drains o ≡ false → keeps (levelOf m) o b ≡ true
+
+abbrev pub AllFenced : Target → (ℕ → Bool) → List Placed → Type 0
+AllFenced m vol ps = (b : Barrier) → KeptAt m b → Fenced b vol ps

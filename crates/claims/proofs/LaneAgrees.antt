@@ -1,0 +1,110 @@
+-- A lane's move on a target agrees with the same lane's move on the source machine.
+use mathlib.Core.Path.{_≡_, refl, subst}
+use mathlib.Core.Bool.{Bool, true, false, cond}
+use mathlib.Core.List.{List, map}
+use mathlib.Core.Option.{Option, none, some}
+use Prim.Native.Nat.{ℕ, zero, suc, _+_, _≤_, _<_}
+use native.Mathlib.Decide.{decLt}
+use native.Mathlib.Omega.{arith}
+use lib.ListN.{length, getD, getElem?, take}
+use lib.Seq.{take-suc, take-length}
+use Rattle.barrier_placement.specs.declared.cookbook.Barrier.{Barrier}
+use Rattle.barrier_placement.specs.declared.cookbook.Barrier.the-variants.{LL}
+use Rattle.sheet_format.specs.Layout.{op, barrier, Placed, operations, start, aim, sheet}
+use Rattle.machine_spec.specs.Entries.{Entry, without}
+use Rattle.machine_spec.specs.Rules.{Target, source, target, mayCommit, mayPass}
+use Rattle.machine_spec.specs.Step.{Control, Core, Turn, waits, passes, goto, execute, commit, turn}
+use Rattle.claims.proofs.Fenced.{AllFenced}
+use Rattle.claims.proofs.Laws.Sheets.{beforeOf, has-snoc, at-barrier, at-op, at-end, chain-at}
+use Rattle.claims.proofs.Exposed.{exposed-without, exposed-pass, source-commits}
+use Rattle.claims.proofs.Stands.{Safe, Stands}
+use Rattle.claims.proofs.OpAgrees.{Agrees, wait, passed-by, act, op-agrees}
+
+module _ (m : Target) (vol : ℕ → Bool) (ps : List Placed) where
+  commit-agrees : (i k : Control) (c : Core) (n : ℕ) (e : Option Entry) → getElem? (c .pending) n ≡ e
+      → Stands m vol ps (i .pos) k (c .pending)
+      → Agrees m vol ps (i .pos) c (commit (target m) vol k c n e) (commit source vol i c n e)
+  commit-agrees i k c n none at st = wait
+  commit-agrees i k c n (some e) at st = go (mayCommit (target m) vol (take n (c .pending)) e) refl
+    where
+      go : (b : Bool) → mayCommit (target m) vol (take n (c .pending)) e ≡ b
+          → Agrees m vol ps (i .pos) c (commit (target m) vol k c n (some e)) (commit source vol i c n (some e))
+      go false h = rw h wait
+      go true h = rw (h, source-commits m vol (take n (c .pending)) e h) (act left)
+        where
+          left : Stands m vol ps (i .pos) k (without n (c .pending))
+          left = record {
+            passed = st .passed;
+            place = st .place;
+            within = st .within;
+            safe = λ b v x. st .safe b v (exposed-without b vol (c .pending) n e at x);
+          }
+
+  module _ (f : AllFenced m vol ps) (w : ℕ) (i k : Control) (c : Core) (st : Stands m vol ps (i .pos) k (c .pending))
+    where
+      execute-agrees : Agrees m vol ps (i .pos) c (execute (target m) vol w k c (getElem? (sheet ps) (k .pos)))
+          (execute source vol w i c (getElem? (map op (operations ps)) (i .pos)))
+      execute-agrees = go (getElem? ps (i .pos)) refl
+        where
+          u : Turn
+          u = execute source vol w i c (getElem? (map op (operations ps)) (i .pos))
+
+          go : (s : Option Placed) → getElem? ps (i .pos) ≡ s
+              → Agrees m vol ps (i .pos) c (execute (target m) vol w k c (getElem? (sheet ps) (k .pos))) u
+          go none here = rw (st .place, at-end (start ps) ps (i .pos) (st .passed) here) wait
+          go (some s) here = reach (decLt (st .passed) (length (s .before)))
+            where
+              most : st .passed ≤ length (s .before)
+              most = subst (λ o. st .passed ≤ length (beforeOf o)) here (st .within)
+
+              guard : Safe m vol ps (i .pos) (c .pending) (take (st .passed) (s .before))
+              guard = subst (λ o. Safe m vol ps (i .pos) (c .pending) (take (st .passed) (beforeOf o))) here (st .safe)
+
+              reach : Dec (st .passed < length (s .before))
+                  → Agrees m vol ps (i .pos) c (execute (target m) vol w k c (getElem? (sheet ps) (k .pos))) u
+              reach (yes h) =
+                  let fetch : getElem? (sheet ps) (k .pos) ≡ some (barrier (getD (s .before) (st .passed) LL)) =
+                  rw (st .place) (at-barrier (start ps) ps (i .pos) (st .passed) s here h) in
+                  rw fetch (bar (mayPass (target m) x (c .pending)) refl)
+                where
+                  x : Barrier
+                  x = getD (s .before) (st .passed) LL
+
+                  past : mayPass (target m) x (c .pending) ≡ true
+                      → Stands m vol ps (i .pos) (goto k (suc (k .pos))) (c .pending)
+                  past may = record {
+                    passed = suc (st .passed);
+                    place = omega (arith, st .place);
+                    within = rw here h;
+                    safe = λ b v e.
+                        let old = guard b v e in (
+                          old .0,
+                          rw here
+                              (rw (take-suc (s .before) (st .passed) LL h)
+                              (has-snoc b (take (st .passed) (s .before)) x (old .1)
+                              (exposed-pass m b x vol (c .pending) may e))),
+                        );
+                  }
+
+                  bar : (b : Bool) → mayPass (target m) x (c .pending) ≡ b
+                      → Agrees m vol ps (i .pos) c
+                      (cond (mayPass (target m) x (c .pending)) (passes (goto k (suc (k .pos))) c) waits) u
+                  bar false e = rw e wait
+                  bar true e = rw e (passed-by (past e))
+              reach (no h) =
+                  let all : st .passed ≡ length (s .before) = omega (arith, most) in
+                  let at : k .pos ≡ start ps (i .pos) + length (s .before) = rw (← all) (st .place) in
+                  let fetch : getElem? (sheet ps) (k .pos) ≡ some (op (aim (start ps) (s .oper))) =
+                  rw at (at-op (start ps) ps (i .pos) s here) in
+                  rw (fetch, chain-at ps (i .pos) s here)
+                  (op-agrees f (record {
+                    here = here;
+                    place = at;
+                    safe = λ b v e. (guard b v e .0, rw (all, take-length) at (guard b v e .1));
+                  }) w (s .oper) refl)
+
+      pub turn-agrees : (n : ℕ)
+          → Agrees m vol ps (i .pos) c (turn (target m) vol w (sheet ps) k c n)
+          (turn source vol w (map op (operations ps)) i c n)
+      turn-agrees zero = execute-agrees
+      turn-agrees (suc n) = commit-agrees i k c n (getElem? (c .pending) n) refl st

@@ -1,0 +1,209 @@
+-- The placement fences the lanes of each target: what the paper's sentence comes to for the matching.
+use mathlib.Core.Path.{_≡_, refl, ap, _∙_, sym, subst}
+use mathlib.Core.Bool.{Bool, true, false, _&&_, false≢true}
+use mathlib.Core.List.{List, [], _∷_}
+use mathlib.Core.Logic.{inl, inr}
+use mathlib.Core.Option.{some}
+use Prim.Native.Nat.{ℕ, zero, suc, _+_, _<_}
+use native.Mathlib.Nat.{zero-add, add-zero}
+use native.Mathlib.Omega.{arith}
+use lib.ListN.{getElem?, length}
+use Rattle.file_format.specs.declared.accepted.Op.{Op}
+use Rattle.file_format.specs.declared.accepted.Op.the-variants.{Set, Add, Load, Store, Lock, Unlock, Skip}
+use Rattle.file_format.proofs.Laws.Lists.{some-at}
+use Rattle.barrier_placement.specs.declared.cookbook.Class.{Class}
+use Rattle.barrier_placement.specs.declared.cookbook.Class.the-variants.{VL, VS}
+use Rattle.barrier_placement.specs.declared.cookbook.Barrier.{Barrier}
+use Rattle.barrier_placement.specs.declared.cookbook.Barrier.the-variants.{LL, LS, SS, SL}
+use Rattle.barrier_placement.specs.declared.steps.Step.the-variants.{Access, Other, Skip as SkipStep}
+use Rattle.barrier_placement.specs.Cookbook.{cell, same}
+use Rattle.barrier_placement.specs.Chain.{Chain, at, Next, Path, edge, more, Between, Forward}
+use Rattle.file_format.specs.Accepted.{jump}
+use Rattle.barrier_placement.specs.Steps.{classOf, stepOf, steps}
+use Rattle.barrier_placement.specs.Place.{keep, chosen, stands}
+use Rattle.barrier_placement.specs.Sentence.{Sentence}
+use Rattle.barrier_placement.proofs.Correct.{correct}
+use Rattle.sheet_format.specs.Layout.{Placed, operations, has}
+use Rattle.sheet_format.specs.Levels.{Level, keeps, placeFrom, placed}
+use Rattle.sheet_format.proofs.LoweredLanes.{placed-operations}
+use Rattle.machine_spec.specs.Rules.{Target}
+use Rattle.claims.proofs.Fenced.{publishes, acquires, drains, opens, needs, levelOf, Edge, falls, jumps}
+use Rattle.claims.proofs.Fenced.{Open, starts, goes-on, Fenced, AllFenced}
+use Rattle.claims.proofs.Laws.Lists.{map-some}
+
+-- ## a placed lane
+
+placed-before : (l : Level) (s : Chain) (p : ℕ) (os : List Op) (i : ℕ) (x : Placed)
+    → getElem? (placeFrom l s p os) i ≡ some x
+    → x .before ≡ chosen (λ b. keeps l (x .oper) b && stands s b (p + i))
+placed-before l s p [] i x e = cc
+placed-before l s p (o ∷ os) zero x e =
+    rw (add-zero p) (subst (λ (y : Placed). y .before ≡ chosen (λ b. keeps l (y .oper) b && stands s b p)) same refl)
+  where
+    same : record { before = chosen (λ b. keeps l o b && stands s b p); oper = o } ≡ x
+    same = cc
+placed-before l s p (o ∷ os) (suc i) x e =
+    let q : p + suc i ≡ suc p + i = omega arith in
+    rw q (placed-before l s (suc p) os i x e)
+
+-- a barrier is among the chosen ones exactly when the test picks it
+keep-off : (b a : Barrier) (t : Bool) (bs : List Barrier) → same b a ≡ false → has b (keep t a bs) ≡ has b bs
+keep-off b a true bs e = rw e
+keep-off b a false bs e = refl
+
+keep-on : (b a : Barrier) (t : Bool) (bs : List Barrier) → same b a ≡ true → has b bs ≡ false → has b (keep t a bs) ≡ t
+keep-on b a true bs e h = rw e
+keep-on b a false bs e h = h
+
+has-chosen : (f : Barrier → Bool) (b : Barrier) → has b (chosen f) ≡ f b
+has-chosen f LL =
+    keep-on LL LL (f LL) _ refl
+    (keep-off LL LS (f LS) _ refl ∙ keep-off LL SS (f SS) _ refl ∙ keep-off LL SL (f SL) _ refl)
+has-chosen f LS =
+    keep-off LS LL (f LL) _ refl
+    ∙ keep-on LS LS (f LS) _ refl (keep-off LS SS (f SS) _ refl ∙ keep-off LS SL (f SL) _ refl)
+has-chosen f SS =
+    keep-off SS LL (f LL) _ refl ∙ keep-off SS LS (f LS) _ refl
+    ∙ keep-on SS SS (f SS) _ refl (keep-off SS SL (f SL) _ refl)
+has-chosen f SL =
+    keep-off SL LL (f LL) _ refl ∙ keep-off SL LS (f LS) _ refl ∙ keep-off SL SS (f SS) _ refl
+    ∙ keep-on SL SL (f SL) [] refl refl
+
+-- ## the paper's sentence
+
+published : (vol : ℕ → Bool) (o : Op) → publishes vol o ≡ true → classOf vol o ≡ some VS
+published vol (Set a c) h = absurd (false≢true h)
+published vol (Add a b) h = absurd (false≢true h)
+published vol (Load a x) h = absurd (false≢true h)
+published vol (Store a x) h = rw h
+published vol (Lock l) h = absurd (false≢true h)
+published vol (Unlock l) h = refl
+published vol (Skip a t) h = absurd (false≢true h)
+
+acquired : (vol : ℕ → Bool) (o : Op) → acquires vol o ≡ true → classOf vol o ≡ some VL
+acquired vol (Set a c) h = absurd (false≢true h)
+acquired vol (Add a b) h = absurd (false≢true h)
+acquired vol (Load a x) h = rw h
+acquired vol (Store a x) h = absurd (false≢true h)
+acquired vol (Lock l) h = refl
+acquired vol (Unlock l) h = absurd (false≢true h)
+acquired vol (Skip a t) h = absurd (false≢true h)
+
+-- an operation that opens b and one that needs it are accesses whose cell is b
+parted-pair : (b : Barrier) (vol : ℕ → Bool) (o o′ : Op) → opens b vol o ≡ true → needs b vol o′ ≡ true
+    → (c : Class) × (d : Class) × (classOf vol o ≡ some c) × (classOf vol o′ ≡ some d) × (cell c d ≡ some b)
+parted-pair LL vol o o′ h n = absurd (false≢true h)
+parted-pair LS vol o o′ h n = absurd (false≢true h)
+parted-pair SS vol o o′ h n = absurd (false≢true h)
+parted-pair SL vol o o′ h n = (VS, VL, published vol o h, acquired vol o′ n, refl)
+
+-- what needs a barrier is no LOCK
+needs-flows : (b : Barrier) (vol : ℕ → Bool) (o : Op) → needs b vol o ≡ true → drains o ≡ false
+needs-flows LL vol o h = absurd (false≢true h)
+needs-flows LS vol o h = absurd (false≢true h)
+needs-flows SS vol o h = absurd (false≢true h)
+needs-flows SL vol (Set a c) h = refl
+needs-flows SL vol (Add a b) h = refl
+needs-flows SL vol (Load a x) h = refl
+needs-flows SL vol (Store a x) h = refl
+needs-flows SL vol (Lock l) h = absurd (false≢true h)
+needs-flows SL vol (Unlock l) h = refl
+needs-flows SL vol (Skip a t) h = refl
+
+access-step : (vol : ℕ → Bool) (o : Op) (c : Class) → classOf vol o ≡ some c → stepOf vol o ≡ Access c
+access-step vol o c e = rw e
+
+jump-step : (vol : ℕ → Bool) (o : Op) (t : ℕ) → jump o ≡ some t → stepOf vol o ≡ SkipStep t
+jump-step vol (Set a c) t e = cc
+jump-step vol (Add a b) t e = cc
+jump-step vol (Load a x) t e = cc
+jump-step vol (Store a x) t e = cc
+jump-step vol (Lock l) t e = cc
+jump-step vol (Unlock l) t e = cc
+jump-step vol (Skip a u) t e = cc
+
+-- a placement that has the sentence fences
+module _ (b : Barrier) (vol : ℕ → Bool) (ps : List Placed) (B : ℕ → Bool)
+    (stand : (p : ℕ) (s : Placed) → getElem? ps p ≡ some s → drains (s .oper) ≡ false → has b (s .before) ≡ B p)
+    (sentence : Sentence (steps vol (operations ps)) b B) where
+  abbrev chain : Chain
+  chain = steps vol (operations ps)
+
+  step-at : (i : ℕ) (s : Placed) → getElem? ps i ≡ some s → (i < length chain) × (at chain i ≡ stepOf vol (s .oper))
+  step-at i s e =
+      some-at chain i (stepOf vol (s .oper)) Other
+      (map-some (stepOf vol) (operations ps) i (s .oper) (map-some (λ z. z .oper) ps i s e))
+
+  -- the way to an open position
+  record Way (p : ℕ) : Type 0 where
+    from : ℕ
+    first : Op
+    earlier : at chain from ≡ stepOf vol first
+    raises : opens b vol first ≡ true
+    path : Path (Next chain) from p
+    clear : (k : ℕ) → Between path k → B k ≡ false
+
+  step : (i p : ℕ) (s : Placed) → getElem? ps i ≡ some s → Edge ps i p → Next chain i p
+  step i p s e falls = (step-at i s e .0, inl refl)
+  step i p s e (jumps s′ e′ j) = (step-at i s e .0, inr (step-at i s′ e′ .1 ∙ jump-step vol (s′ .oper) p j))
+
+  way : (p : ℕ) → Open b vol ps p → Way p
+  way p (starts {i = i} s e raised w) = record {
+    from = i;
+    first = s .oper;
+    earlier = step-at i s e .1;
+    raises = raised;
+    path = edge (step i p s e w);
+    clear = λ k z. absurd z;
+  }
+  way p (goes-on {i = i} s rest e none-here nd w) = go (way i rest)
+    where
+      go : Way i → Way p
+      go x = record {
+        from = x .from;
+        first = x .first;
+        earlier = x .earlier;
+        raises = x .raises;
+        path = more (x .path) (step i p s e w);
+        clear = λ k z. elim z [
+          | inl z′ ↦ x .clear k z′
+          | inr z′ ↦ subst (λ (n : ℕ). B n ≡ false) (sym z′)
+              (sym (stand i s e nd) ∙ none-here)
+        ];
+      }
+
+  sentence-fenced : Fenced b vol ps
+  sentence-fenced p s e need o =
+      let x = way p o in
+      let f = parted-pair b vol (x .first) (s .oper) (x .raises) need in
+      stand p s e (needs-flows b vol (s .oper) need) ∙ sentence p .1 (record {
+        from = x .from;
+        pair = record {
+          first = f .0;
+          second = f .1;
+          earlier = x .earlier ∙ access-step vol (x .first) (f .0) (f .2);
+          later = step-at p s e .1 ∙ access-step vol (s .oper) (f .1) (f .3);
+          calls = f .4;
+        };
+        path = x .path;
+        clear = x .clear;
+      })
+
+-- the lanes of a target's level, on every chain whose skips go forward
+pub placed-fenced : (m : Target) (vol : ℕ → Bool) (ops : List Op) → Forward (steps vol ops)
+    → AllFenced m vol (placed (levelOf m) vol ops)
+placed-fenced m vol ops forward b v =
+    sentence-fenced b vol (placed l vol ops) (stands (steps vol ops) b) stand
+    (subst (λ (os : List Op). Sentence (steps vol os) b (stands (steps vol ops) b))
+    (sym (placed-operations l (steps vol ops) 0 ops))
+    (correct (steps vol ops) b forward))
+  where
+    l : Level
+    l = levelOf m
+
+    stand : (p : ℕ) (x : Placed) → getElem? (placed l vol ops) p ≡ some x → drains (x .oper) ≡ false
+        → has b (x .before) ≡ stands (steps vol ops) b p
+    stand p x e flows =
+        ap (has b) (placed-before l (steps vol ops) 0 ops p x e)
+        ∙ has-chosen (λ b. keeps l (x .oper) b && stands (steps vol ops) b (0 + p)) b
+        ∙ rw (v (x .oper) flows, zero-add p)

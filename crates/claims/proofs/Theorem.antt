@@ -1,0 +1,19 @@
+-- The claims hold of every kernel file that is accepted.
+use mathlib.Core.Path.{_≡_}
+use mathlib.Core.List.{List}
+use Prim.Native.Nat.{ℕ}
+use Rattle.file_format.specs.Accepted.{Program}
+use Rattle.file_verdict.specs.Verdict.{accepted, verdict}
+use Rattle.claims.specs.Claims.{Claims}
+use Rattle.claims.proofs.Demand2.{demand2, whole, bytes}
+use Rattle.claims.proofs.Demand3.{demand3, runs, bounds}
+
+pub claims : (s : List ℕ) (k : Program) → verdict s ≡ accepted k → Claims s k
+claims s k e = record {
+  demand2 = demand2 s k e;
+  whole = whole s k e;
+  bytes = bytes s k e;
+  demand3 = demand3 s k e;
+  runs = runs s k e;
+  bounds = bounds s k e;
+}

@@ -1,0 +1,33 @@
+-- The starred examples hold: each row by computation, and the two that speak of every schedule by a search.
+use mathlib.Core.Path.{refl}
+use Rattle.file_format.specs.Search.{lowest, firstOf}
+use Rattle.file_format.specs.Rules.{headerRule, headRule, badRecord, recordRule}
+use Rattle.file_format.specs.Rules.{limitA, limitB, limitConstant, limitTarget}
+use Rattle.file_format.specs.Linkage.{chain, walkOf, badLinkage, linkageFrom, chainTooLong}
+use Rattle.file_format.specs.Targets.{member, badTarget, unreachableTarget, position}
+use Rattle.file_format.specs.Accepted.{opOf, opsFrom}
+use Rattle.file_format.specs.Held.{heldFrom, same, partedBy, faultAt, faultPosition, recordAt, lockFault}
+use Rattle.file_verdict.specs.Verdict.{structureThen, refusalOf}
+use Rattle.barrier_placement.specs.Place.{stands, due, rowsTo}
+use Rattle.sheet_format.specs.Bytes.{sheetBytes}
+use Rattle.sheet_format.specs.Read.{readSheet}
+use lib.Count.{onesIn}
+use Rattle.text_put.specs.Decimal.{digits, decimal}
+use Rattle.text_listing.specs.Line.{instrText, lineOf, firstLine}
+use Rattle.text_listing.specs.Ones.{ones}
+use Rattle.text_listing.specs.Listing.{laneLines, sheetLines, listing}
+use Rattle.claims_examples.specs.Table.{table, Each, end, _▸_}
+use Rattle.claims_examples.proofs.Never.{never-on-tso, never-on-source}
+
+pub examples : Each table
+unfolding table refusalOf structureThen headerRule headRule badRecord recordRule limitA limitB limitConstant limitTarget
+    lowest firstOf badLinkage linkageFrom chain member walkOf chainTooLong badTarget unreachableTarget lockFault
+    position
+    opOf opsFrom recordAt faultPosition faultAt partedBy heldFrom same stands due rowsTo sheetBytes readSheet
+    digits decimal instrText lineOf firstLine onesIn ones laneLines sheetLines listing
+examples =
+    refl ▸ refl ▸ refl ▸ refl ▸ never-on-tso ▸ never-on-source
+    ▸ refl ▸ refl ▸ refl ▸ refl
+    ▸ refl ▸ refl ▸ refl ▸ refl ▸ refl ▸ refl ▸ refl ▸ refl ▸ refl
+    ▸ refl ▸ refl ▸ refl ▸ refl ▸ refl ▸ refl ▸ refl ▸ refl ▸ refl
+    ▸ end

@@ -1,0 +1,161 @@
+-- The starred examples of paper 01 as one table over the bytes of kernel files. Its one theorem is proofs/Examples.
+use Prim.Native.Nat.{ℕ, zero, suc, _+_, _-_, _/_}
+use mathlib.Core.Path.{_≡_}
+use mathlib.Core.Bool.{Bool, true, false, _&&_}
+use mathlib.Core.List.{List, [], _∷_, _++_, map}
+use lib.Dec.{eqb}
+use lib.ListN.{length, getD, take, drop, replicate}
+use Rattle.file_verdict.specs.Verdict.{verdict}
+use Rattle.sheet_format.specs.Levels.{Level, level1, level2}
+use Rattle.sheet_format.specs.declared.Lowered.{Lowered}
+use Rattle.sheet_format.specs.declared.Lowered.the-variants.{Wrote, Refuses}
+use Rattle.sheet_format.specs.Bytes.{lowerBy}
+use Rattle.text_listing.specs.Listing.{printed}
+use Rattle.machine_spec.specs.Rules.{Machine, source, target, tso}
+use Rattle.machine_spec.specs.Schedule.{Move, move}
+use Rattle.machine_spec.specs.Run.{Answer, runBy}
+use Rattle.claims_examples.specs.Kernels.{rec, recBytes, fileHeader, storeBuffering, lane, skipTo, sets}
+use Rattle.claims_examples.specs.Kernels.{PL, PS, VL, VS, LOCK, UNLOCK}
+
+pub data Example : Type 0 where
+  -- lowering into so many bytes is refused, by number and record
+  refused-by : Level → (kernel : List ℕ) → (room number named : ℕ) → Example
+  -- lowering writes this sheet
+  writes : Level → (kernel sheet : List ℕ) → Example
+  -- the level 2 text of the kernel
+  prints : (kernel text : List ℕ) → Example
+  -- lowering writes these instructions
+  shows : Level → (kernel : List ℕ) → List (ℕ × ℕ) → Example
+  -- a sheet of so many bytes
+  fills : Level → (kernel : List ℕ) → (size : ℕ) → Example
+  -- the schedule is carried out and finishes, with these values of register 1, lane after lane
+  ends : Machine → (kernel : List ℕ) → List Move → List ℕ → Example
+  -- no schedule finishes with register 1 zero in every lane
+  never : Machine → (kernel : List ℕ) → Example
+
+-- an output buffer of n bytes, none of them zero
+abbrev output : ℕ → List ℕ
+output n = replicate n 255
+
+-- the instructions of a sheet that was written: operation, and the low byte of the constant or position
+abbrev rows : ℕ → List ℕ → List (ℕ × ℕ)
+rows zero b = []
+rows (suc n) b = (getD b 0 0, getD b 4 0) ∷ rows n (drop 8 b)
+
+abbrev instructionsIn : Lowered → List ℕ → List (ℕ × ℕ)
+instructionsIn (Wrote n) b = rows ((n - 16) / 8) (drop 16 b)
+instructionsIn (Refuses n r) b = []
+
+abbrev instructions : Lowered × List ℕ → List (ℕ × ℕ)
+instructions r = instructionsIn (r .0) (r .1)
+
+abbrev pub register1 : Answer → List ℕ
+register1 a = map (λ l. getD (l .regs) 1 0) (a .state .lanes)
+
+abbrev pub allZero : List ℕ → Bool
+allZero [] = true
+allZero (x ∷ xs) = eqb x 0 && allZero xs
+
+abbrev pub endsAllZero : Answer → Bool
+endsAllZero a = a .finished && allZero (register1 a)
+
+-- the end of a run: its refusal or 0, whether it is finished, register 1 of each lane
+pub record End : Type 0 where
+  pub number : ℕ
+  pub finished : Bool
+  pub values : List ℕ
+
+abbrev pub endOf : Answer → End
+endOf a = record { number = a .number; finished = a .finished; values = register1 a }
+
+-- what an example says
+abbrev pub Holds : Example → Type 0
+Holds (refused-by l s n x r) = lowerBy l (verdict s) (output n) ≡ (Refuses x r, output n)
+Holds (writes l s b) = lowerBy l (verdict s) (output (length b + 1)) ≡ (Wrote (length b), b ++ 255 ∷ [])
+Holds (prints s x) = printed s ≡ x
+Holds (shows l s is) = instructions (lowerBy l (verdict s) (output 100)) ≡ is
+Holds (fills l s n) = lowerBy l (verdict s) (output n) .0 ≡ Wrote n
+Holds (ends m s mvs rs) =
+    endOf (runBy m s (verdict s) mvs) ≡ record { number = 0; finished = true; values = rs }
+Holds (never m s) = (mvs : List Move) → endsAllZero (runBy m s (verdict s) mvs) ≡ false
+
+-- every row holds
+infixr 20 _▸_
+pub data Each : List Example → Type 0 where
+  end : Each []
+  _▸_ : {e : Example} {es : List Example} → Holds e → Each es → Each (e ∷ es)
+
+-- both lanes load before either store is committed
+abbrev race : List Move
+race = move 0 0 ∷ move 0 0 ∷ move 0 0 ∷ move 1 0 ∷ move 1 0 ∷ move 1 0 ∷ []
+
+-- instructions without a constant or position
+abbrev codes : List ℕ → List (ℕ × ℕ)
+codes = map (λ (o : ℕ). (o, 0))
+
+unfoldable pub table : List Example
+table =
+    -- this kernel: sheet of 80 bytes; 79 bytes give 9
+    writes level2 (storeBuffering 3) (
+    2 ∷ 2 ∷ 0 ∷ 2 ∷ 0 ∷ 0 ∷ 0 ∷ 0 ∷ 4 ∷ 0 ∷ 4 ∷ 0 ∷ 0 ∷ 0 ∷ 0 ∷ 0
+    ∷ 1 ∷ 0 ∷ 0 ∷ 0 ∷ 1 ∷ 0 ∷ 0 ∷ 0 ∷ 4 ∷ 0 ∷ 0 ∷ 0 ∷ 0 ∷ 0 ∷ 0 ∷ 0
+    ∷ 15 ∷ 0 ∷ 0 ∷ 0 ∷ 0 ∷ 0 ∷ 0 ∷ 0 ∷ 3 ∷ 1 ∷ 1 ∷ 0 ∷ 0 ∷ 0 ∷ 0 ∷ 0
+    ∷ 1 ∷ 0 ∷ 0 ∷ 0 ∷ 1 ∷ 0 ∷ 0 ∷ 0 ∷ 4 ∷ 0 ∷ 1 ∷ 0 ∷ 0 ∷ 0 ∷ 0 ∷ 0
+    ∷ 15 ∷ 0 ∷ 0 ∷ 0 ∷ 0 ∷ 0 ∷ 0 ∷ 0 ∷ 3 ∷ 1 ∷ 0 ∷ 0 ∷ 0 ∷ 0 ∷ 0 ∷ 0 ∷ []
+    )
+    -- its nine lines
+    ∷ prints (storeBuffering 3) (
+    108 ∷ 97 ∷ 110 ∷ 101 ∷ 115 ∷ 32 ∷ 50 ∷ 32 ∷ 108 ∷ 111 ∷ 99 ∷ 97 ∷ 116 ∷ 105 ∷ 111 ∷ 110 ∷ 115 ∷ 32 ∷ 50 ∷ 32
+    ∷ 118 ∷ 111 ∷ 108 ∷ 97 ∷ 116 ∷ 105 ∷ 108 ∷ 101 ∷ 32 ∷ 50 ∷ 32 ∷ 108 ∷ 111 ∷ 99 ∷ 107 ∷ 115 ∷ 32 ∷ 48 ∷ 10
+    ∷ 48 ∷ 32 ∷ 48 ∷ 32 ∷ 83 ∷ 69 ∷ 84 ∷ 32 ∷ 48 ∷ 32 ∷ 49 ∷ 10
+    ∷ 48 ∷ 32 ∷ 49 ∷ 32 ∷ 83 ∷ 84 ∷ 79 ∷ 82 ∷ 69 ∷ 32 ∷ 48 ∷ 32 ∷ 48 ∷ 10
+    ∷ 48 ∷ 32 ∷ 50 ∷ 32 ∷ 77 ∷ 70 ∷ 69 ∷ 78 ∷ 67 ∷ 69 ∷ 10
+    ∷ 48 ∷ 32 ∷ 51 ∷ 32 ∷ 76 ∷ 79 ∷ 65 ∷ 68 ∷ 32 ∷ 49 ∷ 32 ∷ 49 ∷ 10
+    ∷ 49 ∷ 32 ∷ 48 ∷ 32 ∷ 83 ∷ 69 ∷ 84 ∷ 32 ∷ 48 ∷ 32 ∷ 49 ∷ 10
+    ∷ 49 ∷ 32 ∷ 49 ∷ 32 ∷ 83 ∷ 84 ∷ 79 ∷ 82 ∷ 69 ∷ 32 ∷ 48 ∷ 32 ∷ 49 ∷ 10
+    ∷ 49 ∷ 32 ∷ 50 ∷ 32 ∷ 77 ∷ 70 ∷ 69 ∷ 78 ∷ 67 ∷ 69 ∷ 10
+    ∷ 49 ∷ 32 ∷ 51 ∷ 32 ∷ 76 ∷ 79 ∷ 65 ∷ 68 ∷ 32 ∷ 49 ∷ 32 ∷ 48 ∷ 10
+    ∷ []
+    )
+    ∷ fills level2 (storeBuffering 3) 80
+    ∷ refused-by level2 (storeBuffering 3) 79 9 0
+    -- it never finishes with register 1 zero in both lanes
+    ∷ never (target tso) (storeBuffering 3)
+    ∷ never source (storeBuffering 3)
+    -- mask 1 instead: no barrier at either level; both zero is possible on both machines
+    ∷ shows level1 (storeBuffering 1) ((1, 1) ∷ (4, 0) ∷ (3, 0) ∷ (1, 1) ∷ (4, 0) ∷ (3, 0) ∷ [])
+    ∷ shows level2 (storeBuffering 1) ((1, 1) ∷ (4, 0) ∷ (3, 0) ∷ (1, 1) ∷ (4, 0) ∷ (3, 0) ∷ [])
+    ∷ ends source (storeBuffering 1) race (0 ∷ 0 ∷ [])
+    ∷ ends (target tso) (storeBuffering 1) race (0 ∷ 0 ∷ [])
+    -- PS, VS: SS at level 1, nothing at level 2
+    ∷ shows level1 (lane (PS ∷ VS ∷ [])) (codes (4 ∷ 13 ∷ 4 ∷ []))
+    ∷ shows level2 (lane (PS ∷ VS ∷ [])) (codes (4 ∷ 4 ∷ []))
+    -- VL, PL: LL
+    ∷ shows level1 (lane (VL ∷ PL ∷ [])) (codes (3 ∷ 11 ∷ 3 ∷ []))
+    -- VS, VL, VL: SL, then LL
+    ∷ shows level1 (lane (VS ∷ VL ∷ VL ∷ [])) (codes (4 ∷ 14 ∷ 3 ∷ 11 ∷ 3 ∷ []))
+    -- VS, VS, VL: SS, then SL
+    ∷ shows level1 (lane (VS ∷ VS ∷ VL ∷ [])) (codes (4 ∷ 13 ∷ 4 ∷ 14 ∷ 3 ∷ []))
+    -- VS, SKIP to D, VL, D: VL. D has LL and SL
+    ∷ shows level1 (lane (VS ∷ skipTo 4 ∷ VL ∷ VL ∷ [])) ((4, 0) ∷ (7, 4) ∷ codes (14 ∷ 3 ∷ 11 ∷ 14 ∷ 3 ∷ []))
+    ∷ shows level2 (lane (VS ∷ skipTo 4 ∷ VL ∷ VL ∷ [])) ((4, 0) ∷ (7, 4) ∷ codes (15 ∷ 3 ∷ 15 ∷ 3 ∷ []))
+    -- LOCK, PS, UNLOCK: LS before the store, SS before UNLOCK
+    ∷ shows level1 (lane (LOCK ∷ PS ∷ UNLOCK ∷ [])) (codes (5 ∷ 12 ∷ 4 ∷ 13 ∷ 6 ∷ []))
+    -- LOCK, UNLOCK, LOCK, UNLOCK: nothing; LS; LL, SL; LS, SS
+    ∷ shows level1 (lane (LOCK ∷ UNLOCK ∷ LOCK ∷ UNLOCK ∷ [])) (codes (5 ∷ 12 ∷ 6 ∷ 11 ∷ 14 ∷ 5 ∷ 12 ∷ 13 ∷ 6 ∷ []))
+    -- no records: 16-byte sheet
+    ∷ fills level1 (lane []) 16
+    ∷ fills level2 (lane []) 16
+    -- 64 records in a lane pass, 65 give 6; a self-chained record gives 5
+    ∷ fills level1 (lane (sets 64)) 528
+    ∷ refused-by level1 (lane (sets 65)) 1000 6 65
+    ∷ refused-by level1 (fileHeader 1 1 0 0 1 1 0 ++ recBytes (rec 1 0 0) 1) 100 5 1
+    -- 15 bytes: 1
+    ∷ refused-by level1 (take 15 (lane [])) 100 1 0
+    -- T = 5: 2
+    ∷ refused-by level1 (fileHeader 5 1 0 0 0 0 0) 100 2 0
+    -- LOCK twice: 8, second LOCK
+    ∷ refused-by level1 (lane (LOCK ∷ LOCK ∷ [])) 100 8 2
+    -- 9 SETs and length 123: 3
+    ∷ refused-by level1 (take 123 (lane (sets 9))) 100 3 0
+    ∷ []

@@ -1,2 +1,0 @@
--- Laws: Whole header and lanes together.
-pub mod Whole

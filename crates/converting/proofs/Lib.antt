@@ -1,2 +1,0 @@
--- Laws of making a whole level 2 sheet from a level 1 sheet.
-pub mod Laws

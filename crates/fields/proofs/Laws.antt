@@ -1,3 +1,0 @@
--- Small laws by subject.
-pub mod Places
-pub mod Entry

@@ -1,2 +1,0 @@
--- Laws of the fields of a run's text.
-pub mod Laws

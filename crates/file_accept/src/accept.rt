@@ -1,0 +1,77 @@
+// The refusal of a kernel file of whatever bytes, or that it is accepted, with its chains as rows.
+ghost use mathlib.Core.Path.{_≡_};
+ghost use Prim.Native.Nat.{_+_, _*_, _≤_};
+ghost use lib.ListN.{length};
+ghost use Rattle.file_format.specs.Fields.{recordCount};
+ghost use Rattle.file_format.specs.Accepted.{programOf};
+ghost use Rattle.file_format.specs.Linkage.{badLinkage, chainTooLong};
+ghost use Rattle.file_format.specs.Targets.{badTarget};
+ghost use Rattle.file_verdict.specs.Verdict.{verdict, accepted, refusalOf};
+ghost use Rattle.sheet_format.specs.Bytes.{over};
+ghost use Rattle.file_rows.specs.Chains.{chainBytes};
+ghost use Rattle.file_accept.specs.Checks.{Fielded, linkedRefusal};
+use file_chains::link::link;
+use file_chains::targets::bad_target;
+use file_chains::targets::too_long;
+use file_fields::header::bad_length;
+use file_fields::header::header_rule;
+use file_fields::rules::bad_record;
+use file_locks::lock_fault;
+use file_rows::whole::write_chains;
+use file_verdict::refusal::Refusal;
+
+// Checks 5 to 8, on a file whose header and records keep their rules. Its chains are written once 5 to 7 have passed.
+fn judge(file: &[u8], rows: &mut [u8]) -> Refusal
+    requires fields { ⌜ Fielded (now file) ⌝ }
+    requires room { ⌜ 16 + 8 * recordCount (now file) ≤ length (now rows) ⌝ }
+    ensures answer { λ r. ⌜ r ≡ linkedRefusal (now (file .entry)) ⌝ }
+    ensures rows { λ r. ⌜ (badLinkage (now (file .entry)) ≡ 0 → chainTooLong (now (file .entry)) ≡ 0
+        → badTarget (now (file .entry)) ≡ 0
+        → now (rows .exit) ≡ over (chainBytes (programOf (now (file .entry)))) (now (rows .entry))) ⌝ }
+{
+    let mut order = [0u16; 257];
+    let mut place = [0u16; 257];
+    let linked = link(file, &mut order, &mut place);
+    let linkage = linked.bad;
+    if linkage != 0 {
+        return Refusal::BadLinkage(linkage);
+    }
+    let ends = linked.ends;
+    let long = too_long(&order, &ends);
+    if long != 0 {
+        return Refusal::ChainTooLong(long);
+    }
+    let target = bad_target(file, &place, &ends);
+    if target != 0 {
+        return Refusal::BadTarget(target);
+    }
+    write_chains(rows, file, &order, &place, &ends);
+    let fault = lock_fault(rows, &order, &ends);
+    if fault != 0 {
+        return Refusal::LockFault(fault);
+    }
+    Refusal::Accepted
+}
+
+// The refusal, checks 1 to 8 in the order of the table. The chains of an accepted file stand at the front of `rows`.
+pub fn accept(file: &[u8], rows: &mut [u8]) -> Refusal
+    requires room { ⌜ (Fielded (now file) → 16 + 8 * recordCount (now file) ≤ length (now rows)) ⌝ }
+    ensures answer { λ r. ⌜ r ≡ refusalOf (now (file .entry)) ⌝ }
+    ensures rows { λ r. ⌜ (verdict (now (file .entry)) ≡ accepted (programOf (now (file .entry)))
+        → now (rows .exit) ≡ over (chainBytes (programOf (now (file .entry)))) (now (rows .entry))) ⌝ }
+{
+    if file.len() < 16 {
+        return Refusal::TruncatedHeader;
+    }
+    if !header_rule(file) {
+        return Refusal::BadHeader;
+    }
+    if bad_length(file) {
+        return Refusal::BadLength;
+    }
+    let record = bad_record(file);
+    if record != 0 {
+        return Refusal::BadRecord(record);
+    }
+    judge(file, rows)
+}

@@ -1,0 +1,85 @@
+-- `file_chains::targets::strays` meets its contract.
+use borrow.Author.Needs.{needs}
+use borrow.Author.Tests.{eq-eqb}
+use lib.ListN.{getD}
+use mathlib.Core.Bool.{not}
+use mathlib.Core.Path.{_∙_, refl, sym, ap, ap₂}
+use native.Mathlib.Omega.{arith}
+use Rattle.file_format.specs.Targets.{unreachableTarget}
+use Rattle.file_chains.specs.Reach.{reached}
+use Rattle.file_chains.proofs.Laws.Reach.{target-small, strays-as}
+use Rattle.file_chains.proofs.targets.strays.Statement.{statement}
+use Rattle.file_chains.proofs.targets.strays.Tie as tie
+
+mul-word-at : tie.Need-mul-word-at
+mul-word-at c = search needs
+
+add-word-at : tie.Need-add-word-at
+add-word-at c = search needs
+
+add-word-at-2 : tie.Need-add-word-at-2
+add-word-at-2 c = search needs
+
+word-at-requires : tie.Need-word-at-requires
+word-at-requires c κs = search needs
+
+returns : tie.Need-returns
+unfolding unreachableTarget
+returns c order o short = rw (eq-eqb _ _ (sym (c .before .word-at .ensures .0) ∙ c .if1 .taken)) refl
+
+mul-wide-word : tie.Need-mul-wide-word
+mul-wide-word c = search needs
+
+element-copy-out-wide-word : tie.Need-element-copy-out-wide-word
+element-copy-out-wide-word c = search needs
+
+wide-word-requires : tie.Need-wide-word-requires
+wide-word-requires c κs = search needs
+
+mul-wide-word-2 : tie.Need-mul-wide-word-2
+mul-wide-word-2 c = search needs
+
+element-copy-out-wide-word-2 : tie.Need-element-copy-out-wide-word-2
+element-copy-out-wide-word-2 c =
+    let w = c .before .before .before in
+    let s = w .before .before in
+    let small = target-small (s .args .s .now) (s .pre .1) (s .args .i) (s .pre .2) (s .pre .3) in
+    omega (arith, w .word-at .ensures .0)
+
+wide-word-requires-2 : tie.Need-wide-word-requires-2
+wide-word-requires-2 c κs = search needs
+
+reaches-requires : tie.Need-reaches-requires
+reaches-requires c κs = search needs
+
+returns-2 : tie.Need-returns-2
+returns-2 c order o short =
+    let first = c .before .before .before in
+    let test = first .before .before in
+    let s = test .before .before .before in
+    let a = s .args in
+    let is = test .before .word-at .ensures .0 in
+    let small = target-small (a .s .now) (s .pre .1) (a .i) (s .pre .2) (s .pre .3) in
+    ap not
+    (c .reaches .ensures
+    ∙ ap₂ (reached (a .ends .now)) (first .wide-word .ensures .0)
+    (c .before .wide-word2 .ensures .0 ∙ ap (λ x. getD (a .place .now) x 0) is))
+    ∙ strays-as o short (a .i) (s .pre .2) (s .pre .3) (λ z. test .if1 .left (is ∙ z)) small
+
+pub strays-spec : {M : Type 1} → statement M
+strays-spec =
+    tie.close
+    (tie.spec
+    mul-word-at
+    add-word-at
+    add-word-at-2
+    word-at-requires
+    returns
+    mul-wide-word
+    element-copy-out-wide-word
+    wide-word-requires
+    mul-wide-word-2
+    element-copy-out-wide-word-2
+    wide-word-requires-2
+    reaches-requires
+    returns-2)

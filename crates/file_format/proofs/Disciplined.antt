@@ -1,0 +1,100 @@
+-- The held-set discipline of a lane at which the rule is nowhere broken, said of its operations.
+use Prim.Native.Nat.{ℕ, zero, suc, _+_, _-_, _≤_, _<_, min}
+use mathlib.Core.Path.{_≡_, refl, sym, ap, _∙_}
+use mathlib.Core.List.{List, [], _∷_}
+use mathlib.Core.Bool.{Bool, true, false, cond, true≢false}
+use mathlib.Core.Option.{none, some}
+use lib.ListN.{getD, getElem?, length}
+use native.Mathlib.Omega.{arith}
+use native.Mathlib.Decide.{decLe}
+use borrow.Author.Tests.{eq-eqb, not-false}
+use Rattle.file_format.specs.declared.accepted.Op.{Op}
+use Rattle.file_format.specs.declared.accepted.Op.the-variants.{Set, Add, Load, Store, Lock, Unlock, Skip}
+use Rattle.file_format.specs.Search.{lowest}
+use Rattle.file_format.specs.Held.{noLocks, same, held, heldFrom, jumpFrom, partsBy, partedBy, parted, misuse}
+use Rattle.file_format.specs.Held.{faultAt}
+use Rattle.file_format.specs.Held.{faultPosition, recordAt, laneFault}
+use Rattle.file_format.specs.Lawful.{Bounded, Keeps}
+use Rattle.file_format.proofs.Laws.Lists.{some-at, at-past}
+use Rattle.file_format.proofs.Laws.Search.{nothing-found}
+
+-- a lane whose records are none of them 0 names a record wherever its rule breaks
+unbroken : (rs : List ℕ) (ops : List Op) → length rs ≡ length ops → ((p : ℕ) → p < length rs → 1 ≤ getD rs p 0)
+    → laneFault rs ops ≡ 0 → faultPosition ops ≡ 0
+unfolding recordAt faultPosition lowest faultAt partedBy heldFrom same
+unbroken [] [] len nonzero e = refl
+unbroken [] (o ∷ ops) len nonzero e = absurd (omega arith)
+unbroken (r ∷ rs) ops len nonzero e = go (decLe 1 (faultPosition ops))
+  where
+    inside : (i : ℕ) → 1 ≤ i → i ≤ length (r ∷ rs) → 1 ≤ getD (0 ∷ r ∷ rs) i 0
+    inside zero lo hi = absurd (omega arith)
+    inside (suc i) lo hi = nonzero i (omega arith)
+
+    go : Dec (1 ≤ faultPosition ops) → faultPosition ops ≡ 0
+    go (no l) = omega arith
+    go (yes l) =
+        absurd (omega (arith, e, inside (min (faultPosition ops) (length (r ∷ rs))) (omega arith) (omega arith)))
+
+module _ (rs : List ℕ) (ops : List Op) (len : length rs ≡ length ops)
+    (nonzero : (p : ℕ) → p < length rs → 1 ≤ getD rs p 0)
+    (fine : laneFault rs ops ≡ 0) where
+  -- the rule holds at each position, and at the end
+  unfaulted : (p : ℕ) → p ≤ length ops → faultAt ops p ≡ false
+  unfolding faultPosition
+  unfaulted p h =
+      let none = unbroken rs ops len nonzero fine in
+      let back : p + 1 - 1 ≡ p = omega arith in
+      ap (faultAt ops) (sym back)
+      ∙ nothing-found (λ i. faultAt ops (i - 1)) 1 (length ops + 1) (p + 1) (omega arith) none (omega arith)
+      (omega arith)
+
+  neither : (a b : Bool) → cond a true b ≡ false → (a ≡ false) × (b ≡ false)
+  neither true b e = absurd (true≢false e)
+  neither false b e = (refl, e)
+
+  split : (p : ℕ) → p ≤ length ops → (parted ops p ≡ false) × (misuse (held ops p) (getElem? ops p) ≡ false)
+  unfolding faultAt
+  split p h = neither (parted ops p) (misuse (held ops p) (getElem? ops p)) (unfaulted p h)
+
+  -- each SKIP has the set of the position that it leads to, or leads elsewhere
+  agreed : (n q p : ℕ) → partedBy ops n q ≡ false → p < n
+      → partsBy (jumpFrom (getElem? ops p)) q (held ops p) (held ops q) ≡ false
+  unfolding partedBy
+  agreed zero q p e h = absurd (omega arith)
+  agreed (suc n) q p e h =
+      go (decLe (suc p) n)
+      (neither (partsBy (jumpFrom (getElem? ops n)) q (held ops n) (held ops q)) (partedBy ops n q) e) (agreed n q p)
+    where
+      Agrees : ℕ → Type 0
+      Agrees p = partsBy (jumpFrom (getElem? ops p)) q (held ops p) (held ops q) ≡ false
+
+      go : Dec (suc p ≤ n) → Agrees n × (partedBy ops n q ≡ false) → (partedBy ops n q ≡ false → p < n → Agrees p)
+          → Agrees p
+      go (yes l) both ih = ih (both .1) l
+      go (no l) both ih =
+          let last : p ≡ n = omega arith in
+          rw last (both .0)
+
+  skip-agrees : (a q p : ℕ) → getElem? ops p ≡ some (Skip a q) → p < length ops → q ≤ length ops
+      → same (held ops p) (held ops q) ≡ true
+  skip-agrees a q p e inside hi =
+      let parts = rw (e, eq-eqb q q refl) at (agreed (length ops) q p (split q hi .0) inside) in
+      not-false (same (held ops p) (held ops q)) parts
+
+  pub keeps : (ls ks p : ℕ) (o : Op) → getElem? ops p ≡ some o → Bounded ls ks (length ops) p o → Keeps ops p o
+  keeps ls ks p (Set a c) e b = tt
+  keeps ls ks p (Add a c) e b = tt
+  keeps ls ks p (Load a c) e b = tt
+  keeps ls ks p (Store a c) e b = tt
+  keeps ls ks p (Lock l) e b =
+      let at = some-at ops p (Lock l) (Set 0 0) e in
+      rw e at (split p (omega (arith, at .0)) .1)
+  keeps ls ks p (Unlock l) e b =
+      let at = some-at ops p (Unlock l) (Set 0 0) e in
+      not-false _ (rw e at (split p (omega (arith, at .0)) .1))
+  keeps ls ks p (Skip a q) e b =
+      let at = some-at ops p (Skip a q) (Set 0 0) e in
+      skip-agrees a q p e (at .0) (b .2)
+
+  pub released : same (held ops (length ops)) noLocks ≡ true
+  released = not-false _ (rw (at-past ops) at (split (length ops) (omega arith) .1))

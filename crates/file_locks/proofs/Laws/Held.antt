@@ -1,0 +1,126 @@
+-- Laws of one operation of a lane: its row's fields, its effect on the held set, where it leads, and the record that a
+-- fault names.
+use Prim.Native.Nat.{ℕ, zero, suc, _+_, _-_, _*_, _≤_, _<_, min}
+use mathlib.Core.Path.{_≡_, refl, ap, sym, subst, _∙_}
+use mathlib.Core.List.{List, [], _∷_}
+use mathlib.Core.Bool.{Bool, false}
+use mathlib.Core.Option.{some}
+use native.Mathlib.Omega.{arith}
+use borrow.Author.Tests.{le-ltb}
+use lib.Dec.{eqb}
+use lib.ListN.{length, getD, take, drop, length-take, length-drop}
+use lib.Seq.{getD-drop, getD-take}
+use Rattle.file_format.specs.declared.accepted.Op.{Op}
+use Rattle.file_format.specs.declared.accepted.Op.the-variants.{Set, Add, Load, Store, Lock, Unlock, Skip}
+use Rattle.file_format.specs.Held.{noLocks, after, misuse, heldFrom, held, recordAt}
+use Rattle.file_format.specs.Stored.{noOp}
+use Rattle.sheet_rows.specs.Rows.{rowIn}
+use Rattle.sheet_rows.specs.Lanes.{fieldsOf}
+use Rattle.sheet_rows.proofs.Laws.Lanes.{held-fields}
+use Rattle.file_locks.specs.Sets.{bitFor, stepNumber, jumpOr, noJump, locksIn}
+use Rattle.file_locks.specs.Lanes.{LaneIn, Stepped}
+use Rattle.file_locks.proofs.Laws.Locks.{step-other, take-wrong, take-next, free-wrong, free-next}
+
+-- ## the fields of row p
+
+module _ {rows : List ℕ} {n : ℕ} {ops : List Op} (lane : LaneIn rows n ops) (p : ℕ) (below : p < n) where
+  fields : rowIn (drop (8 * p) rows) ≡ fieldsOf (getD ops p noOp)
+  fields = held-fields (lane .held) p below
+
+  byte-at : (i : ℕ) → getD rows (8 * p + i) 0 ≡ getD (drop (8 * p) rows) i 0
+  byte-at i = sym (getD-drop (8 * p) rows i 0)
+
+  pub row-code : getD rows (8 * p) 0 ≡ fieldsOf (getD ops p noOp) .code
+  row-code =
+      let e : 8 * p ≡ 8 * p + 0 = omega arith in
+      ap (λ i. getD rows i 0) e ∙ byte-at 0 ∙ ap (λ r. r .code) fields
+
+  pub row-b : getD rows (8 * p + 2) 0 ≡ fieldsOf (getD ops p noOp) .b
+  row-b = byte-at 2 ∙ ap (λ r. r .b) fields
+
+  -- a target's lowest byte is the target
+  pub row-target : n ≤ 64 → 7 ≡ fieldsOf (getD ops p noOp) .code
+      → getD rows (8 * p + 4) 0 ≡ fieldsOf (getD ops p noOp) .word
+  row-target small e =
+      let near = lane .within p (omega (arith, lane .held .count)) (sym e) in
+      omega (arith, byte-at 4, ap (λ r. r .word) fields, near)
+
+-- ## operations by their codes
+
+-- where an operation leads: a SKIP to its target
+pub jump-target : (o : Op) → 7 ≡ fieldsOf o .code → fieldsOf o .word ≡ jumpOr noJump (some o)
+jump-target (Set a c) e = absurd (omega arith)
+jump-target (Add a b) e = absurd (omega arith)
+jump-target (Load a b) e = absurd (omega arith)
+jump-target (Store a b) e = absurd (omega arith)
+jump-target (Lock b) e = absurd (omega arith)
+jump-target (Unlock b) e = absurd (omega arith)
+jump-target (Skip a q) e = refl
+
+pub jump-none : (o : Op) → ¬ fieldsOf o .code ≡ 7 → noJump ≡ jumpOr noJump (some o)
+jump-none (Set a c) n = refl
+jump-none (Add a b) n = refl
+jump-none (Load a b) n = refl
+jump-none (Store a b) n = refl
+jump-none (Lock b) n = refl
+jump-none (Unlock b) n = refl
+jump-none (Skip a q) n = absurd (n refl)
+
+-- ## the set after an operation
+
+same-set : (h l : ℕ) (o : Op) → h < 16 → misuse (locksIn h) (some o) ≡ false → after (locksIn h) o ≡ locksIn h
+    → Stepped h o (stepNumber h (bitFor l) false false)
+same-set h l o small right same =
+    subst (Stepped h o) (sym (step-other h small l))
+    (record { wrong = le-ltb 15 h (omega arith) ∙ sym right; next = λ _. sym same })
+
+-- from its code and its operand b
+pub row-stepped : (h : ℕ) (o : Op) → h < 16
+    → Stepped h o (stepNumber h (bitFor (fieldsOf o .b)) (eqb (fieldsOf o .code) 5) (eqb (fieldsOf o .code) 6))
+row-stepped h (Set a c) small = same-set h 0 (Set a c) small refl refl
+row-stepped h (Add a b) small = same-set h b (Add a b) small refl refl
+row-stepped h (Load a b) small = same-set h b (Load a b) small refl refl
+row-stepped h (Store a b) small = same-set h b (Store a b) small refl refl
+row-stepped h (Lock b) small = record { wrong = take-wrong h small b; next = take-next h small b }
+row-stepped h (Unlock b) small = record { wrong = free-wrong h small b; next = free-next h small b }
+row-stepped h (Skip a q) small = same-set h 0 (Skip a q) small refl refl
+
+-- the set after one operation more
+heldFrom-suc : (h : List Bool) (ops : List Op) (p : ℕ) → p < length ops
+    → heldFrom h (take (suc p) ops) ≡ after (heldFrom h (take p ops)) (getD ops p noOp)
+unfolding heldFrom
+heldFrom-suc h [] p l = absurd (omega arith)
+heldFrom-suc h (o ∷ ops) zero l = refl
+heldFrom-suc h (o ∷ ops) (suc p) l = heldFrom-suc (after h o) ops p (omega arith)
+
+pub held-on : (ops : List Op) (p : ℕ) {h g : List Bool} → p < length ops → h ≡ held ops p
+    → g ≡ after h (getD ops p noOp) → g ≡ held ops (p + 1)
+held-on ops p {h} {g} l eh eg =
+    let one : p + 1 ≡ suc p = omega arith in
+    rw (one, eg, eh) (sym (heldFrom-suc noLocks ops p l))
+
+-- ## the record at a position counted from 1 of the lane of n records that begins at `from`, i, which is cut to n
+
+module _ (order : List ℕ) (from n x i : ℕ) (room : from + n ≤ length order) (cut : i ≡ min x n) where
+  abbrev rs : List ℕ
+  rs = take n (drop from order)
+
+  cut-rs : i ≡ min x (length rs)
+  cut-rs = omega (arith, cut, length-take n (drop from order), length-drop from order)
+
+  pub record-none : i ≡ 0 → 0 ≡ recordAt rs x
+  unfolding recordAt
+  record-none z = rw (← cut-rs, z)
+
+  counted : (i : ℕ) → ¬ i ≡ 0 → getD rs (i - 1) 0 ≡ getD (0 ∷ rs) i 0
+  counted zero h = absurd (h refl)
+  counted (suc i) h = ap (λ n. getD rs n 0) (omega arith)
+
+  pub record-some : ¬ i ≡ 0 → getD order (from + i - 1) 0 ≡ recordAt rs x
+  unfolding recordAt
+  record-some h =
+      let place : from + i - 1 ≡ from + (i - 1) = omega arith in
+      let own : getD order (from + i - 1) 0 ≡ getD rs (i - 1) 0 =
+      ap (λ k. getD order k 0) place ∙ sym (getD-drop from order (i - 1) 0)
+      ∙ sym (getD-take n (drop from order) (i - 1) 0 (omega arith)) in
+      rw (← cut-rs) (own ∙ counted i h)

@@ -1,0 +1,116 @@
+-- Laws of the lanes of a file whose records stand in the order of its lanes, as the check finds them in order and rows.
+use Prim.Native.Nat.{ℕ, zero, suc, _+_, _-_, _*_, _≤_, _<_}
+use mathlib.Core.Path.{_≡_, refl, sym, ap, ap₂, subst, _∙_}
+use mathlib.Core.List.{List, []}
+use mathlib.Core.Option.{some}
+use native.Mathlib.Omega.{arith}
+use lib.ListN.{length, getD, take, drop, length-drop, length-append}
+use Rattle.file_format.specs.declared.accepted.Op.{Op}
+use Rattle.file_format.specs.declared.accepted.Op.the-variants.{Set, Add, Load, Store, Lock, Unlock, Skip}
+use Rattle.file_format.specs.Fields.{locations, locks, recordCount, head}
+use Rattle.file_format.specs.Accepted.{recordsAt, opsAt, programOf}
+use Rattle.file_format.specs.Held.{laneFault, lockFault}
+use Rattle.file_format.specs.Lawful.{Bounded}
+use Rattle.file_format.specs.Search.{firstOf}
+use Rattle.file_format.specs.Stored.{noOp}
+use Rattle.file_format.proofs.Bounded.{lane-bounded}
+use Rattle.file_format.proofs.Laws.Lanes.{lane-records as own-lane, lane-ops}
+use Rattle.file_format.proofs.Laws.Rules.{few-records, head-range}
+use Rattle.file_format.proofs.Laws.Stored.{opsFrom-length}
+use Rattle.file_chains.specs.Ordered.{beginOf, countOf, recordsIn, Ordered}
+use Rattle.file_chains.proofs.Laws.Places.{end-inside, lane-length, lane-records}
+use Rattle.sheet_format.specs.Bytes.{over}
+use Rattle.sheet_rows.specs.Lanes.{fieldsOf}
+use Rattle.file_rows.specs.Chains.{chainBytes}
+use Rattle.file_rows.specs.Structured.{Structured}
+use Rattle.file_rows.proofs.Laws.Holds.{many, before, many-small, lane-holds}
+use Rattle.file_locks.specs.Sets.{noJump, jumpOr}
+use Rattle.file_locks.specs.Lanes.{LaneIn}
+
+-- the fault of lane t
+abbrev pub fault : List ℕ → ℕ → ℕ
+fault s t = laneFault (getD (programOf s .records) t []) (getD (programOf s .lanes) t [])
+
+-- r is the fault of the lane from `from` to `end` of the order
+abbrev pub FaultIn : List ℕ → List ℕ → ℕ → ℕ → ℕ → Type 0
+FaultIn rows order from end r =
+    (ops : List Op) → from ≤ end → end ≤ 256 → end - from ≤ 64 → 16 + 8 * end ≤ length rows
+    → length order ≡ 257 → LaneIn (drop (16 + 8 * from) rows) (end - from) ops
+    → r ≡ laneFault (take (end - from) (drop from order)) ops
+
+-- a bounded SKIP goes on, at most to the end
+leads : (ls ks n p : ℕ) (o : Op) → n ≤ 64 → p < n → Bounded ls ks n p o
+    → (p < jumpOr noJump (some o)) × (fieldsOf o .code ≡ 7 → fieldsOf o .word ≤ n)
+leads ls ks n p (Set a c) h l b = (omega arith, λ e. absurd (omega arith))
+leads ls ks n p (Add a x) h l b = (omega arith, λ e. omega arith)
+leads ls ks n p (Load a x) h l b = (omega arith, λ e. omega arith)
+leads ls ks n p (Store a x) h l b = (omega arith, λ e. omega arith)
+leads ls ks n p (Lock x) h l b = (omega arith, λ e. omega arith)
+leads ls ks n p (Unlock x) h l b = (omega arith, λ e. omega arith)
+leads ls ks n p (Skip a q) h l b = (b .1, λ e. b .2)
+
+-- a buffer that begins with other bytes is no shorter than it was
+rows-room : (rows own bytes : List ℕ) → rows ≡ over bytes own → length own ≤ length rows
+rows-room rows own bytes e =
+    omega (arith, ap length e, length-append bytes (drop (length bytes) own), length-drop (length bytes) own)
+
+module _ (s order place ends : List ℕ) (st : Structured s order place ends) where
+  ordered : Ordered s order place ends
+  ordered = st .ordered
+
+  abbrev end : ℕ → ℕ
+  end t = getD ends t 0
+
+  end-small : (t : ℕ) → t < 4 → end t ≤ 256
+  end-small t h = omega (arith, end-inside ordered t h, few-records s (st .header))
+
+  own-records : (t : ℕ) → t < 4 → recordsIn order ends t ≡ recordsAt s (head s t)
+  own-records t h = lane-records ordered (st .short) t h
+
+  count-is : (t : ℕ) → t < 4 → countOf ends t ≡ many s t
+  count-is t h =
+      sym (lane-length ordered t h) ∙ ap length (own-records t h) ∙ sym (opsFrom-length s 0 (recordsAt s (head s t)))
+
+  begin-is : (t : ℕ) → t < 4 → beginOf ends t ≡ before s t
+  begin-is zero h = refl
+  begin-is (suc t) h =
+      omega (arith, begin-is t (omega arith), count-is t (omega arith), ordered .rising t (omega arith))
+
+  module _
+      (rows own : List ℕ) (front : rows ≡ over (chainBytes (programOf s)) own)
+      (room : 16 + 8 * recordCount s ≤ length own) (t : ℕ) (below : t < 4)
+    where
+      lane-in : LaneIn (drop (16 + 8 * before s t) rows) (many s t) (opsAt s (head s t))
+      lane-in = record {
+        held = lane-holds s (st .header) rows own front (st .records) t below;
+        onward = λ p l. led p l .0;
+        within = λ p l. led p l .1;
+      }
+        where
+          led : (p : ℕ) → p < many s t
+              → (p < jumpOr noJump (some (getD (opsAt s (head s t)) p noOp)))
+              × (fieldsOf (getD (opsAt s (head s t)) p noOp) .code ≡ 7
+              → fieldsOf (getD (opsAt s (head s t)) p noOp) .word ≤ many s t)
+          led p l =
+              let len = opsFrom-length s 0 (recordsAt s (head s t)) in
+              leads (locations s) (locks s) (many s t) p (getD (opsAt s (head s t)) p noOp) (many-small s t) l
+              (rw len
+              (lane-bounded s (st .records) (head s t) (head-range s (st .header) t below) p noOp (omega (arith, len))))
+
+      -- what is found in lane t of the order is the fault of lane t
+      pub fault-is : {from r : ℕ} → from ≡ beginOf ends t → FaultIn rows order from (end t) r → r ≡ fault s t
+      fault-is {from} {r} ef found =
+          let begin = begin-is t below in
+          let count = count-is t below in
+          let lane : LaneIn (drop (16 + 8 * beginOf ends t) rows) (countOf ends t) (opsAt s (head s t)) =
+          rw (count, begin) lane-in in
+          subst (λ x. FaultIn rows order x (end t) r) ef found (opsAt s (head s t)) (ordered .rising t below)
+          (end-small t below) (omega (arith, count, many-small s t))
+          (omega (arith, end-inside ordered t below, rows-room rows own (chainBytes (programOf s)) front, room))
+          (ordered .order-room) lane
+          ∙ ap₂ laneFault (own-records t below ∙ sym (own-lane s (st .header) t below))
+          (sym (lane-ops s (st .header) t below))
+
+pub fault-first : (s : List ℕ) → firstOf (fault s) 0 4 ≡ lockFault (programOf s)
+unfolding lockFault
+fault-first s = refl

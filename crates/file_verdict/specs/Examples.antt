@@ -1,0 +1,90 @@
+-- Verdicts computed from bytes: rows for the refusals, for faults that come together, and for what is accepted. The
+-- rows on the length of a chain alone stand in the crate `lawful` (Longest).
+use Prim.Native.Nat.{ℕ, zero, suc}
+use mathlib.Core.Path.{_≡_, refl}
+use mathlib.Core.List.{List, [], _∷_, _++_, map}
+use lib.ListN.{replicate}
+use Rattle.file_verdict.specs.declared.refusal.Refusal.{Refusal}
+use Rattle.file_verdict.specs.declared.refusal.Refusal.the-variants.{Accepted, TruncatedHeader, BadHeader}
+use Rattle.file_verdict.specs.declared.refusal.Refusal.the-variants.{BadLength}
+use Rattle.file_verdict.specs.declared.refusal.Refusal.the-variants.{BadRecord, BadLinkage, ChainTooLong}
+use Rattle.file_verdict.specs.declared.refusal.Refusal.the-variants.{BadTarget}
+use Rattle.file_verdict.specs.declared.refusal.Refusal.the-variants.{LockFault}
+use Rattle.file_format.specs.Search.{lowest, firstOf}
+use Rattle.file_format.specs.Rules.{headerRule, headRule, badRecord, recordRule}
+use Rattle.file_format.specs.Rules.{limitA, limitB, limitConstant, limitTarget}
+use Rattle.file_format.specs.Linkage.{chain, walkOf, badLinkage, linkageFrom, chainTooLong}
+use Rattle.file_format.specs.Targets.{member, badTarget, unreachableTarget, position}
+use Rattle.file_format.specs.Accepted.{opOf, opsFrom}
+use Rattle.file_format.specs.Held.{heldFrom, same, partedBy, faultAt, faultPosition, recordAt, lockFault}
+use Rattle.file_verdict.specs.Verdict.{structureThen, refusalOf}
+
+-- a header of one lane, with its counts of locations, locks and records, and the head of lane 0
+unfoldable pub header : ℕ → ℕ → ℕ → ℕ → List ℕ
+header ls ks n h = 1 ∷ ls ∷ ks ∷ 0 ∷ 0 ∷ 0 ∷ n ∷ 0 ∷ h ∷ 0 ∷ 0 ∷ 0 ∷ 0 ∷ 0 ∷ 0 ∷ 0 ∷ []
+
+-- the same of two lanes, with both heads
+header2 : ℕ → ℕ → ℕ → ℕ → ℕ → List ℕ
+header2 ls ks n h g = 2 ∷ ls ∷ ks ∷ 0 ∷ 0 ∷ 0 ∷ n ∷ 0 ∷ h ∷ 0 ∷ g ∷ 0 ∷ 0 ∷ 0 ∷ 0 ∷ 0 ∷ []
+
+-- a record of an operation, register, operand and next, with all else zero
+unfoldable pub entry : ℕ → ℕ → ℕ → ℕ → List ℕ
+entry op a b n = op ∷ a ∷ b ∷ 0 ∷ 0 ∷ 0 ∷ 0 ∷ 0 ∷ 0 ∷ 0 ∷ n ∷ 0 ∷ []
+
+-- a SKIP on a register, with its target and next
+skip : ℕ → ℕ → ℕ → List ℕ
+skip a t n = 7 ∷ a ∷ 0 ∷ 0 ∷ 0 ∷ 0 ∷ 0 ∷ 0 ∷ t ∷ 0 ∷ n ∷ 0 ∷ []
+
+-- records i, .., i + k - 1 that SET register 0 to 0, each followed by the next one, and the last by none
+unfoldable pub sets : ℕ → ℕ → List ℕ
+sets i zero = []
+sets i (suc zero) = entry 1 0 0 0
+sets i (suc (suc k)) = entry 1 0 0 (suc i) ++ sets (suc i) (suc k)
+
+-- bytes, and the refusal that they get
+table : List (List ℕ × Refusal)
+table =
+    ([], TruncatedHeader)
+    ∷ (replicate 15 0, TruncatedHeader)
+    ∷ (5 ∷ 1 ∷ replicate 14 0, BadHeader)
+    -- a head in a lane from T up
+    ∷ (header 1 0 1 1 ++ entry 1 0 0 0, Accepted)
+    ∷ (1 ∷ 1 ∷ 0 ∷ 0 ∷ 0 ∷ 0 ∷ 1 ∷ 0 ∷ 1 ∷ 0 ∷ 1 ∷ 0 ∷ 0 ∷ 0 ∷ 0 ∷ 0 ∷ entry 1 0 0 0, BadHeader)
+    -- nine records and length 123
+    ∷ (header 1 0 9 1 ++ replicate 107 0, BadLength)
+    ∷ (header 1 0 2 1 ++ entry 1 0 0 2 ++ entry 3 0 1 0, BadRecord 2)
+    -- byte 3 of a record, and a target in another operation than SKIP
+    ∷ (header 1 0 1 1 ++ 1 ∷ 0 ∷ 0 ∷ 1 ∷ replicate 8 0, BadRecord 1)
+    ∷ (header 1 0 1 1 ++ 1 ∷ 0 ∷ 0 ∷ 0 ∷ 0 ∷ 0 ∷ 0 ∷ 0 ∷ 1 ∷ 0 ∷ 0 ∷ 0 ∷ [], BadRecord 1)
+    -- a record chained to itself; one in no lane; one in two lanes
+    ∷ (header 1 0 1 1 ++ entry 1 0 0 1, BadLinkage 1)
+    ∷ (header 1 0 2 1 ++ entry 1 0 0 0 ++ entry 1 0 0 0, BadLinkage 2)
+    ∷ (header2 1 0 2 1 2 ++ entry 1 0 0 2 ++ entry 1 0 0 0, BadLinkage 2)
+    -- a target that stands earlier, and one in another lane
+    ∷ (header 1 0 2 1 ++ entry 1 0 0 2 ++ skip 0 1 0, BadTarget 2)
+    ∷ (header2 1 0 2 1 2 ++ skip 0 2 0 ++ entry 1 0 0 0, BadTarget 1)
+    -- LOCK twice; UNLOCK of a free lock; the end with a lock held, also by a SKIP
+    ∷ (header 1 1 2 1 ++ entry 5 0 0 2 ++ entry 5 0 0 0, LockFault 2)
+    ∷ (header 1 1 1 1 ++ entry 6 0 0 0, LockFault 1)
+    ∷ (header 1 1 1 1 ++ entry 5 0 0 0, LockFault 1)
+    ∷ (header 1 1 3 1 ++ entry 5 0 0 2 ++ skip 0 0 3 ++ entry 6 0 0 0, LockFault 3)
+    -- two ways disagree: at the record where they meet
+    ∷ (header 1 1 4 1 ++ skip 0 3 2 ++ entry 5 0 0 3 ++ entry 1 0 0 4 ++ entry 6 0 0 0, LockFault 3)
+    -- the end of lane 0 comes before the records of lane 1
+    ∷ (header2 1 1 2 1 2 ++ entry 5 0 0 0 ++ entry 6 0 0 0, LockFault 1)
+    -- two faults at once, of each check and the next: the order of the table decides. Rows above have 1 and 2, 3 and 4
+    -- (records of no operation), and 5 and 6 (a record chained to itself)
+    ∷ (5 ∷ 1 ∷ replicate 15 0, BadHeader)
+    ∷ (header 1 0 1 1 ++ entry 8 0 0 1, BadRecord 1)
+    ∷ (header 1 0 65 1 ++ skip 0 1 2 ++ sets 2 64, ChainTooLong 65)
+    ∷ (header 1 1 2 1 ++ entry 5 0 0 2 ++ skip 0 1 2, BadLinkage 2)
+    ∷ (header 1 1 2 1 ++ entry 5 0 0 2 ++ skip 0 1 0, BadTarget 2)
+    ∷ (1 ∷ 1 ∷ replicate 14 0, Accepted)
+    ∷ []
+
+examples : map (λ e. refusalOf (e .0)) table ≡ map (λ e. e .1) table
+unfolding refusalOf structureThen headerRule headRule badRecord recordRule limitA limitB limitConstant limitTarget
+    lowest firstOf badLinkage linkageFrom chain member walkOf chainTooLong badTarget unreachableTarget lockFault
+    position
+    opOf opsFrom recordAt faultPosition faultAt partedBy heldFrom same header header2 entry skip sets table
+examples = refl

@@ -1,0 +1,187 @@
+-- Two checks of the definitions: 257 records are enough to walk, and a SKIP lands on the record that its target names.
+use Prim.Native.Nat.{ℕ, zero, suc, _+_, _-_, _≤_, _<_}
+use mathlib.Core.Path.{_≡_, refl, sym, ap, _∙_}
+use mathlib.Core.List.{List, [], _∷_}
+use mathlib.Core.Bool.{Bool, true, false, not, cond, true≢false, false≢true}
+use mathlib.Core.Logic.{_⊎_, inl, inr}
+use lib.ListN.{getD, set, length, drop, length-set}
+use lib.Seq.{getD-set-other, getD-drop}
+use lib.Dec.{eqb}
+use native.Mathlib.Omega.{arith}
+use native.Mathlib.Decide.{decLe}
+use borrow.Author.Tests.{eqb-true, eqb-false, not-false}
+use Rattle.file_format.specs.Fields.{recordCount, head, target, next}
+use Rattle.file_format.specs.Linkage.{chain, walkOf, chainTooLong}
+use Rattle.file_format.specs.Targets.{member, unreachableTarget, badTarget, position}
+use Rattle.file_format.specs.Accepted.{recordsAt}
+use Rattle.file_format.proofs.Laws.Search.{nothing-found, nothing-named}
+use Rattle.file_format.proofs.Laws.Linkage.{walkOf-here, walkOf-on, chain-suc, chain-stop, chain-length, last-one}
+use Rattle.file_format.proofs.Laws.Targets.{member-on, position-here, position-on}
+use Rattle.file_format.proofs.Laws.Rules.{head-range}
+use Rattle.file_verdict.proofs.Laws.Verdict.{Structured}
+use Rattle.file_format.proofs.Bounded.{chain-range}
+
+-- how many flags are up
+unfoldable count : List Bool → ℕ
+count [] = 0
+count (true ∷ l) = suc (count l)
+count (false ∷ l) = count l
+
+count-le : (l : List Bool) → count l ≤ length l
+unfolding count
+count-le [] = omega arith
+count-le (true ∷ l) = omega (arith, count-le l)
+count-le (false ∷ l) = omega (arith, count-le l)
+
+count-first : (l : List Bool) → getD l 0 false ≡ false → 0 < length l → count l < length l
+unfolding count
+count-first [] e h = absurd (omega arith)
+count-first (true ∷ l) e h = absurd (true≢false e)
+count-first (false ∷ l) e h = omega (arith, count-le l)
+
+count-set : (l : List Bool) (r : ℕ) → getD l r false ≡ false → r < length l → count (set l r true) ≡ suc (count l)
+unfolding count
+count-set [] r e h = absurd (omega arith)
+count-set (true ∷ l) zero e h = absurd (true≢false e)
+count-set (false ∷ l) zero e h = refl
+count-set (true ∷ l) (suc r) e h = ap suc (count-set l r e (omega arith))
+count-set (false ∷ l) (suc r) e h = count-set l r e (omega arith)
+
+-- records that have a flag each; flag 0 is no record's
+abbrev Flagged : List Bool → List ℕ → Type 0
+Flagged met rs = (p : ℕ) → p < length rs → (1 ≤ getD rs p 0) × (getD rs p 0 < length met)
+
+-- a walk along such records that meets none twice leaves a flag down besides flag 0
+met-few : (met : List Bool) (rs : List ℕ) → getD met 0 false ≡ false → 0 < length met → Flagged met rs
+    → walkOf met rs .twice ≡ 0 → count met + length rs < length met
+met-few met [] z h range e = omega (arith, count-first met z h)
+met-few met (r ∷ rs) z h range e = go (getD met r false) refl (met-few (set met r true) rs)
+  where
+    go : (b : Bool) → getD met r false ≡ b
+        → (getD (set met r true) 0 false ≡ false → 0 < length (set met r true) → Flagged (set met r true) rs
+        → walkOf (set met r true) rs .twice ≡ 0 → count (set met r true) + length rs < length (set met r true))
+        → count met + length (r ∷ rs) < length met
+    go true b ih = absurd (omega (arith, range 0 (omega arith), sym (ap (λ w. w .twice) (walkOf-here met r rs b)) ∙ e))
+    go false b ih =
+        let first = range 0 (omega arith) in
+        let same : length (set met r true) ≡ length met = length-set met r true in
+        let more = ih (getD-set-other met r 0 true false (λ q. omega (arith, first .0)) ∙ z) (omega arith)
+        (λ p l. (range (suc p) (omega arith) .0, rw same (range (suc p) (omega arith) .1)))
+        (sym (ap (λ w. w .twice) (walkOf-on met r rs b)) ∙ e) in
+        omega (arith, more, same, count-set met r b (first .1))
+
+-- A chain whose walk of 257 records met nothing twice has ended before: it has no 257th record.
+pub walk-ends : (s : List ℕ) → Structured s → recordCount s ≤ 256 → (met : List Bool) (t : ℕ) → t < 4
+    → length met ≡ 257 → getD met 0 false ≡ false → walkOf met (chain s 257 (head s t)) .twice ≡ 0
+    → length (chain s 257 (head s t)) < 257
+walk-ends s ok small met t ht room z e =
+    let range : Flagged met (chain s 257 (head s t)) = λ p l.
+    let r = chain-range s (ok .records) 257 (head s t) p (head-range s (ok .header) t ht) l in
+    (r .0, omega (arith, r .1, room)) in
+    omega (arith, met-few met (chain s 257 (head s t)) z (omega (arith, room)) range e)
+
+-- a record that is in a list stands at its position there; 0 stands, or is read past the end
+getD-position : (x : ℕ) (l : List ℕ) → (x ≡ 0) ⊎ (member x l ≡ true) → getD l (position x l) 0 ≡ x
+unfolding position member
+getD-position x [] (inl z) = sym z
+getD-position x [] (inr m) = absurd (false≢true m)
+getD-position x (y ∷ ys) w = go (eqb x y) refl w (getD-position x ys)
+  where
+    go : (b : Bool) → eqb x y ≡ b → (x ≡ 0) ⊎ (member x (y ∷ ys) ≡ true)
+        → ((x ≡ 0) ⊎ (member x ys ≡ true) → getD ys (position x ys) 0 ≡ x)
+        → getD (y ∷ ys) (position x (y ∷ ys)) 0 ≡ x
+    go true h w ih =
+        let e = eqb-true x y h in
+        rw (position-here x y ys e) (sym e)
+    go false h (inl z) ih = rw (position-on x y ys (eqb-false x y h)) (ih (inl z))
+    go false h (inr m) ih =
+        let n = eqb-false x y h in
+        rw (position-on x y ys n) (ih (inr (sym (member-on x y ys n) ∙ m)))
+
+-- a chain that ends within k records is the same with more room
+chain-room : (s : List ℕ) (k r j : ℕ) → getD (chain s (suc k) r) k 0 ≡ 0 → chain s (k + j) r ≡ chain s k r
+chain-room s zero r j e =
+    let z : r ≡ 0 = last-one s r ∙ e in
+    chain-stop s (0 + j) r z ∙ sym (chain-stop s 0 r z)
+chain-room s (suc k) r j e = go (decLe 1 r) (chain-room s k (next s r) j)
+  where
+    go : Dec (1 ≤ r) → (getD (chain s (suc k) (next s r)) k 0 ≡ 0 → chain s (k + j) (next s r) ≡ chain s k (next s r))
+        → chain s (suc k + j) r ≡ chain s (suc k) r
+    go (no l) ih =
+        let z : r ≡ 0 = omega arith in
+        chain-stop s (suc k + j) r z ∙ sym (chain-stop s (suc k) r z)
+    go (yes l) ih =
+        let n : r ≡ 0 → ⊥ = λ z. omega arith in
+        let q : suc k + j ≡ suc (k + j) = omega arith in
+        rw q
+        (chain-suc s (k + j) r n
+        ∙ ap (λ l. r ∷ l) (ih (sym (ap (λ l. getD l (suc k) 0) (chain-suc s (suc k) r n)) ∙ e))
+        ∙ sym (chain-suc s k r n))
+
+-- what follows position p of a chain, and that it ends where the chain ends
+abbrev Tail : List ℕ → ℕ → ℕ → ℕ → Type 0
+Tail s k r p =
+    (drop (suc p) (chain s k r) ≡ chain s (k - suc p) (next s (getD (chain s k r) p 0)))
+    × (getD (chain s (suc k) r) k 0 ≡ 0
+    → getD (chain s (suc (k - suc p)) (next s (getD (chain s k r) p 0))) (k - suc p) 0 ≡ 0)
+
+chain-tail : (s : List ℕ) (k r p : ℕ) → p < length (chain s k r) → Tail s k r p
+unfolding chain
+chain-tail s zero r p h = absurd (omega arith)
+chain-tail s (suc k) r p h = go (decLe 1 r) p h (chain-tail s k (next s r))
+  where
+    go : Dec (1 ≤ r) → (p : ℕ) → p < length (chain s (suc k) r)
+        → ((p : ℕ) → p < length (chain s k (next s r)) → Tail s k (next s r) p) → Tail s (suc k) r p
+    go (no l) p h ih = absurd (omega (arith, ap length (chain-stop s (suc k) r (omega arith))))
+    go (yes l) zero h ih =
+        let n : r ≡ 0 → ⊥ = λ z. omega arith in
+        let q : suc k - 1 ≡ k = omega arith in
+        rw (chain-suc s k r n, chain-suc s (suc k) r n, q) (refl, λ e. e)
+    go (yes l) (suc p) h ih =
+        let n : r ≡ 0 → ⊥ = λ z. omega arith in
+        let q : suc k - suc (suc p) ≡ k - suc p = omega arith in
+        rw (chain-suc s k r n, chain-suc s (suc k) r n, q) (ih p (omega (arith, ap length (chain-suc s k r n))))
+
+module _ (s : List ℕ) (ok : Structured s) (t : ℕ) (ht : t < 4) where
+  abbrev lane : List ℕ
+  lane = recordsAt s (head s t)
+
+  -- the 65th record of a lane is none
+  ends : getD (chain s 65 (head s t)) 64 0 ≡ 0
+  unfolding chainTooLong
+  ends = nothing-named (λ n. getD (chain s 65 (head s n)) 64 0) 0 4 t (ok .chains) (omega arith) (omega arith)
+
+  module _ (p : ℕ) (h : p < length lane) where
+    -- the records that follow the one at p, by next, are those at the later positions
+    followed : chain s 64 (next s (getD lane p 0)) ≡ drop (suc p) lane
+    followed =
+        let rest = chain-tail s 64 (head s t) p h in
+        let small : length lane ≤ 64 = chain-length s 64 (head s t) in
+        let q : 64 ≡ 64 - suc p + suc p = omega arith in
+        ap (λ n. chain s n (next s (getD lane p 0))) q
+        ∙ chain-room s (64 - suc p) (next s (getD lane p 0)) (suc p) (rest .1 ends)
+        ∙ sym (rest .0)
+
+    -- a target is zero, or a record at a later position
+    later : (target s (getD lane p 0) ≡ 0) ⊎ (member (target s (getD lane p 0)) (drop (suc p) lane) ≡ true)
+    unfolding badTarget unreachableTarget
+    later =
+        let r = getD lane p 0 in
+        let range = chain-range s (ok .records) 64 (head s t) p (head-range s (ok .header) t ht) h in
+        let reached : unreachableTarget s r ≡ false =
+        nothing-found (unreachableTarget s) 1 (recordCount s) r (omega arith) (ok .targets) (range .0)
+        (omega (arith, range .1)) in
+        go (target s r) (eqb (target s r) 0) refl (rw followed at reached)
+      where
+        go : (x : ℕ) (b : Bool) → eqb x 0 ≡ b → cond (eqb x 0) false (not (member x (drop (suc p) lane))) ≡ false
+            → (x ≡ 0) ⊎ (member x (drop (suc p) lane) ≡ true)
+        go x true e reached = inl (eqb-true x 0 e)
+        go x false e reached = inr (not-false _ (rw e at reached))
+
+    -- at the position of a SKIP's target stands its target, and past the last record 0, the end
+    pub lands : getD lane (p + 1 + position (target s (getD lane p 0)) (drop (p + 1) lane)) 0 ≡ target s (getD lane p 0)
+    lands =
+        let x = target s (getD lane p 0) in
+        let q : p + 1 ≡ suc p = omega arith in
+        rw q
+        (sym (getD-drop (suc p) lane (position x (drop (suc p) lane)) 0) ∙ getD-position x (drop (suc p) lane) later)

@@ -1,2 +1,0 @@
--- Laws: Copied rows that are copied.
-pub mod Copied

@@ -1,2 +1,0 @@
--- What is proved of the chains in a buffer: Laws of the code.
-pub mod Laws

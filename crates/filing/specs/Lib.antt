@@ -1,2 +1,0 @@
--- Size: how many bytes a file's rows take.
-pub mod Size

@@ -1,6 +1,0 @@
--- What reads past the end of a lane.
-use Rattle.kernel.specs.declared.accepted.Op.{Op}
-use Rattle.kernel.specs.declared.accepted.Op.the-variants.{Set}
-
-abbrev pub noOp : Op
-noOp = Set 0 0

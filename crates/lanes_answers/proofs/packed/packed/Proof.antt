@@ -1,0 +1,34 @@
+-- `lanes_answers::packed::packed` meets its contract.
+use mathlib.Core.Path.{sym, ap, subst}
+use native.Mathlib.Omega.{arith}
+use Rattle.lanes_answers.specs.Interface.{Small, packedLowering}
+use borrow.Author.Needs.{needs}
+use Rattle.lanes_answers.proofs.packed.packed.Statement.{statement}
+use Rattle.lanes_answers.proofs.packed.packed.Tie as tie
+
+enum-known-answer : tie.Need-enum-known-answer
+enum-known-answer c = search needs
+
+enum-known-answer-2 : tie.Need-enum-known-answer-2
+enum-known-answer-2 c = search needs
+
+mul-result : tie.Need-mul-result
+mul-result c =
+    let small = subst Small (c .before .answer2 .given .1) (c .before .before .before .pre) in
+    omega (arith, small)
+
+add-result : tie.Need-add-result
+add-result c =
+    let small = subst Small (c .before .answer2 .given .1) (c .before .before .before .pre) in
+    omega (arith, small)
+
+returns : tie.Need-returns
+returns c = search needs
+
+returns-2 : tie.Need-returns-2
+returns-2 c = sym (ap packedLowering (c .before .answer2 .given .1))
+
+pub packed-spec : {M : Type 1} → statement M
+packed-spec =
+    tie.close
+    (tie.spec enum-known-answer enum-known-answer-2 mul-result add-result returns returns-2)

@@ -1,0 +1,125 @@
+-- A kernel of one lane through each of the four calls, by computation from its bytes.
+use Prim.Native.Nat.{ℕ, _*_, _^_}
+use mathlib.Core.Path.{_≡_, refl}
+use mathlib.Core.List.{List, [], _∷_, _++_, map}
+use lib.ListN.{replicate}
+use Rattle.file_format.specs.Search.{lowest, firstOf}
+use Rattle.file_format.specs.Rules.{headerRule, headRule, badRecord, recordRule}
+use Rattle.file_format.specs.Rules.{limitA, limitB, limitConstant, limitTarget}
+use Rattle.file_format.specs.Linkage.{chain, walkOf, badLinkage, linkageFrom, chainTooLong}
+use Rattle.file_format.specs.Targets.{member, badTarget, unreachableTarget, position}
+use Rattle.file_format.specs.Accepted.{opOf, opsFrom}
+use Rattle.file_format.specs.Held.{heldFrom, same, partedBy, faultAt, faultPosition, recordAt, lockFault}
+use Rattle.file_verdict.specs.Verdict.{structureThen, refusalOf}
+use Rattle.barrier_placement.specs.Place.{stands, due, rowsTo}
+use Rattle.sheet_format.specs.Bytes.{sheetBytes}
+use Rattle.sheet_format.specs.Read.{readSheet}
+use Rattle.machine_spec.specs.Moves.{movesIn}
+use Rattle.sheet_format.specs.Put.{inTurn}
+use Rattle.machine_record.specs.Lanes.{entriesBytes, stateLane}
+use Rattle.machine_record.specs.Record.{headBytes, recordOf}
+use Rattle.lanes_answers.specs.Interface.{callLower1, callLower2, callRunSource, callRunTso}
+
+-- one lane, two locations of which location 1 is volatile, and one lock:
+-- SET 2 to 258, STORE 2 to location 1, LOCK 0, UNLOCK 0
+kernel : List ℕ
+kernel =
+    1 ∷ 2 ∷ 1 ∷ 0 ∷ 2 ∷ 0 ∷ 4 ∷ 0 ∷ 1 ∷ 0 ∷ 0 ∷ 0 ∷ 0 ∷ 0 ∷ 0 ∷ 0
+    ∷ 1 ∷ 2 ∷ 0 ∷ 0 ∷ 2 ∷ 1 ∷ 0 ∷ 0 ∷ 0 ∷ 0 ∷ 2 ∷ 0
+    ∷ 4 ∷ 2 ∷ 1 ∷ 0 ∷ 0 ∷ 0 ∷ 0 ∷ 0 ∷ 0 ∷ 0 ∷ 3 ∷ 0
+    ∷ 5 ∷ 0 ∷ 0 ∷ 0 ∷ 0 ∷ 0 ∷ 0 ∷ 0 ∷ 0 ∷ 0 ∷ 4 ∷ 0
+    ∷ 6 ∷ 0 ∷ 0 ∷ 0 ∷ 0 ∷ 0 ∷ 0 ∷ 0 ∷ 0 ∷ 0 ∷ 0 ∷ 0
+    ∷ []
+
+-- an output buffer of n bytes, none of them zero
+output : ℕ → List ℕ
+output n = replicate n 255
+
+-- what a call answers, and the buffer after it
+record Called : Type 0 where
+  answer : ℕ
+  after : List ℕ
+
+abbrev called : ℕ × List ℕ → Called
+called r = record { answer = r .0; after = r .1 }
+
+-- the state record of lane 0, with all other lanes zero
+abbrev laneRecord : List ℕ → List ℕ → List ℕ → List ℕ → List ℕ
+laneRecord pos count regs entries =
+    pos ++ count ++ (regs ++ (entries ++ replicate 504 0)) ++ replicate 1644 0
+
+-- memory is 0 and 258
+abbrev memory : List ℕ
+memory = 0 ∷ 0 ∷ 0 ∷ 0 ∷ 2 ∷ 1 ∷ 0 ∷ 0 ∷ replicate 56 0
+
+-- register 2 is 258
+abbrev registers : List ℕ
+registers = replicate 8 0 ++ 2 ∷ 1 ∷ replicate 22 0
+
+-- finished or not, lock 0 held by lane 0, 5 moves done and 1 waited
+abbrev counted : ℕ → List ℕ
+counted f = f ∷ 0 ∷ 0 ∷ 0 ∷ 1 ∷ 0 ∷ 0 ∷ 0 ∷ 5 ∷ replicate 7 0 ++ 1 ∷ replicate 7 0
+
+calls : List (Called × Called)
+calls =
+    -- the kernel's sheets have 72 and 56 bytes
+    (called (callLower2 kernel (output 55)), record { answer = 9 * 2 ^ 32; after = output 55 })
+    ∷ (called (callLower1 kernel (output 71)), record { answer = 9 * 2 ^ 32; after = output 71 })
+    ∷ (
+      called (callLower2 kernel (output 57)),
+      record {
+        answer = 56;
+        after =
+            1 ∷ 2 ∷ 1 ∷ 2 ∷ 0 ∷ 0 ∷ 0 ∷ 0 ∷ 5 ∷ 0 ∷ 0 ∷ 0 ∷ 0 ∷ 0 ∷ 0 ∷ 0
+            ∷ 1 ∷ 2 ∷ 0 ∷ 0 ∷ 2 ∷ 1 ∷ 0 ∷ 0
+            ∷ 4 ∷ 2 ∷ 1 ∷ 0 ∷ 0 ∷ 0 ∷ 0 ∷ 0
+            ∷ 15 ∷ 0 ∷ 0 ∷ 0 ∷ 0 ∷ 0 ∷ 0 ∷ 0
+            ∷ 5 ∷ 0 ∷ 0 ∷ 0 ∷ 0 ∷ 0 ∷ 0 ∷ 0
+            ∷ 6 ∷ 0 ∷ 0 ∷ 0 ∷ 0 ∷ 0 ∷ 0 ∷ 0
+            ∷ 255 ∷ [];
+      },
+    )
+    -- refused by the file: number × 2^32 + record
+    ∷ (called (callLower1 (replicate 15 0) (output 3)), record { answer = 2 ^ 32; after = output 3 })
+    -- a refused file, then 9, then 10
+    ∷ (called (callRunTso (replicate 15 0) (0 ∷ []) (output 3)), record { answer = 2 ^ 32; after = output 3 })
+    ∷ (called (callRunTso kernel (0 ∷ []) (output 3)), record { answer = 9 * 2 ^ 32; after = output 3 })
+    ∷ (called (callRunTso kernel (0 ∷ []) (output 2280)), record { answer = 10 * 2 ^ 32; after = output 2280 })
+    ∷ (called (callRunTso kernel (0 ∷ 2 ∷ []) (output 2280)), record { answer = 10 * 2 ^ 32; after = output 2280 })
+    ∷ (called (callRunSource kernel (1 ∷ 0 ∷ []) (output 2280)), record { answer = 10 * 2 ^ 32; after = output 2280 })
+    -- SET, STORE, a LOCK that waits, the commit, LOCK, UNLOCK: its release is pending
+    ∷ (
+      called (callRunSource kernel (0 ∷ 0 ∷ 0 ∷ 0 ∷ 0 ∷ 0 ∷ 0 ∷ 1 ∷ 0 ∷ 0 ∷ 0 ∷ 0 ∷ []) (output 2281)),
+      record {
+        answer = 2280;
+        after =
+            counted 1 ++ memory ++ laneRecord (4 ∷ 0 ∷ []) (1 ∷ 0 ∷ []) registers (2 ∷ replicate 7 0) ++ 255 ∷ [];
+      },
+    )
+    -- MFENCE waits instead, and is an instruction of its own
+    ∷ (
+      called (callRunTso kernel (0 ∷ 0 ∷ 0 ∷ 0 ∷ 0 ∷ 0 ∷ 0 ∷ 1 ∷ 0 ∷ 0 ∷ 0 ∷ 0 ∷ []) (output 2281)),
+      record {
+        answer = 2280;
+        after = counted 0 ++ memory ++ laneRecord (4 ∷ 0 ∷ []) (0 ∷ 0 ∷ []) registers (replicate 8 0) ++ 255 ∷ [];
+      },
+    )
+    -- a store that is pending: location 1, value 258
+    ∷ (
+      called (callRunTso kernel (0 ∷ 0 ∷ 0 ∷ 0 ∷ []) (output 2280)),
+      record {
+        answer = 2280;
+        after =
+            replicate 8 0 ++ 2 ∷ replicate 79 0
+            ++ laneRecord (2 ∷ 0 ∷ []) (1 ∷ 0 ∷ []) registers (1 ∷ 1 ∷ 0 ∷ 0 ∷ 2 ∷ 1 ∷ 0 ∷ 0 ∷ []);
+      },
+    )
+    ∷ []
+
+calls-hold : map (λ (e : Called × Called). e .0) calls ≡ map (λ (e : Called × Called). e .1) calls
+unfolding refusalOf structureThen headerRule headRule badRecord recordRule limitA limitB limitConstant limitTarget
+    lowest firstOf badLinkage linkageFrom chain member walkOf chainTooLong badTarget unreachableTarget lockFault
+    position
+    opOf opsFrom recordAt faultPosition faultAt partedBy heldFrom same stands due rowsTo sheetBytes readSheet
+    movesIn inTurn entriesBytes stateLane headBytes recordOf kernel output calls
+calls-hold = refl

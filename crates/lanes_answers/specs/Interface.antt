@@ -1,0 +1,42 @@
+-- The four calls from C: what each answers, and the output buffer after it.
+use Prim.Native.Nat.{ℕ, _+_, _*_, _^_, _≤_}
+use mathlib.Core.List.{List}
+use Rattle.file_verdict.specs.Verdict.{Verdict, verdict}
+use Rattle.sheet_format.specs.Levels.{Level, level1, level2}
+use Rattle.sheet_format.specs.declared.Lowered.{Lowered}
+use Rattle.sheet_format.specs.declared.Lowered.the-variants.{Wrote, Refuses}
+use Rattle.sheet_format.specs.Bytes.{lowerBy}
+use Rattle.machine_spec.specs.Rules.{Machine, source, target, tso}
+use Rattle.lanes_answers.specs.Calls.{runFileBy}
+
+-- a success is the number of bytes written, a refusal number × 2^32 + record
+abbrev pub packed : ℕ → ℕ → ℕ
+packed n r = n * 2 ^ 32 + r
+
+abbrev pub packedLowering : Lowered → ℕ
+packedLowering (Wrote n) = n
+packedLowering (Refuses n r) = packed n r
+
+-- an answer that fits 64 bits so
+abbrev pub Small : Lowered → Type 0
+Small (Wrote n) = Unit {0}
+Small (Refuses n r) = (n ≤ 10) × (r ≤ 256)
+
+abbrev pub lowerCallBy : Level → Verdict → List ℕ → ℕ × List ℕ
+lowerCallBy l v buffer = (packedLowering (lowerBy l v buffer .0), lowerBy l v buffer .1)
+
+abbrev pub runCallBy : Machine → Verdict → List ℕ → List ℕ → ℕ × List ℕ
+runCallBy m v moves buffer = (packedLowering (runFileBy m v moves buffer .0), runFileBy m v moves buffer .1)
+
+-- lanes_lower1, lanes_lower2, lanes_run_source and lanes_run_tso
+abbrev pub callLower1 : List ℕ → List ℕ → ℕ × List ℕ
+callLower1 kernel = lowerCallBy level1 (verdict kernel)
+
+abbrev pub callLower2 : List ℕ → List ℕ → ℕ × List ℕ
+callLower2 kernel = lowerCallBy level2 (verdict kernel)
+
+abbrev pub callRunSource : List ℕ → List ℕ → List ℕ → ℕ × List ℕ
+callRunSource kernel = runCallBy source (verdict kernel)
+
+abbrev pub callRunTso : List ℕ → List ℕ → List ℕ → ℕ × List ℕ
+callRunTso kernel = runCallBy (target tso) (verdict kernel)

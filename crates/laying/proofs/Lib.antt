@@ -1,2 +1,0 @@
--- Laws of laying out a lane.
-pub mod Laws

@@ -1,2 +1,0 @@
--- Small laws by subject.
-pub mod Line

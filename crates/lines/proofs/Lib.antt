@@ -1,2 +1,0 @@
--- What is proved of lines: small laws.
-pub mod Laws

@@ -1,2 +1,0 @@
-// One line of a listing, as bytes.
-pub mod line;

@@ -1,3 +1,0 @@
--- Laws by subject.
-pub mod Ones
-pub mod Sheet

@@ -1,4 +1,0 @@
--- Laws of the text of a sheet.
-pub mod Laws
-pub mod SheetListing
-pub mod Sizes

@@ -1,2 +1,0 @@
-// Lowering a kernel file into the output buffer.
-pub mod lower;

@@ -1,0 +1,30 @@
+-- `machine_course::finish::finish` meets its contract.
+use mathlib.Core.Path.{_∙_}
+use Rattle.machine_course.specs.Stands.{answerBy}
+use borrow.Author.Needs.{needs}
+use Rattle.machine_course.proofs.finish.finish.Statement.{statement}
+use Rattle.machine_course.proofs.finish.finish.Tie as tie
+
+finished-requires : tie.Need-finished-requires
+finished-requires c κs = search needs
+
+end-of-requires : tie.Need-end-of-requires
+end-of-requires c κs = c .before .pre .stands .sized
+
+returns : tie.Need-returns
+returns c =
+    λ s m mvs rows so.
+    let done = c .before .finished .ensures s m mvs rows so in
+    let end = c .end-of .ensures ∙ so .state in
+    λ i. record {
+      number = so .number i;
+      blames = so .blames i;
+      state = end i;
+      finished = done i;
+      done = so .done i;
+      waited = so .waited i;
+      row = answerBy m s mvs .row;
+    }
+
+pub finish-spec : {M : Type 1} → statement M
+finish-spec = tie.close (tie.spec finished-requires end-of-requires returns)

@@ -1,0 +1,44 @@
+-- The answer that a run returns: all of the definition's but for the row of loaded values, which the code does not
+-- keep.
+use mathlib.Core.Path.{_≡_}
+use mathlib.Core.List.{List, map}
+use lib.ListN.{take}
+use Rattle.machine_spec.specs.Schedule.{Move, move}
+use Rattle.machine_spec.specs.State.{State, Loaded}
+use Rattle.machine_spec.specs.Run.{Answer}
+use Rattle.machine_lane.specs.Lanes.{laneIn}
+use Rattle.machine_state.specs.States.{Held, stateIn}
+use Rattle.machine_course.specs.declared.moves.Move.{Move as Declared}
+use Rattle.machine_course.specs.declared.finish.End.{End}
+use Rattle.machine_course.specs.declared.finish.Ran.{Ran}
+
+-- the state that is returned
+abbrev pub endState : End → State
+endState e =
+    record {
+      lanes = take (e .lanecount) (map laneIn (e .lanes));
+      memory = take (e .locations) (e .memory);
+      locks = take (e .lockwords) (e .locks);
+    }
+
+abbrev pub Holds : Held → End → Type 0
+Holds s e = endState e ≡ stateIn s
+
+abbrev pub answerIn : Ran → List Loaded → Answer
+answerIn r row =
+    record {
+      number = r .number;
+      blames = r .rec;
+      state = endState (r .end);
+      finished = r .finished;
+      done = r .done;
+      waited = r .waited;
+      row = row;
+    }
+
+-- the moves of a slice of move structs
+abbrev pub moveIn : Declared → Move
+moveIn d = move (d .lane) (d .choice)
+
+abbrev pub movesOf : List Declared → List Move
+movesOf = map moveIn

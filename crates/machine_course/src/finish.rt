@@ -1,0 +1,87 @@
+// What a run returns.
+ghost use mathlib.Core.Path.{_≡_};
+ghost use mathlib.Core.List.{List};
+ghost use Prim.Native.Nat.{ℕ};
+ghost use Rattle.machine_spec.specs.Schedule.{Move};
+ghost use Rattle.machine_state.specs.declared.rules.Machine.{Machine};
+ghost use Rattle.machine_course.specs.Stands.{Stands, Judged, answerBy};
+ghost use Rattle.machine_course.specs.Returned.{answerIn, Holds};
+ghost use Rattle.machine_state.specs.States.{stateIn, Sized};
+use crate::course::Course;
+use machine_lane::lane::Lane;
+use machine_run::judge::ended;
+use machine_state::held::take;
+use machine_state::state::State;
+
+// The end state: the first `lanecount` lanes, `locations` of memory and `lockwords` of the locks.
+pub struct End {
+    pub lanecount: u32,
+    pub locations: u32,
+    pub lockwords: u32,
+    pub lanes: [Lane; 4],
+    pub memory: [u32; 64],
+    pub locks: [u32; 64],
+}
+
+// Number 0 is a run that took place, else it is the number of a refusal, with its record.
+pub struct Ran {
+    pub number: usize,
+    pub rec: usize,
+    pub finished: bool,
+    pub done: usize,
+    pub waited: usize,
+    pub end: End,
+}
+
+fn end_of(state: &State) -> End
+    requires { ⌜ Sized (now state) ⌝ }
+    ensures { λ r. ⌜ Holds (now (state .entry)) r ⌝ }
+{
+    let a = take(state, 0);
+    let b = take(state, 1);
+    let c = take(state, 2);
+    let d = take(state, 3);
+    let lanes = [a, b, c, d];
+    let memory = state[4][0];
+    let locks = state[4][1];
+    End {
+        lanecount: state[4][2][0],
+        locations: state[4][2][1],
+        lockwords: state[4][2][2],
+        lanes,
+        memory,
+        locks,
+    }
+}
+
+// A refused run is not finished.
+fn finished(x: Course, state: &State) -> bool
+    requires { ⌜ Judged x (now state) ⌝ }
+    ensures { λ r. ⌜ ((s : List ℕ) (m : Machine) (mvs : List Move) (rows : List ℕ) → Stands s m mvs rows x
+        (now (state .entry))
+        → r ≡ answerBy m s mvs .finished) ⌝ }
+{
+    if x.number != 0 {
+        return false;
+    }
+    let count = x.count;
+    ended(state, &count)
+}
+
+pub fn finish(x: Course, state: &State) -> Ran
+    requires { ⌜ Judged x (now state) ⌝ }
+    ensures { λ r. ⌜ ((s : List ℕ) (m : Machine) (mvs : List Move) (rows : List ℕ) → Stands s m mvs rows x
+        (now (state .entry))
+        → answerIn r (answerBy m s mvs .row) ≡ answerBy m s mvs) ⌝ }
+{
+    let finished = finished(x, state);
+    let end = end_of(state);
+    Ran {
+        number: x.number,
+        rec: x.rec,
+        finished,
+        done: x.done,
+        waited: x.waited,
+        end,
+    }
+}

@@ -1,0 +1,21 @@
+// The start of a run, written over the borrowed state.
+ghost use Rattle.machine_state.specs.States.{Sized};
+ghost use Rattle.machine_course.specs.Stands.{Started};
+use machine_state::state::State;
+
+// So many lanes at their starts, locations and free locks.
+pub(crate) fn start(lanes: u32, locations: u32, locks: u32, state: &mut State)
+    requires { ⌜ Sized (now state) ⌝ }
+    ensures { λ _. ⌜ Started lanes locations locks (now (state .exit)) ⌝ }
+{
+    let row = [0u32; 64];
+    let block = [row; 3];
+    state[0] = block;
+    state[1] = block;
+    state[2] = block;
+    state[3] = block;
+    state[4] = block;
+    state[4][2][0] = lanes;
+    state[4][2][1] = locations;
+    state[4][2][2] = locks;
+}

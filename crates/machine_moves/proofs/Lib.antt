@@ -1,0 +1,3 @@
+-- What the proofs of the code cite.
+-- none
+pub mod Laws

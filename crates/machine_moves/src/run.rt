@@ -1,0 +1,27 @@
+// A run from a kernel file and a slice of move structs.
+ghost use mathlib.Core.Path.{_≡_};
+ghost use Rattle.file_verdict.specs.Verdict.{verdict};
+ghost use Rattle.machine_spec.specs.Run.{runBy};
+ghost use Rattle.machine_state.specs.Machines.{machineIn};
+ghost use Rattle.machine_course.specs.Returned.{answerIn, movesOf};
+use crate::moves::run_moves;
+use machine_course::begin::begin;
+use machine_course::course::no_rows;
+use machine_course::course::no_state;
+use machine_course::finish::Ran;
+use machine_course::finish::finish;
+use machine_course::moves::Move;
+use machine_state::rules::Machine;
+
+// The answer is the definition's; the row of loaded values, which it has besides, is not returned.
+pub fn run(machine: Machine, file: &[u8], moves: &[Move]) -> Ran
+    ensures { λ r. ⌜ answerIn r (runBy (machineIn machine) (now (file .entry)) (verdict (now (file .entry)))
+        (movesOf (now (moves .entry))) .row)
+        ≡ runBy (machineIn machine) (now (file .entry)) (verdict (now (file .entry))) (movesOf (now (moves .entry))) ⌝ }
+{
+    let mut rows = no_rows();
+    let mut state = no_state();
+    let x = begin(machine, file, &mut rows, &mut state);
+    let y = run_moves(&rows, moves, x, &mut state);
+    finish(y, &state)
+}

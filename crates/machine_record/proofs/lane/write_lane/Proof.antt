@@ -1,0 +1,72 @@
+-- `machine_record::lane::write_lane` meets its contract: its parts one after the other.
+use mathlib.Core.Path.{ap}
+use mathlib.Core.List.{_++_}
+use native.Mathlib.Omega.{arith}
+use Rattle.sheet_format.specs.Bytes.{word}
+use Rattle.sheet_format.proofs.Laws.Put.{puts-on, puts-as, puts-length}
+use Rattle.machine_record.specs.Lanes.{stateLane}
+use Rattle.sheet_format.specs.Put.{inTurn}
+use borrow.Author.Needs.{needs}
+use Rattle.machine_record.proofs.lane.write_lane.Statement.{statement}
+use Rattle.machine_record.proofs.lane.write_lane.Tie as tie
+
+cast-put-words : tie.Need-cast-put-words
+cast-put-words c = search needs
+
+count-requires : tie.Need-count-requires
+count-requires c κs = search needs
+
+put-words-requires : tie.Need-put-words-requires
+put-words-requires c κs = search needs
+
+slice-aggregate-put-table : tie.Need-slice-aggregate-put-table
+slice-aggregate-put-table c = search needs
+
+put-table-requires : tie.Need-put-table-requires
+put-table-requires c κs = search needs
+
+cast-write-entries : tie.Need-cast-write-entries
+cast-write-entries c = search needs
+
+write-entries-requires : tie.Need-write-entries-requires
+unfolding inTurn
+write-entries-requires c κs =
+    let p = c .before .before .before .before in
+    let w = p .before .before .before .before .before in
+    let s = w .before .before .before .before .before .before .before .before in (
+      omega (
+        arith,
+        s .pre .0,
+        w .put-words .ensures .behind,
+        p .put-table .ensures .behind,
+        puts-length (w .put-words .ensures),
+        puts-length (p .put-table .ensures),
+      ),
+      s .pre .1,
+    )
+
+same-length : tie.Need-same-length
+same-length c = search needs
+
+returns : tie.Need-returns
+unfolding stateLane
+returns c =
+    let p = c .before .before .before .before .before .before .before in
+    let w = p .before .before .before .before .before in
+    let head = puts-as (ap (λ n. word (w .before .before .before .before .before .before .before .before .args .lane
+    .at) ++ word n) (w .before .count .ensures .0)) (w .put-words .ensures) in
+    puts-on (puts-on head (p .put-table .ensures)) (c .before .before .write-entries .ensures)
+
+pub write-lane-spec : {M : Type 1} → statement M
+write-lane-spec =
+    tie.close
+    (tie.spec
+    cast-put-words
+    count-requires
+    put-words-requires
+    slice-aggregate-put-table
+    put-table-requires
+    cast-write-entries
+    write-entries-requires
+    same-length
+    returns)

@@ -1,0 +1,5 @@
+-- Laws: Runs a schedule's moves.
+-- Laws by subject.
+pub mod Runs
+pub mod Legal
+pub mod Ended

@@ -1,0 +1,3 @@
+-- Proofs of the crate: Laws.
+-- Laws of the tests of a run.
+pub mod Laws

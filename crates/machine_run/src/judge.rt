@@ -1,0 +1,66 @@
+// Tests of a run: whether refusal 10 lets its schedule through, and whether every lane stands at its end.
+ghost use mathlib.Core.Path.{_≡_};
+ghost use mathlib.Core.Bool.{_&&_};
+ghost use mathlib.Core.List.{List};
+ghost use Prim.Native.Nat.{_≤_};
+ghost use lib.Dec.{leb, ltb};
+ghost use Rattle.sheet_format.specs.Layout.{Instr};
+ghost use Rattle.machine_spec.specs.Schedule.{legal, limit};
+ghost use Rattle.machine_spec.specs.View.{finished};
+ghost use Rattle.machine_spec.specs.Moves.{movesIn};
+ghost use Rattle.machine_state.specs.Machines.{machineIn};
+ghost use Rattle.machine_state.specs.States.{countOf, stateIn, Sized};
+ghost use Rattle.machine_run.specs.Counts.{Counts};
+use machine_state::held::position;
+use machine_state::rules::Machine;
+use machine_state::state::State;
+use sheet_rows::number::wide;
+
+// Whether a move names a lane below n and a choice up to the limit.
+pub fn legal_move(lane: u8, choice: u8, n: usize, limit: u8) -> bool
+    ensures { λ r. ⌜ r ≡ (ltb lane n && leb choice limit) ⌝ }
+{
+    ((lane as usize) < n) & (choice <= limit)
+}
+
+// The highest choice of a move on a machine.
+pub fn limit_of(machine: Machine) -> u8
+    ensures { λ r. ⌜ r ≡ limit (machineIn machine) ⌝ }
+{
+    match machine {
+        Machine::Source => 64,
+        Machine::Tso => 1,
+    }
+}
+
+// Whether each move names a lane below n and a choice up to the limit. A move is two bytes, lane first. With no early
+// return the loop is compiled to work on many moves at once.
+pub fn legal_moves(moves: &[u8], n: usize, limit: u8) -> bool
+    ensures { λ r. ⌜ r ≡ legal n limit (movesIn (now (moves .entry))) ⌝ }
+{
+    let pairs = moves.len() / 2;
+    let mut legal = true;
+    let mut k = 0;
+    while k < pairs {
+        legal = legal & legal_move(moves[2 * k], moves[2 * k + 1], n, limit);
+        k += 1;
+    }
+    legal
+}
+
+// Whether each lane stands at its end; the program of lane t has count[t] instructions.
+pub fn ended(state: &State, count: &[usize; 4]) -> bool
+    requires { ⌜ Sized (now state) × (countOf (now state) 0 ≤ 4) ⌝ }
+    ensures { λ r. ⌜ ((prog : List (List Instr)) → Counts (countOf (now (state .entry)) 0) (now (count .entry)) prog
+        → r ≡ finished prog (stateIn (now (state .entry)))) ⌝ }
+{
+    let n = wide(state[4][2][0]);
+    let mut t = 0;
+    while t < n {
+        if wide(position(state, t)) < count[t] {
+            return false;
+        }
+        t += 1;
+    }
+    true
+}

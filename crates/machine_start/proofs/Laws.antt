@@ -1,0 +1,5 @@
+-- Laws by subject.
+pub mod Programs
+pub mod Start
+pub mod Runs
+pub mod Files

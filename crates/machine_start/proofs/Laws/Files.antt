@@ -1,0 +1,46 @@
+-- Laws of a machine's program from a kernel file: what its answer says of the file, and that its runs are no refusals.
+use Prim.Native.Nat.{ℕ, _≤_}
+use mathlib.Core.Path.{_≡_, refl}
+use mathlib.Core.Bool.{true}
+use mathlib.Core.List.{List}
+use native.Mathlib.Omega.{arith}
+use lib.ListN.{length}
+use Rattle.file_format.specs.Accepted.{Program}
+use Rattle.file_format.specs.Lawful.{Lawful}
+use Rattle.file_verdict.specs.Verdict.{verdict, refused as refusing, accepted}
+use Rattle.sheet_format.specs.declared.Lowered.the-variants.{Wrote, Refuses}
+use Rattle.sheet_format.proofs.Answers.{BytesIn, refuses-by, wrote-by}
+use Rattle.sheet_format.proofs.Sizes.{sheet2-small}
+use Rattle.file_rows.proofs.ChainsBack.{chains-small}
+use Rattle.machine_spec.specs.Rules.{Machine}
+use Rattle.machine_spec.specs.Schedule.{Move, limit, legal}
+use Rattle.machine_spec.specs.State.{Outcome, ran, refused}
+use Rattle.machine_spec.specs.Run.{answerOf, startOf, programFor, runOn, runProgram}
+use Rattle.machine_state.specs.declared.rules.Machine.{Machine as Coded}
+use Rattle.machine_state.specs.declared.rules.Machine.the-variants.{Source, Tso}
+use Rattle.machine_state.specs.Machines.{machineIn}
+use Rattle.machine_start.specs.Programs.{programBytes, programBy}
+use Rattle.machine_start.proofs.Answered.{not-refused}
+
+-- a legal schedule's run is no refusal
+pub ran-number : (s : List ℕ) (k : Program) → verdict s ≡ accepted k → (m : Machine) (mvs : List Move)
+    → legal (length (k .lanes)) (limit m) mvs ≡ true → runProgram m k mvs .number ≡ 0
+ran-number s k e m mvs le = rw le (go (runOn m k mvs) refl)
+  where
+    go : (o : Outcome) → runOn m k mvs ≡ o → answerOf (programFor m k) (k .records) (startOf k) o .number ≡ 0
+    go (ran r) h = refl
+    go (refused t p) h = absurd (not-refused s k e m mvs le t p h)
+
+program-small : (m : Coded) (k : Program) → Lawful k → length (programBytes (machineIn m) k) ≤ 4112
+program-small Source k w = omega (arith, chains-small k w)
+program-small Tso k w = sheet2-small k w
+
+-- a machine's program, in a buffer that takes every program
+module _ (m : Coded) (s own : List ℕ) (big : 4112 ≤ length own) where
+  pub file-verdict : {n r : ℕ} {after : List ℕ} → (Refuses n r, after) ≡ programBy (machineIn m) (verdict s) own
+      → verdict s ≡ refusing n r
+  file-verdict = refuses-by (programBytes (machineIn m)) 4112 (program-small m) s own big
+
+  pub file-accepted : {n : ℕ} {after : List ℕ} → (Wrote n, after) ≡ programBy (machineIn m) (verdict s) own
+      → BytesIn (programBytes (machineIn m)) s own after
+  file-accepted = wrote-by (programBytes (machineIn m)) 4112 (program-small m) s own big

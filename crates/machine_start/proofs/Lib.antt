@@ -1,0 +1,8 @@
+-- The schedules that the code of `running` can run: Named what a legal schedule names, Ranges the operands of a
+-- machine's instructions, Answered what is known of a run's end, Reached the lanes that its moves find ready.
+-- Laws of runs from the rows of a program.
+pub mod Named
+pub mod Ranges
+pub mod Answered
+pub mod Reached
+pub mod Laws

@@ -1,0 +1,56 @@
+-- `machine_start::program::program_of` meets its contract.
+use mathlib.Core.Path.{sym, ap, _∙_}
+use Rattle.file_verdict.specs.Verdict.{verdict}
+use Rattle.machine_state.specs.declared.rules.Machine.{Machine}
+use Rattle.machine_state.specs.Machines.{machineIn}
+use Rattle.machine_start.specs.Programs.{programBy}
+use borrow.Author.Needs.{needs}
+use Rattle.machine_start.proofs.program.program_of.Statement.{statement}
+use Rattle.machine_start.proofs.program.program_of.Tie as tie
+
+enum-told : tie.Need-enum-told
+enum-told c = search needs
+
+chain-file-requires : tie.Need-chain-file-requires
+chain-file-requires c κs = search needs
+
+enum-told-2 : tie.Need-enum-told-2
+enum-told-2 c = search needs
+
+lower2-requires : tie.Need-lower2-requires
+lower2-requires c κs = search needs
+
+same-length : tie.Need-same-length
+same-length c = search needs
+
+returns : tie.Need-returns
+returns c =
+    let t = c .before .before .before .before in
+    let a = t .before .before .before .before .args in
+    c .before .before .chain-file .ensures
+    ∙ ap (λ (m : Machine). programBy (machineIn m) (verdict (a .file .now)) (a .rows .now))
+    (sym (t .enum-told .given .1))
+
+same-length-2 : tie.Need-same-length-2
+same-length-2 c = search needs
+
+returns-2 : tie.Need-returns-2
+returns-2 c =
+    let t = c .before .before .before .before in
+    let a = t .before .before .before .before .args in
+    c .before .before .lower2 .ensures
+    ∙ ap (λ (m : Machine). programBy (machineIn m) (verdict (a .file .now)) (a .rows .now))
+    (sym (t .enum-told2 .given .1))
+
+pub program-of-spec : {M : Type 1} → statement M
+program-of-spec =
+    tie.close
+    (tie.spec
+    enum-told
+    chain-file-requires
+    enum-told-2
+    lower2-requires
+    same-length
+    returns
+    same-length-2
+    returns-2)

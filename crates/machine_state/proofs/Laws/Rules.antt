@@ -1,0 +1,53 @@
+-- Laws of the rules: the oldest entry commits on both machines, what a younger one needs, what a test said.
+use Prim.Native.Nat.{ℕ, zero, suc, _<_}
+use mathlib.Core.Path.{_≡_, refl, ap, sym, _∙_}
+use mathlib.Core.Bool.{Bool, true, false, not, cond}
+use mathlib.Core.List.{List, [], _∷_}
+use native.Mathlib.Omega.{arith}
+use borrow.Author.Tests.{not-true, not-false, ne-eqb}
+use lib.Dec.{eqb}
+use lib.ListN.{length, getD, take, length-take}
+use lib.Seq.{getD-take}
+use Rattle.machine_spec.specs.Entries.{Entry, isSync, isNil}
+use Rattle.machine_spec.specs.Rules.{mayCommit}
+use Rattle.machine_state.specs.declared.rules.Machine.{Machine}
+use Rattle.machine_state.specs.declared.rules.Machine.the-variants.{Source, Tso}
+use Rattle.machine_lane.specs.Lanes.{entryOf, entriesOf, noEntry}
+use Rattle.machine_state.specs.States.{Held, rowAt, storedIn, laneOf}
+use Rattle.machine_state.specs.Machines.{machineIn}
+use Rattle.machine_lane.proofs.Laws.Entries.{entries-at}
+
+pub oldest-may : (m : Machine) (f : ℕ → Bool) (e : Entry) → true ≡ mayCommit (machineIn m) f [] e
+oldest-may Source f e = go (isSync f e)
+  where
+    go : (b : Bool) → true ≡ cond b true true
+    go true = refl
+    go false = refl
+oldest-may Tso f e = refl
+
+-- what is pending at an index
+pub pending-at : (s : Held) (t i : ℕ) → i < length (laneOf s t .pending)
+    → getD (laneOf s t .pending) i noEntry ≡ entryOf (getD (rowAt s t 1) i 0) (getD (rowAt s t 2) i 0)
+pending-at s t i h =
+    let n = storedIn (getD s t []) .len in
+    let es = entriesOf (rowAt s t 1) (rowAt s t 2) in
+    getD-take n es i noEntry (omega (arith, length-take n es))
+    ∙ entries-at (rowAt s t 1) (rowAt s t 2) i noEntry (omega (arith, length-take n es))
+
+-- nothing is pending exactly where the count is 0
+pub none-pending : (es : List Entry) → eqb (length es) 0 ≡ isNil es
+none-pending [] = refl
+none-pending (x ∷ es) = ne-eqb (suc (length es)) 0 (λ z. omega arith)
+
+-- with an older one before it
+pub some-older : (es : List Entry) (i : ℕ) → (i ≡ 0 → ⊥) → i < length es → isNil (take i es) ≡ false
+some-older es zero h k = absurd (h refl)
+some-older [] (suc i) h k = absurd (omega arith)
+some-older (x ∷ es) (suc i) h k = refl
+
+-- what the test of a rule says, whose answer was negated
+pub denied : {x y : Bool} → x ≡ y → not x ≡ true → y ≡ false
+denied {y = y} e h = not-true y (sym (ap not e) ∙ h)
+
+pub granted : {x y : Bool} → x ≡ y → not x ≡ false → y ≡ true
+granted {y = y} e h = not-false y (sym (ap not e) ∙ h)

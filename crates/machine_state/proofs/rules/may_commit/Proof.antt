@@ -1,0 +1,100 @@
+-- `machine_state::rules::may_commit` meets its contract.
+use mathlib.Core.Path.{_≡_, ap, sym, _∙_}
+use mathlib.Core.Bool.{not}
+use Prim.Native.Nat.{_<_}
+use native.Mathlib.Omega.{arith}
+use lib.ListN.{getD}
+use Rattle.machine_lane.specs.Lanes.{flags, noEntry}
+use Rattle.machine_state.specs.States.{rowAt, laneOf}
+use Rattle.machine_state.proofs.Laws.States.{pending-count}
+use Rattle.machine_state.proofs.Laws.Rules.{oldest-may, pending-at, some-older}
+use borrow.Author.Needs.{needs}
+use Rattle.machine_state.proofs.rules.may_commit.Statement.{statement}
+use Rattle.machine_state.proofs.rules.may_commit.Tie as tie
+
+returns : tie.Need-returns
+returns c =
+    let a = c .before .before .args in
+    let at-start : a .index ≡ 0 = c .if1 .taken in
+    rw at-start (oldest-may (a .machine) (flags (a .volatile .now))
+    (getD (laneOf (a .state .now) (a .t) .pending) 0 noEntry))
+
+enum-told : tie.Need-enum-told
+enum-told c = search needs
+
+mul-cell : tie.Need-mul-cell
+mul-cell c = search needs
+
+mul-cell-2 : tie.Need-mul-cell-2
+mul-cell-2 c =
+    let s = c .before .before .before .before in
+    let low : s .args .index < 64 =
+    omega (arith, pending-count (s .args .state .now) (s .args .t) (s .pre .0), s .pre .1) in
+    search needs
+
+index-1-cell : tie.Need-index-1-cell
+index-1-cell c = search needs
+
+index-2-cell : tie.Need-index-2-cell
+index-2-cell c = search needs
+
+index-3-cell : tie.Need-index-3-cell
+index-3-cell c =
+    let s = c .before .before .before .before in
+    omega (arith, pending-count (s .args .state .now) (s .args .t) (s .pre .0), s .pre .1)
+
+is-sync-requires : tie.Need-is-sync-requires
+is-sync-requires c κs = search needs
+
+has-older-requires : tie.Need-has-older-requires
+has-older-requires c κs = search needs
+
+enum-told-2 : tie.Need-enum-told-2
+enum-told-2 c = search needs
+
+returns-2 : tie.Need-returns-2
+returns-2 c =
+    let s = c .before .before .before .before .before .before .before in
+    let a = s .args in
+    let w = a .state .now in
+    let here = pending-at w (a .t) (a .index) (s .pre .1) in
+    let test = sym (c .before .is-sync .ensures (getD (rowAt w (a .t) 2) (a .index) 0)) ∙ c .if2 .taken in
+    rw (c .before .before .before .enum-told .given .1, here, test)
+    (sym (some-older (laneOf w (a .t) .pending) (a .index) (c .before .before .before .before .before .if1 .left)
+    (s .pre .1)))
+
+returns-3 : tie.Need-returns-3
+returns-3 c =
+    let c4 = c .before .before .before .before in
+    let s = c4 .before .before .before .before in
+    let a = s .args in
+    let w = a .state .now in
+    let here = pending-at w (a .t) (a .index) (s .pre .1) in
+    let test = sym (c .before .before .is-sync .ensures (getD (rowAt w (a .t) 2) (a .index) 0)) ∙ c .before .if2 .left
+    in
+    rw (c4 .enum-told .given .1, here, test) (ap not (c .has-older .ensures (getD (rowAt w (a .t) 2) (a .index) 0)))
+
+returns-4 : tie.Need-returns-4
+returns-4 c =
+    let s = c .before .before .before .before in
+    let a = s .args in
+    rw (c .enum-told2 .given .1)
+    (sym (some-older (laneOf (a .state .now) (a .t) .pending) (a .index) (c .before .before .if1 .left) (s .pre .1)))
+
+pub may-commit-spec : {M : Type 1} → statement M
+may-commit-spec =
+    tie.close
+    (tie.spec
+    returns
+    enum-told
+    mul-cell
+    mul-cell-2
+    index-1-cell
+    index-2-cell
+    index-3-cell
+    is-sync-requires
+    has-older-requires
+    enum-told-2
+    returns-2
+    returns-3
+    returns-4)

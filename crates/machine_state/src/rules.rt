@@ -1,0 +1,119 @@
+// The machines, and the functions that tell them apart.
+ghost use mathlib.Core.Path.{_≡_};
+ghost use Prim.Native.Nat.{_<_};
+ghost use lib.ListN.{length, getD, take};
+ghost use Rattle.machine_spec.specs.Rules.{mayCommit, sees, mayLoad, mayLock, mayPass};
+ghost use Rattle.machine_lane.specs.Lanes.{flags, noEntry};
+ghost use Rattle.machine_state.specs.States.{laneOf, Lies};
+ghost use Rattle.machine_state.specs.Machines.{machineIn};
+use crate::held::count;
+use crate::held::take;
+use crate::search::has_older;
+use crate::search::has_sync;
+use crate::state::State;
+use barrier_placement::cookbook::Barrier;
+use machine_lane::lane::is_sync;
+use machine_lane::lane::is_volatile;
+
+// The source machine runs the kernel, the tso machine the level 2 sheet.
+pub enum Machine {
+    Source,
+    Tso,
+}
+
+// May the entry at an index commit?
+pub fn may_commit(
+    machine: Machine,
+    volatile: &[bool],
+    state: &State,
+    t: usize,
+    index: usize,
+) -> bool
+    requires { ⌜ Lies (now state) t × (index < length (laneOf (now state) t .pending)) ⌝ }
+    ensures { λ r. ⌜ r ≡ mayCommit (machineIn machine) (flags (now (volatile .entry)))
+        (take index (laneOf (now (state .entry)) t .pending))
+        (getD (laneOf (now (state .entry)) t .pending) index noEntry) ⌝ }
+{
+    if index == 0 {
+        return true;
+    }
+    match machine {
+        Machine::Source => {
+            let cell = state[t][1][index];
+            if is_sync(volatile, cell) {
+                false
+            } else {
+                !has_older(state, t, index, cell)
+            }
+        }
+        Machine::Tso => false,
+    }
+}
+
+// The value that a LOAD of location x takes, m being the memory's.
+pub fn sees(machine: Machine, volatile: &[bool], state: &State, t: usize, x: u32, m: u32) -> u32
+    requires { ⌜ Lies (now state) t × (x < 16) ⌝ }
+    ensures { λ r. ⌜ r ≡ sees (machineIn machine) (flags (now (volatile .entry)))
+        (laneOf (now (state .entry)) t .pending) x m ⌝ }
+{
+    match machine {
+        Machine::Source => {
+            if is_volatile(volatile, x) {
+                m
+            } else {
+                let found = take(state, t).newest(x, m);
+                found.value
+            }
+        }
+        Machine::Tso => {
+            let found = take(state, t).newest(x, m);
+            found.value
+        }
+    }
+}
+
+// May a LOAD of location x be carried out?
+pub fn may_load(machine: Machine, volatile: &[bool], state: &State, t: usize, x: u32) -> bool
+    requires { ⌜ Lies (now state) t ⌝ }
+    ensures { λ r. ⌜ r ≡ mayLoad (machineIn machine) (flags (now (volatile .entry)))
+        (laneOf (now (state .entry)) t .pending) x ⌝ }
+{
+    match machine {
+        Machine::Source => {
+            if is_volatile(volatile, x) {
+                !has_sync(volatile, state, t)
+            } else {
+                true
+            }
+        }
+        Machine::Tso => true,
+    }
+}
+
+// May a LOCK of a free lock be carried out?
+pub fn may_lock(machine: Machine, volatile: &[bool], state: &State, t: usize) -> bool
+    requires { ⌜ Lies (now state) t ⌝ }
+    ensures { λ r. ⌜ r ≡ mayLock (machineIn machine) (flags (now (volatile .entry)))
+        (laneOf (now (state .entry)) t .pending) ⌝ }
+{
+    match machine {
+        Machine::Source => !has_sync(volatile, state, t),
+        Machine::Tso => count(state, t) == 0,
+    }
+}
+
+// May a barrier be passed?
+pub fn may_pass(machine: Machine, barrier: Barrier, state: &State, t: usize) -> bool
+    requires { ⌜ Lies (now state) t ⌝ }
+    ensures { λ r. ⌜ r ≡ mayPass (machineIn machine) barrier (laneOf (now (state .entry)) t .pending) ⌝ }
+{
+    match machine {
+        Machine::Source => true,
+        Machine::Tso => match barrier {
+            Barrier::LL => true,
+            Barrier::LS => true,
+            Barrier::SS => true,
+            Barrier::SL => count(state, t) == 0,
+        },
+    }
+}

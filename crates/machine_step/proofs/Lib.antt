@@ -1,0 +1,3 @@
+-- Laws of moves of a lane.
+-- Proofs of the crate: Laws.
+pub mod Laws

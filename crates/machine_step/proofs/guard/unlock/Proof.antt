@@ -1,0 +1,69 @@
+-- `machine_step::guard::unlock` meets its contract.
+use mathlib.Core.Path.{refl, ap, sym, _∙_}
+use mathlib.Core.Option.{some}
+use native.Mathlib.Numerals.{add-one}
+use borrow.Author.Tests.{eq-eqb, ne-eqb}
+use Rattle.machine_spec.specs.Entries.{appendEntry}
+use Rattle.machine_state.specs.States.{laneOf}
+use Rattle.machine_lane.proofs.Laws.Lanes.{lane-eq}
+use Rattle.machine_state.proofs.Laws.States.{became}
+use Rattle.machine_step.proofs.Laws.Turns.{kept, took-refusal, took-does, release-of, next-of}
+use borrow.Author.Needs.{needs}
+use Rattle.machine_step.proofs.guard.unlock.Statement.{statement}
+use Rattle.machine_step.proofs.guard.unlock.Tie as tie
+
+lock-at-requires : tie.Need-lock-at-requires
+lock-at-requires c κs = search needs
+
+cast-if1 : tie.Need-cast-if1
+cast-if1 c = search needs
+
+add-if1 : tie.Need-add-if1
+add-if1 c = search needs
+
+returns : tie.Need-returns
+returns c =
+    let s = c .before .before .before in
+    let a = s .args in
+    let w = a .state .now in
+    let h = s .pre .lies .sized in
+    let test = ne-eqb _ _ (λ e. c .if1 .taken (c .before .lock-at .ensures ∙ e ∙ sym (add-one (a .t)))) in
+    λ m f. rw test (took-refusal w (a .t) h)
+
+position-requires : tie.Need-position-requires
+position-requires c κs = search needs
+
+add-next : tie.Need-add-next
+add-next c = search needs
+
+add-issue : tie.Need-add-issue
+add-issue c = search needs
+
+issue-requires : tie.Need-issue-requires
+issue-requires c κs = search needs
+
+returns-2 : tie.Need-returns-2
+returns-2 c =
+    let s = c .before .before .before .before .before .before .before in
+    let a = s .args in
+    let w = a .state .now in
+    let h = s .pre .lies .sized in
+    let c4 = c .before .before .before .before in
+    let test = eq-eqb _ _ (sym (c4 .before .lock-at .ensures) ∙ c4 .if1 .left ∙ add-one (a .t)) in
+    λ m f. rw test (took-does w w _ (a .t) _ _ (kept w h)
+    (became (lane-eq (next-of (c .before .before .position .ensures)) refl
+    (ap (λ e. appendEntry (laneOf w (a .t) .pending) (some e)) (release-of (a .l) 0))) (c .issue .ensures)) _)
+
+pub unlock-spec : {M : Type 1} → statement M
+unlock-spec =
+    tie.close
+    (tie.spec
+    lock-at-requires
+    cast-if1
+    add-if1
+    returns
+    position-requires
+    add-next
+    add-issue
+    issue-requires
+    returns-2)

@@ -1,0 +1,51 @@
+-- A turn of lane t on the borrowed state, and what the code answers.
+use Prim.Native.Nat.{ℕ, suc}
+use mathlib.Core.Path.{_≡_}
+use mathlib.Core.Bool.{Bool}
+use mathlib.Core.List.{List}
+use mathlib.Core.Option.{Option, some}
+use lib.ListN.{getElem?}
+use Rattle.sheet_format.specs.Layout.{Instr}
+use Rattle.machine_spec.specs.Step.{Turn, waits, refuses, passes, does, execute, commit, turn}
+use Rattle.machine_spec.specs.State.{State, setLane}
+use Rattle.machine_state.specs.declared.rules.Machine.{Machine as Coded}
+use Rattle.machine_state.specs.declared.state.Moved.{Moved}
+use Rattle.machine_state.specs.declared.state.Moved.the-variants.{Waited, Done, ReleaseNotHeld}
+use Rattle.machine_state.specs.Machines.{machineIn}
+use Rattle.machine_state.specs.States.{Held, laneOf, coreIn, countOf, stateIn, Sized}
+
+-- it carries out an instruction
+abbrev pub carries : Coded → (ℕ → Bool) → Held → ℕ → Option Instr → Turn
+carries m vol s t i = execute (machineIn m) vol (suc t) (laneOf s t .control) (coreIn s t) i
+
+-- it commits the entry that has i older ones
+abbrev pub commits : Coded → (ℕ → Bool) → Held → ℕ → ℕ → Turn
+commits m vol s t i =
+    commit (machineIn m) vol (laneOf s t .control) (coreIn s t) i (getElem? (laneOf s t .pending) i)
+
+-- it makes choice k of its program
+abbrev pub turns : Coded → (ℕ → Bool) → List Instr → Held → ℕ → ℕ → Turn
+turns m vol prog s t k = turn (machineIn m) vol (suc t) prog (laneOf s t .control) (coreIn s t) k
+
+abbrev pub movedBy : Turn → Moved
+movedBy waits = Waited
+movedBy refuses = ReleaseNotHeld
+movedBy (passes k c) = Done
+movedBy (does k c v) = Done
+
+abbrev pub stateBy : State → ℕ → Turn → State
+stateBy s t waits = s
+stateBy s t refuses = s
+stateBy s t (passes k c) = setLane s t k c
+stateBy s t (does k c v) = setLane s t k c
+
+-- the turn u of lane t was answered with q and took s to e
+pub record Took (s : Held) (t : ℕ) (u : Turn) (q : Moved) (e : Held) : Type 0 where
+  pub answer : q ≡ movedBy u
+  pub sized : Sized e
+  pub lanes : countOf e 0 ≡ countOf s 0
+  pub state : stateIn e ≡ stateBy (stateIn s) t u
+
+-- lane t had the instruction i to carry out
+abbrev pub Carried : Coded → (ℕ → Bool) → Instr → ℕ → Held → Moved → Held → Type 0
+Carried m vol i t s q e = Took s t (carries m vol s t (some i)) q e

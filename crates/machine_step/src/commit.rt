@@ -1,0 +1,52 @@
+// A lane's commit of a pending entry.
+ghost use Rattle.machine_spec.specs.Step.{landed, freed};
+ghost use Rattle.machine_lane.specs.Lanes.{flags, entryOf};
+ghost use Rattle.machine_state.specs.States.{stateIn, Sized, Lies, Shared};
+ghost use Rattle.machine_step.specs.Turns.{commits, Took};
+use machine_state::held::count;
+use machine_state::held::put_list;
+use machine_state::held::take;
+use machine_state::rules::Machine;
+use machine_state::rules::may_commit;
+use machine_state::shared::set_lock;
+use machine_state::shared::set_memory;
+use machine_state::state::Moved;
+use machine_state::state::State;
+
+// An entry's value reaches memory, or its lock is free.
+fn settle(cell: u32, value: u32, state: &mut State)
+    requires { ⌜ Sized (now state) ⌝ }
+    ensures { λ _. ⌜ Shared (now (state .entry))
+        (landed (stateIn (now (state .entry)) .memory) (entryOf cell value))
+        (freed (stateIn (now (state .entry)) .locks) (entryOf cell value)) (now (state .exit)) ⌝ }
+{
+    if cell < 16 {
+        set_memory(cell, value, state);
+    } else {
+        set_lock(cell - 16, 0, state);
+    }
+}
+
+// The entry at an index, where there is one and it may commit.
+pub fn commit(
+    machine: Machine,
+    volatile: &[bool],
+    index: usize,
+    t: usize,
+    state: &mut State,
+) -> Moved
+    requires { ⌜ Lies (now state) t ⌝ }
+    ensures { λ r. ⌜ Took (now (state .entry)) t
+        (commits machine (flags (now (volatile .entry))) (now (state .entry)) t index) r (now (state .exit)) ⌝ }
+{
+    if index >= count(state, t) {
+        return Moved::Waited;
+    }
+    if !may_commit(machine, volatile, state, t, index) {
+        return Moved::Waited;
+    }
+    let own = take(state, t);
+    settle(state[t][1][index], state[t][2][index], state);
+    put_list(own.commit(index), t, state);
+    Moved::Done
+}

@@ -1,2 +1,0 @@
--- Laws of moves on borrowed rows.
-pub mod Laws

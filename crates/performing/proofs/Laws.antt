@@ -1,3 +1,0 @@
--- Laws by subject.
-pub mod Codes
-pub mod Commits

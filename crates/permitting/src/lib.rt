@@ -1,2 +1,0 @@
-// What the machines permit a lane with pending stores.
-pub mod rules;

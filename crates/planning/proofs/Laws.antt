@@ -1,4 +1,0 @@
--- Laws by subject.
-pub mod Lane
-pub mod Plan
-pub mod Rows

@@ -1,2 +1,0 @@
--- Laws of lanes that are planned and written.
-pub mod Laws

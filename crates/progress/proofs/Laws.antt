@@ -1,6 +1,0 @@
--- Laws by subject.
-pub mod Arrays
-pub mod Follows
-pub mod Fresh
-pub mod Ready
-pub mod Turned

@@ -1,2 +1,0 @@
--- Laws of a run so far.
-pub mod Laws

@@ -1,2 +1,0 @@
--- What is proved of schedules as text: small laws.
-pub mod Laws

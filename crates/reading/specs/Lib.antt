@@ -1,3 +1,0 @@
--- A schedule as text.
-pub mod Text
-pub mod Examples

@@ -1,4 +1,0 @@
--- Laws by subject.
-pub mod Proper
-pub mod Lower
-pub mod Through

@@ -1,5 +1,0 @@
-// The text of a state record.
-mod lane;
-mod states;
-
-pub use states::tell_state;

@@ -1,6 +1,0 @@
--- Laws by subject.
-pub mod Fits
-pub mod Read
-pub mod Lanes
-pub mod Parts
-pub mod Filled

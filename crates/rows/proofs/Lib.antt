@@ -1,2 +1,0 @@
--- Laws of rows in code.
-pub mod Laws

@@ -1,5 +1,0 @@
--- Rows: the fields of an instruction, and where the rows of each lane lie; Lanes: a lane's operations as rows;
--- Filled: an array of positions.
-pub mod Rows
-pub mod Lanes
-pub mod Filled

@@ -1,2 +1,0 @@
--- Laws of schedules over rows.
-pub mod Laws

@@ -1,0 +1,169 @@
+-- What an answer tells of the file, where the buffer takes the bytes of every kernel, and how small a refusal is.
+use Prim.Native.Nat.{ℕ, _≤_}
+use mathlib.Core.Path.{_≡_, refl, sym, ap, ap₂, _∙_, subst}
+use mathlib.Core.Bool.{Bool, true, false, cond}
+use mathlib.Core.List.{List}
+use native.Mathlib.Omega.{arith}
+use lib.Dec.{eqb, ltb}
+use lib.ListN.{length}
+use Rattle.file_format.specs.Accepted.{Program, programOf}
+use Rattle.file_format.specs.Lawful.{Lawful}
+use Rattle.file_verdict.specs.Verdict.{Verdict, refused, accepted, verdict, refusalOf, numberOf, recordOf}
+use Rattle.file_wellformed.proofs.Lawful.{accepted-lawful}
+use Rattle.file_wellformed.proofs.Named.{number-small, record-named}
+use Rattle.sheet_format.specs.declared.Lowered.{Lowered}
+use Rattle.sheet_format.specs.declared.Lowered.the-variants.{Wrote, Refuses}
+use Rattle.sheet_format.specs.Levels.{Level}
+use Rattle.sheet_format.specs.Bytes.{sheetBytes, over, answerBy, lowerBy}
+use Rattle.sheet_format.proofs.Laws.Written.{written-all}
+use Rattle.sheet_format.proofs.Sizes.{sheet-small}
+
+-- the number and the record of a refusal, and which of the two an answer is
+abbrev pub numberIn : Lowered → ℕ
+numberIn (Wrote n) = 0
+numberIn (Refuses n r) = n
+
+abbrev recordIn : Lowered → ℕ
+recordIn (Wrote n) = 0
+recordIn (Refuses n r) = r
+
+abbrev pub kindOf : Lowered → ℕ
+kindOf (Wrote n) = 0
+kindOf (Refuses n r) = 1
+
+-- the file is accepted, and its kernel's bytes stand at the front of the buffer
+pub record BytesIn (bytes : Program → List ℕ) (s own after : List ℕ) : Type 0 where
+  pub kernel : Program
+  pub accepts : verdict s ≡ accepted kernel
+  pub front : after ≡ over (bytes kernel) own
+
+-- in a buffer of whatever length: bytes were written, or the file is refused, but for 9
+module _ (bytes : Program → List ℕ) (s own : List ℕ) where
+  -- what is answered to an accepted file, by whether the buffer is too short
+  abbrev outcome : Program → Bool → Lowered × List ℕ
+  outcome k b = cond b (Refuses 9 0, own) (Wrote (length (bytes k)), over (bytes k) own)
+
+  pub wrote-any : {n : ℕ} {after : List ℕ} → (Wrote n, after) ≡ answerBy bytes (verdict s) own
+      → BytesIn bytes s own after
+  wrote-any {n} {after} p = go (verdict s) refl p
+    where
+      by : (k : Program) (b : Bool) → _≡_ {A = Lowered × List ℕ} (Wrote n, after) (outcome k b)
+          → after ≡ over (bytes k) own
+      by k true x =
+          let clash : _≡_ {A = ℕ} 0 1 = ap (λ (z : Lowered × List ℕ). kindOf (z .0)) x in
+          absurd (omega arith)
+      by k false x = ap (λ (z : Lowered × List ℕ). z .1) x
+
+      go : (v : Verdict) → verdict s ≡ v → (Wrote n, after) ≡ answerBy bytes v own → BytesIn bytes s own after
+      go (refused m q) e x =
+          let clash : _≡_ {A = ℕ} 0 1 = ap (λ (z : Lowered × List ℕ). kindOf (z .0)) x in
+          absurd (omega arith)
+      go (accepted k) e x =
+          record { kernel = k; accepts = e; front = by k (ltb (length own) (length (bytes k))) x }
+
+  pub refuses-any : {n r : ℕ} {after : List ℕ} → (n ≡ 9 → ⊥) → (Refuses n r, after) ≡ answerBy bytes (verdict s) own
+      → verdict s ≡ refused n r
+  refuses-any {n} {r} {after} other p = go (verdict s) refl p
+    where
+      by : (k : Program) (b : Bool)
+          → _≡_ {A = Lowered × List ℕ} (Refuses n r, after) (outcome k b) → ⊥
+      by k true x = other (ap (λ (z : Lowered × List ℕ). numberIn (z .0)) x)
+      by k false x =
+          let clash : _≡_ {A = ℕ} 1 0 = ap (λ (z : Lowered × List ℕ). kindOf (z .0)) x in
+          absurd (omega arith)
+
+      go : (v : Verdict) → verdict s ≡ v → (Refuses n r, after) ≡ answerBy bytes v own → verdict s ≡ refused n r
+      go (refused m q) e x =
+          e
+          ∙ ap₂ refused (ap (λ (z : Lowered × List ℕ). numberIn (z .0)) (sym x))
+          (ap (λ (z : Lowered × List ℕ). recordIn (z .0)) (sym x))
+      go (accepted k) e x = absurd (by k (ltb (length own) (length (bytes k))) x)
+
+  -- a refusal leaves the buffer
+  pub refuses-left : {n r : ℕ} {after : List ℕ} → (Refuses n r, after) ≡ answerBy bytes (verdict s) own → after ≡ own
+  refuses-left {n} {r} {after} = go (verdict s)
+    where
+      by : (k : Program) (b : Bool) → _≡_ {A = Lowered × List ℕ} (Refuses n r, after) (outcome k b) → after ≡ own
+      by k true x = ap (λ (z : Lowered × List ℕ). z .1) x
+      by k false x =
+          let clash : _≡_ {A = ℕ} 1 0 = ap (λ (z : Lowered × List ℕ). kindOf (z .0)) x in
+          absurd (omega arith)
+
+      go : (v : Verdict) → (Refuses n r, after) ≡ answerBy bytes v own → after ≡ own
+      go (refused m q) x = ap (λ (z : Lowered × List ℕ). z .1) x
+      go (accepted k) x = by k (ltb (length own) (length (bytes k))) x
+
+-- in a buffer that takes the bytes of every kernel
+module _
+    (bytes : Program → List ℕ) (size : ℕ) (small : (k : Program) → Lawful k → length (bytes k) ≤ size)
+    (s own : List ℕ) (big : size ≤ length own) where
+  written-by : (k : Program) → verdict s ≡ accepted k
+      → answerBy bytes (accepted k) own ≡ (Wrote (length (bytes k)), over (bytes k) own)
+  written-by k e = written-all (bytes k) own (omega (arith, small k (accepted-lawful s k e)))
+
+  pub refuses-by : {n r : ℕ} {after : List ℕ} → (Refuses n r, after) ≡ answerBy bytes (verdict s) own
+      → verdict s ≡ refused n r
+  refuses-by {n} {r} {after} p = go (verdict s) refl p
+    where
+      go : (v : Verdict) → verdict s ≡ v → (Refuses n r, after) ≡ answerBy bytes v own → verdict s ≡ refused n r
+      go (refused m q) e x =
+          e
+          ∙ ap₂ refused (ap (λ (z : Lowered × List ℕ). numberIn (z .0)) (sym x))
+          (ap (λ (z : Lowered × List ℕ). recordIn (z .0)) (sym x))
+      go (accepted k) e x =
+          let clash : _≡_ {A = ℕ} 1 0 = ap (λ (z : Lowered × List ℕ). kindOf (z .0)) (x ∙ written-by k e) in
+          absurd (omega arith)
+
+  pub wrote-by : {n : ℕ} {after : List ℕ} → (Wrote n, after) ≡ answerBy bytes (verdict s) own
+      → BytesIn bytes s own after
+  wrote-by = wrote-any bytes s own
+
+-- a buffer of 10,256 bytes takes every sheet
+module _ (l : Level) (s own : List ℕ) (big : 10256 ≤ length own) where
+  pub refuses-as : {n r : ℕ} {after : List ℕ} → (Refuses n r, after) ≡ lowerBy l (verdict s) own
+      → verdict s ≡ refused n r
+  refuses-as = refuses-by (sheetBytes l) 10256 (sheet-small l) s own big
+
+  pub wrote-as : {n : ℕ} {after : List ℕ} → (Wrote n, after) ≡ lowerBy l (verdict s) own
+      → BytesIn (sheetBytes l) s own after
+  wrote-as = wrote-by (sheetBytes l) 10256 (sheet-small l) s own big
+
+-- ## the number and the record of a refusal are small
+
+abbrev numberBy : Verdict → ℕ
+numberBy (refused n r) = n
+numberBy (accepted k) = 0
+
+abbrev recordBy : Verdict → ℕ
+recordBy (refused n r) = r
+recordBy (accepted k) = 0
+
+refused-small : (s : List ℕ) → (numberBy (verdict s) ≤ 8) × (recordBy (verdict s) ≤ 256)
+refused-small s = go (eqb (numberOf (refusalOf s)) 0)
+  where
+    by : Bool → Verdict
+    by b = cond b (accepted (programOf s)) (refused (numberOf (refusalOf s)) (recordOf (refusalOf s)))
+
+    go : (b : Bool) → (numberBy (by b) ≤ 8) × (recordBy (by b) ≤ 256)
+    go true = (omega arith, omega arith)
+    go false = (number-small s, record-named s)
+
+module _ (bytes : Program → List ℕ) (s buffer : List ℕ) where
+  answer-by : (v : Verdict) → numberBy v ≤ 8 → recordBy v ≤ 256
+      → (numberIn (answerBy bytes v buffer .0) ≤ 9) × (recordIn (answerBy bytes v buffer .0) ≤ 256)
+  answer-by (refused n r) hn hr = (omega arith, hr)
+  answer-by (accepted k) hn hr = go (ltb (length buffer) (length (bytes k)))
+    where
+      by : Bool → Lowered × List ℕ
+      by b = cond b (Refuses 9 0, buffer) (Wrote (length (bytes k)), over (bytes k) buffer)
+
+      go : (b : Bool) → (numberIn (by b .0) ≤ 9) × (recordIn (by b .0) ≤ 256)
+      go true = (omega arith, omega arith)
+      go false = (omega arith, omega arith)
+
+  pub answer-small : {n r : ℕ} {after : List ℕ} → (Refuses n r, after) ≡ answerBy bytes (verdict s) buffer
+      → (n ≤ 9) × (r ≤ 256)
+  answer-small {n} {r} {after} p =
+      let v = refused-small s in
+      subst (λ (z : Lowered × List ℕ). (numberIn (z .0) ≤ 9) × (recordIn (z .0) ≤ 256)) (sym p)
+      (answer-by (verdict s) (v .0) (v .1))

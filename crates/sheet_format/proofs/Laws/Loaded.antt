@@ -1,0 +1,128 @@
+-- Laws of a file: what a refusal answers; of a file with a valid header its lanes, and its header and lanes together.
+use Prim.Native.Nat.{ℕ, _+_, _*_, _≤_, _<_}
+use mathlib.Core.Path.{_≡_, refl, sym, ap, _∙_}
+use mathlib.Core.Bool.{true}
+use mathlib.Core.List.{List, [], _∷_, _++_, map, map-map}
+use native.Mathlib.Omega.{arith}
+use borrow.Author.Tests.{ne-eqb}
+use lib.ListN.{length, getD, List·getD-map}
+use lib.Seq.{sets}
+use Rattle.file_format.specs.declared.accepted.Op.{Op}
+use Rattle.file_format.specs.Fields.{laneCount, locations, locks, mask, head}
+use Rattle.file_format.specs.Rules.{headerRule}
+use Rattle.file_format.specs.Accepted.{Program, programOf, opsAt}
+use Rattle.file_format.proofs.Laws.Lanes.{lane-ops}
+use Rattle.file_format.proofs.Laws.Rules.{four-lanes}
+use Rattle.file_format.proofs.Laws.Stored.{lane-count}
+use Rattle.file_verdict.specs.Verdict.{verdict, accepted, refusalOf, numberOf, recordOf}
+use Rattle.file_verdict.proofs.Laws.Verdict.{sound, accepted-as}
+use Rattle.sheet_format.specs.declared.Lowered.the-variants.{Refuses}
+use Rattle.sheet_format.specs.Layout.{Instr}
+use Rattle.sheet_format.specs.Levels.{level1}
+use Rattle.sheet_format.specs.Bytes.{word, joined, laneBytes, headerBy, writeInto, answerBy}
+use Rattle.sheet_format.specs.Put.{laid, inTurn}
+use Rattle.sheet_format.proofs.Laws.Put.{whole-put}
+use Rattle.sheet_format.proofs.Laws.Rows.{lane-bytes}
+use Rattle.sheet_format.proofs.Laws.Turn.{turn-same, turn-all, turn-four}
+
+module _ (s : List ℕ) where
+  pub refused-by : (bytes : Program → List ℕ) (buffer : List ℕ) → ¬ numberOf (refusalOf s) ≡ 0
+      → answerBy bytes (verdict s) buffer ≡ (Refuses (numberOf (refusalOf s)) (recordOf (refusalOf s)), buffer)
+  refused-by bytes buffer h = rw (ne-eqb (numberOf (refusalOf s)) 0 h)
+
+  pub accepted-by : numberOf (refusalOf s) ≡ 0 → verdict s ≡ accepted (programOf s)
+  accepted-by h = rw h
+
+module _ (s : List ℕ) (ok : verdict s ≡ accepted (programOf s)) where
+  pub answered-by : (bytes : Program → List ℕ) (buffer : List ℕ)
+      → writeInto (bytes (programOf s)) buffer ≡ answerBy bytes (verdict s) buffer
+  answered-by bytes buffer = ap (λ v. answerBy bytes v buffer) (sym ok)
+
+  pub header-by : headerRule s ≡ true
+  header-by = sound s (accepted-as s (programOf s) ok .0) .0 .header
+
+module _ (s : List ℕ) (header : headerRule s ≡ true) where
+  -- lane t is the chain from its head
+  ops-by : (t : ℕ) → t < 4 → opsAt s (head s t) ≡ getD (programOf s .lanes) t []
+  ops-by t h = sym (lane-ops s header t h)
+
+  count-by : laneCount s ≡ length (programOf s .lanes)
+  count-by = sym (lane-count s (four-lanes s header))
+
+  few-by : length (programOf s .lanes) ≤ 4
+  few-by = omega (arith, count-by, four-lanes s header)
+
+  -- each lane's instructions come of its operations, none of none
+  module _ (level : ℕ) (f : List Op → List Instr) (none : f [] ≡ []) where
+    abbrev lanesBy : List (List Instr)
+    lanesBy = map f (programOf s .lanes)
+
+    abbrev pub sheetBy : List ℕ
+    sheetBy =
+        headerBy (length (programOf s .lanes)) (locations s) (locks s) level (mask s) lanesBy
+        ++ joined (map (laneBytes level1) lanesBy)
+
+    abbrev pub laneAt : ℕ → List Instr
+    laneAt t = f (opsAt s (head s t))
+
+    size-at : (t : ℕ) → t < 4 → length (laneAt t) ≡ length (getD lanesBy t [])
+    size-at t h =
+        ap (λ ops. length (f ops)) (ops-by t h)
+        ∙ sym (ap length (ap (getD lanesBy t) (sym none) ∙ List·getD-map f (programOf s .lanes) t []))
+
+    -- header and lanes, of which text t is lane t
+    module _
+        (text : ℕ → List ℕ) (same : (t : ℕ) → t < 4 → text t ≡ laneBytes level1 (laneAt t)) {a b c d : ℕ}
+        (ea : a ≡ length (laneAt 0)) (eb : b ≡ length (laneAt 1)) (ec : c ≡ length (laneAt 2))
+        (ed : d ≡ length (laneAt 3))
+      where
+        lanes-by : inTurn text 4 ≡ joined (map (laneBytes level1) lanesBy)
+        lanes-by =
+            let os = programOf s .lanes in
+            turn-same text (λ t. laneBytes level1 (f (getD os t []))) 4
+            (λ t h. same t h ∙ ap (λ ops. laneBytes level1 (f ops)) (ops-by t h))
+            ∙ turn-all (λ ops. laneBytes level1 (f ops)) [] (ap (laneBytes level1) none) os 4 few-by
+            ∙ sym (ap joined (map-map (laneBytes level1) f os))
+
+        parts-by : {n ls ks m : ℕ} → n ≡ laneCount s → ls ≡ locations s → ks ≡ locks s → m ≡ mask s
+            → (n ∷ ls ∷ ks ∷ level ∷ word m ++ 0 ∷ 0 ∷ []) ++ (word a ++ (word b ++ (word c ++ (word d ++ []))))
+            ++ inTurn text 4
+            ≡ sheetBy
+        parts-by en els eks em =
+            let nn = en ∙ count-by in
+            let na = ea ∙ size-at 0 (omega arith) in
+            let nb = eb ∙ size-at 1 (omega arith) in
+            let nc = ec ∙ size-at 2 (omega arith) in
+            let nd = ed ∙ size-at 3 (omega arith) in
+            λ i. (nn i ∷ els i ∷ eks i ∷ level ∷ word (em i) ++ 0 ∷ 0 ∷ [])
+            ++ (word (na i) ++ (word (nb i) ++ (word (nc i) ++ (word (nd i) ++ [])))) ++ lanes-by i
+
+        pub body-by : 16 + length (inTurn text 4) ≡ length sheetBy
+        body-by = omega (arith, ap length (parts-by refl refl refl refl))
+
+        pub sizes-by : 16 + 8 * (a + (b + (c + d))) ≡ length sheetBy
+        sizes-by =
+            omega (
+              arith,
+              body-by,
+              turn-four text,
+              bytes-at 0 (omega arith),
+              bytes-at 1 (omega arith),
+              bytes-at 2 (omega arith),
+              bytes-at 3 (omega arith),
+            )
+          where
+            bytes-at : (t : ℕ) → t < 4 → length (text t) ≡ 8 * length (laneAt t)
+            bytes-at t h = ap length (same t h) ∙ lane-bytes level1 (laneAt t)
+
+        -- the halves of the header and the lanes, put one after the other
+        pub put-by : {n ls ks m : ℕ} → n ≡ laneCount s → ls ≡ locations s → ks ≡ locks s → m ≡ mask s
+            → {l₁ l₂ l₃ : List ℕ} (buffer : List ℕ) → length sheetBy ≤ length buffer
+            → l₁ ≡ laid buffer 0 (n ∷ ls ∷ ks ∷ level ∷ word m ++ 0 ∷ 0 ∷ [])
+            → l₂ ≡ laid l₁ 8 (word a ++ (word b ++ (word c ++ (word d ++ []))))
+            → l₃ ≡ sets l₂ 16 (inTurn text 4)
+            → l₃ ≡ writeInto sheetBy buffer .1
+        put-by {n} {ls} {ks} {m} en els eks em buffer room =
+            whole-put buffer (n ∷ ls ∷ ks ∷ level ∷ word m ++ 0 ∷ 0 ∷ [])
+            (word a ++ (word b ++ (word c ++ (word d ++ [])))) (inTurn text 4) sheetBy refl refl
+            (parts-by en els eks em) room

@@ -1,0 +1,119 @@
+-- Small lanes and their parts of both sheets, and the bytes of a small sheet, by computation.
+use Prim.Native.Nat.{ℕ}
+use mathlib.Core.Path.{_≡_, refl}
+use mathlib.Core.Bool.{Bool}
+use mathlib.Core.List.{List, [], _∷_, map}
+use lib.Dec.{eqb}
+use Rattle.file_format.specs.declared.accepted.Op.{Op}
+use Rattle.file_format.specs.declared.accepted.Op.the-variants.{Set, Load, Store, Lock, Unlock, Skip}
+use Rattle.file_format.specs.Accepted.{Program}
+use Rattle.barrier_placement.specs.declared.cookbook.Barrier.the-variants.{LL, LS, SS, SL}
+use Rattle.barrier_placement.specs.Place.{stands, due, rowsTo}
+use Rattle.sheet_format.specs.Layout.{Instr, op, barrier, sheet}
+use Rattle.sheet_format.specs.Levels.{level1, level2, placed, sheetLanes}
+use Rattle.sheet_format.specs.declared.Lowered.the-variants.{Wrote, Refuses}
+use Rattle.sheet_format.specs.Bytes.{sheetBytes, writeInto}
+use Rattle.sheet_format.specs.Read.{readSheet}
+
+-- location 1 is volatile
+abbrev vol : ℕ → Bool
+vol x = eqb x 1
+
+-- a lane, and its parts of the sheets of level 1 and level 2
+record Example : Type 0 where
+  lane : List Op
+  first : List Instr
+  second : List Instr
+
+abbrev lowerBoth : List Op → Example
+lowerBoth os = record { lane = os; first = sheet (placed level1 vol os); second = sheet (placed level2 vol os) }
+
+examples : List Example
+examples =
+    -- a plain store between the volatile store and the volatile load does not part them
+    (record {
+      lane = Store 0 1 ∷ Store 0 0 ∷ Load 0 1 ∷ [];
+      first = op (Store 0 1) ∷ op (Store 0 0) ∷ barrier SL ∷ op (Load 0 1) ∷ [];
+      second = op (Store 0 1) ∷ op (Store 0 0) ∷ barrier SL ∷ op (Load 0 1) ∷ [];
+    })
+    ∷
+    -- level 2 drops what is not SL
+    (record {
+      lane = Store 0 0 ∷ Store 0 1 ∷ [];
+      first = op (Store 0 0) ∷ barrier SS ∷ op (Store 0 1) ∷ [];
+      second = op (Store 0 0) ∷ op (Store 0 1) ∷ [];
+    })
+    ∷
+    -- several before one operation stand in the order LL, LS, SS, SL
+    (record {
+      lane = Lock 0 ∷ Unlock 0 ∷ Lock 0 ∷ Unlock 0 ∷ [];
+      first =
+          op (Lock 0) ∷ barrier LS ∷ op (Unlock 0)
+          ∷ barrier LL ∷ barrier SL ∷ op (Lock 0)
+          ∷ barrier LS ∷ barrier SS ∷ op (Unlock 0) ∷ [];
+      second = op (Lock 0) ∷ op (Unlock 0) ∷ barrier SL ∷ op (Lock 0) ∷ op (Unlock 0) ∷ [];
+    })
+    ∷
+    -- a barrier on one side of a SKIP does not cover the other, and the SKIP lands on its target's first barrier
+    (record {
+      lane = Store 0 1 ∷ Skip 0 3 ∷ Load 0 1 ∷ Load 0 1 ∷ [];
+      first =
+          op (Store 0 1) ∷ op (Skip 0 4) ∷ barrier SL ∷ op (Load 0 1)
+          ∷ barrier LL ∷ barrier SL ∷ op (Load 0 1) ∷ [];
+      second = op (Store 0 1) ∷ op (Skip 0 4) ∷ barrier SL ∷ op (Load 0 1) ∷ barrier SL ∷ op (Load 0 1) ∷ [];
+    })
+    ∷
+    -- a SKIP to the end: the end is the count
+    (record {
+      lane = Store 0 1 ∷ Skip 0 3 ∷ Load 0 1 ∷ [];
+      first = op (Store 0 1) ∷ op (Skip 0 4) ∷ barrier SL ∷ op (Load 0 1) ∷ [];
+      second = op (Store 0 1) ∷ op (Skip 0 4) ∷ barrier SL ∷ op (Load 0 1) ∷ [];
+    })
+    ∷
+    []
+
+examples-hold : map (λ (e : Example). lowerBoth (e .lane)) examples ≡ examples
+unfolding examples stands due rowsTo
+examples-hold = refl
+
+-- two lanes of unlike length
+abbrev kernel : Program
+kernel = record {
+  locations = 2;
+  locks = 0;
+  mask = 2;
+  records = (1 ∷ 2 ∷ []) ∷ (3 ∷ []) ∷ [];
+  lanes = (Store 3 1 ∷ Load 4 1 ∷ []) ∷ (Set 5 258 ∷ []) ∷ [];
+}
+
+abbrev first : List ℕ
+first =
+    2 ∷ 2 ∷ 0 ∷ 1 ∷ 2 ∷ 0 ∷ 0 ∷ 0 ∷ 3 ∷ 0 ∷ 1 ∷ 0 ∷ 0 ∷ 0 ∷ 0 ∷ 0
+    ∷ 4 ∷ 3 ∷ 1 ∷ 0 ∷ 0 ∷ 0 ∷ 0 ∷ 0
+    ∷ 14 ∷ 0 ∷ 0 ∷ 0 ∷ 0 ∷ 0 ∷ 0 ∷ 0
+    ∷ 3 ∷ 4 ∷ 1 ∷ 0 ∷ 0 ∷ 0 ∷ 0 ∷ 0
+    ∷ 1 ∷ 5 ∷ 0 ∷ 0 ∷ 2 ∷ 1 ∷ 0 ∷ 0 ∷ []
+
+-- level 2 has no mask, and 15 for 14
+abbrev second : List ℕ
+second =
+    2 ∷ 2 ∷ 0 ∷ 2 ∷ 0 ∷ 0 ∷ 0 ∷ 0 ∷ 3 ∷ 0 ∷ 1 ∷ 0 ∷ 0 ∷ 0 ∷ 0 ∷ 0
+    ∷ 4 ∷ 3 ∷ 1 ∷ 0 ∷ 0 ∷ 0 ∷ 0 ∷ 0
+    ∷ 15 ∷ 0 ∷ 0 ∷ 0 ∷ 0 ∷ 0 ∷ 0 ∷ 0
+    ∷ 3 ∷ 4 ∷ 1 ∷ 0 ∷ 0 ∷ 0 ∷ 0 ∷ 0
+    ∷ 1 ∷ 5 ∷ 0 ∷ 0 ∷ 2 ∷ 1 ∷ 0 ∷ 0 ∷ []
+
+bytes-hold : sheetBytes level1 kernel ∷ sheetBytes level2 kernel ∷ [] ≡ first ∷ second ∷ []
+unfolding sheetBytes stands due rowsTo
+bytes-hold = refl
+
+read-holds : readSheet second ≡ sheetLanes level2 kernel
+unfolding readSheet stands due rowsTo
+read-holds = refl
+
+-- a buffer that is longer keeps what lies behind the sheet; one that is shorter is as it was
+fits-hold : writeInto (1 ∷ 2 ∷ []) (7 ∷ 8 ∷ 9 ∷ []) ≡ (Wrote 2, 1 ∷ 2 ∷ 9 ∷ [])
+fits-hold = refl
+
+short-hold : writeInto (1 ∷ 2 ∷ []) (7 ∷ []) ≡ (Refuses 9 0, 7 ∷ [])
+short-hold = refl

@@ -1,0 +1,129 @@
+-- `sheet_lanes::plan::plan_lanes` meets its contract.
+use native.Mathlib.Omega.{arith}
+use Rattle.sheet_lanes.proofs.Laws.Rows.{part-few, part-inside, part-plan}
+use borrow.Author.Needs.{needs}
+use Rattle.sheet_lanes.proofs.plan.plan_lanes.Statement.{statement}
+use Rattle.sheet_lanes.proofs.plan.plan_lanes.Tie as tie
+
+array-read-plan-at : tie.Need-array-read-plan-at
+array-read-plan-at c = search needs
+
+array-read-plan-at-2 : tie.Need-array-read-plan-at-2
+array-read-plan-at-2 c = search needs
+
+plan-at-requires : tie.Need-plan-at-requires
+plan-at-requires c κs =
+    let s = c .before .before .before .before .before .before .before .before in (
+      part-few (s .args .rows .now) (s .pre .0 .0) (s .pre .0 .1) 0 (omega arith),
+      part-inside (s .args .rows .now) (s .pre .0 .0) (s .pre .0 .1) 0 (omega arith),
+      omega (
+        arith,
+        part-few (s .args .rows .now) (s .pre .0 .0) (s .pre .0 .1) 0 (omega arith),
+        s .pre .1 .0,
+      ),
+    )
+
+array-read-plan-at-3 : tie.Need-array-read-plan-at-3
+array-read-plan-at-3 c = search needs
+
+array-read-plan-at-4 : tie.Need-array-read-plan-at-4
+array-read-plan-at-4 c = search needs
+
+plan-at-requires-2 : tie.Need-plan-at-requires-2
+plan-at-requires-2 c κs =
+    let s = c .before .before .before .before .before .before .before .before .before .before .before .before in (
+      part-few (s .args .rows .now) (s .pre .0 .0) (s .pre .0 .1) 1 (omega arith),
+      part-inside (s .args .rows .now) (s .pre .0 .0) (s .pre .0 .1) 1 (omega arith),
+      omega (
+        arith,
+        part-few (s .args .rows .now) (s .pre .0 .0) (s .pre .0 .1) 1 (omega arith),
+        s .pre .1 .1,
+      ),
+    )
+
+array-read-plan-at-5 : tie.Need-array-read-plan-at-5
+array-read-plan-at-5 c = search needs
+
+array-read-plan-at-6 : tie.Need-array-read-plan-at-6
+array-read-plan-at-6 c = search needs
+
+plan-at-requires-3 : tie.Need-plan-at-requires-3
+plan-at-requires-3 c κs =
+    let s = c .before .before .before .before .before .before .before .before .before .before .before .before .before
+    .before .before .before in (
+      part-few (s .args .rows .now) (s .pre .0 .0) (s .pre .0 .1) 2 (omega arith),
+      part-inside (s .args .rows .now) (s .pre .0 .0) (s .pre .0 .1) 2 (omega arith),
+      omega (
+        arith,
+        part-few (s .args .rows .now) (s .pre .0 .0) (s .pre .0 .1) 2 (omega arith),
+        s .pre .1 .2,
+      ),
+    )
+
+array-read-plan-at-7 : tie.Need-array-read-plan-at-7
+array-read-plan-at-7 c = search needs
+
+array-read-plan-at-8 : tie.Need-array-read-plan-at-8
+array-read-plan-at-8 c = search needs
+
+plan-at-requires-4 : tie.Need-plan-at-requires-4
+plan-at-requires-4 c κs =
+    let s = c .before .before .before .before .before .before .before .before .before .before .before .before .before
+    .before .before .before .before .before .before .before in (
+      part-few (s .args .rows .now) (s .pre .0 .0) (s .pre .0 .1) 3 (omega arith),
+      part-inside (s .args .rows .now) (s .pre .0 .0) (s .pre .0 .1) 3 (omega arith),
+      omega (
+        arith,
+        part-few (s .args .rows .now) (s .pre .0 .0) (s .pre .0 .1) 3 (omega arith),
+        s .pre .1 .3,
+      ),
+    )
+
+same-length : tie.Need-same-length
+same-length c = search needs
+
+same-length-2 : tie.Need-same-length-2
+same-length-2 c = search needs
+
+same-length-3 : tie.Need-same-length-3
+same-length-3 c = search needs
+
+same-length-4 : tie.Need-same-length-4
+same-length-4 c = search needs
+
+returns : tie.Need-returns
+returns c =
+    let s = c .before .before .before .before .before .before .before .before .before .before .before .before .before
+    .before .before .before .before .before .before .before .before .before .before in
+    let rows = s .args .rows .now in
+    record {
+      first = part-plan rows (s .pre .0 .0) (s .pre .0 .1) 0 (omega arith) _ (c .before .before .before .before
+          .before .before .before .before .before .before .before .before .before .before .plan-at .ensures);
+      second = part-plan rows (s .pre .0 .0) (s .pre .0 .1) 1 (omega arith) _ (c .before .before .before .before
+          .before .before .before .before .before .before .plan-at2 .ensures);
+      third = part-plan rows (s .pre .0 .0) (s .pre .0 .1) 2 (omega arith) _ (c .before .before .before .before
+          .before .before .plan-at3 .ensures);
+      fourth = part-plan rows (s .pre .0 .0) (s .pre .0 .1) 3 (omega arith) _ (c .before .before .plan-at4 .ensures);
+    }
+
+pub plan-lanes-spec : {M : Type 1} → statement M
+plan-lanes-spec =
+    tie.close
+    (tie.spec
+    array-read-plan-at
+    array-read-plan-at-2
+    plan-at-requires
+    array-read-plan-at-3
+    array-read-plan-at-4
+    plan-at-requires-2
+    array-read-plan-at-5
+    array-read-plan-at-6
+    plan-at-requires-3
+    array-read-plan-at-7
+    array-read-plan-at-8
+    plan-at-requires-4
+    same-length
+    same-length-2
+    same-length-3
+    same-length-4
+    returns)

@@ -1,0 +1,14 @@
+-- The rows of an accepted kernel's chains in a buffer.
+use Prim.Native.Nat.{ℕ, _≤_}
+use mathlib.Core.Path.{_≡_}
+use mathlib.Core.List.{List}
+use lib.ListN.{length}
+use Rattle.file_format.specs.Accepted.{programOf}
+use Rattle.sheet_format.specs.Bytes.{over}
+use Rattle.file_rows.specs.Chains.{chainBytes}
+
+-- the buffer begins with the chains of file s
+pub record ChainsOf (s rows : List ℕ) : Type 0 where
+  pub own : List ℕ
+  pub room : length (chainBytes (programOf s)) ≤ length own
+  pub front : rows ≡ over (chainBytes (programOf s)) own

@@ -1,0 +1,3 @@
+-- Laws of rows in code.
+-- Laws of bytes written.
+pub mod Laws

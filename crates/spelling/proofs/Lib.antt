@@ -1,2 +1,0 @@
--- Small laws of places in a line.
-pub mod Laws

@@ -1,2 +1,0 @@
--- What is proved of the line of a move: small laws.
-pub mod Laws

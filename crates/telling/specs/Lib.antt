@@ -1,3 +1,0 @@
--- The line of a move, and examples.
-pub mod Moves
-pub mod Examples

@@ -1,0 +1,5 @@
+-- Small laws by subject.
+-- Small laws by subject.
+pub mod Places
+pub mod Entry
+pub mod Moves

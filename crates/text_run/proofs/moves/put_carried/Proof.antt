@@ -1,0 +1,73 @@
+-- `text_run::moves::put_carried` meets its contract.
+use native.Mathlib.Omega.{arith}
+use Rattle.sheet_format.proofs.Laws.Put.{puts-as, puts-on}
+use Rattle.text_listing.proofs.Laws.Line.{instr-few}
+use Rattle.text_run.proofs.Laws.Moves.{carried-row}
+use borrow.Author.Needs.{needs}
+use Rattle.text_run.proofs.moves.put_carried.Statement.{statement}
+use Rattle.text_run.proofs.moves.put_carried.Tie as tie
+
+next-row-requires : tie.Need-next-row-requires
+next-row-requires c κs = search needs
+
+row-at-requires : tie.Need-row-at-requires
+row-at-requires c κs = search needs
+
+cast-put-instr : tie.Need-cast-put-instr
+cast-put-instr c = search needs
+
+cast-put-instr-2 : tie.Need-cast-put-instr-2
+cast-put-instr-2 c = search needs
+
+cast-put-instr-3 : tie.Need-cast-put-instr-3
+cast-put-instr-3 c = search needs
+
+put-instr-requires : tie.Need-put-instr-requires
+put-instr-requires c κs = search needs
+
+put-loaded-requires : tie.Need-put-loaded-requires
+put-loaded-requires c κs =
+    let c3 = c .before .before .before in
+    let c4 = c3 .before in
+    let c8 = c4 .before .before .before .before in
+    let c9 = c8 .before in
+    let c14 = c9 .before .before .before .before .before in
+    let w = c8 .row-at .result in
+    let k = c4 .struct-known3 .given in
+    let few = instr-few (w .code) (w .a) (w .b) (w .word) (omega (arith, k)) (omega (arith, k)) (omega (arith, k)) in
+    (omega (arith, few, c3 .put-instr .ensures .behind, c14 .pre), c9 .next-row .ensures .1)
+
+same-length : tie.Need-same-length
+same-length c = search needs
+
+returns : tie.Need-returns
+returns c =
+    let c2 = c .before .before in
+    let c6 = c2 .before .before .before .before in
+    let c7 = c6 .before in
+    let c11 = c7 .before .before .before .before in
+    let c12 = c11 .before in
+    let c17 = c12 .before .before .before .before .before in
+    let w = c11 .row-at .result in
+    let k = c7 .struct-known3 .given in
+    let few = instr-few (w .code) (w .a) (w .b) (w .word) (omega (arith, k)) (omega (arith, k)) (omega (arith, k)) in
+    let text =
+    carried-row (c17 .args .rows .now) (c17 .args .before .now) (c17 .args .after .now) (c17 .args .t)
+    (c12 .next-row .ensures .0) (c11 .row-at .ensures) in (
+      omega (arith, few, c6 .put-instr .ensures .behind, c2 .put-loaded .ensures .0),
+      puts-as text (puts-on (c6 .put-instr .ensures) (c2 .put-loaded .ensures .1)),
+    )
+
+pub put-carried-spec : {M : Type 1} → statement M
+put-carried-spec =
+    tie.close
+    (tie.spec
+    next-row-requires
+    row-at-requires
+    cast-put-instr
+    cast-put-instr-2
+    cast-put-instr-3
+    put-instr-requires
+    put-loaded-requires
+    same-length
+    returns)

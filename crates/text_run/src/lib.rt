@@ -1,0 +1,6 @@
+// The text of a move and of a state record.
+pub mod entry;
+mod lane;
+pub mod moves;
+pub mod places;
+pub mod states;

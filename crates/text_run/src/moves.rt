@@ -1,0 +1,120 @@
+// The line of a move.
+ghost use Prim.Native.Nat.{_+_, _≤_, _<_, _^_};
+ghost use mathlib.Core.Bool.{cond};
+ghost use Rattle.sheet_format.specs.Put.{Puts};
+ghost use Rattle.text_run.specs.Words.{waitedWord};
+ghost use Rattle.text_run.specs.Moves.{loadedText, carriedText, doneText, hasWaited, moveLine};
+use crate::entry::put_entry;
+use crate::places::entry_from;
+use crate::places::next_row;
+use crate::places::register_at;
+use sheet_rows::read::byte_at;
+use sheet_rows::read::quad_at;
+use sheet_rows::read::row_at;
+use text_listing::line::put_instr;
+use text_put::put::put;
+use text_put::put::put_text;
+use text_put::words::put_decimal;
+use text_put::words::put_one;
+
+// Behind a LOAD, whose code is 3, the value that its register took.
+fn put_loaded(out: &mut [u8], at: usize, rows: &[u8], from: usize, after: &[u8], t: u8) -> usize
+    requires { ⌜ (at + 17 ≤ 2 ^ 62) × (from < 2 ^ 32) ⌝ }
+    ensures { λ r. ⌜ (r ≤ at + 17)
+        × Puts (now (out .entry)) at (loadedText (now (rows .entry)) from (now (after .entry)) t)
+        (now (out .exit)) r ⌝ }
+{
+    if byte_at(rows, from) == 3 {
+        let n = byte_at(rows, from + 1);
+        return put_one(out, at, b" value ", register_at(after, t, n));
+    }
+    at
+}
+
+// The instruction that lane t carried out.
+fn put_carried(out: &mut [u8], at: usize, rows: &[u8], before: &[u8], after: &[u8], t: u8) -> usize
+    requires { ⌜ at + 45 ≤ 2 ^ 62 ⌝ }
+    ensures { λ r. ⌜ (r ≤ at + 45)
+        × Puts (now (out .entry)) at (carriedText (now (rows .entry)) (now (before .entry)) (now (after .entry)) t)
+        (now (out .exit)) r ⌝ }
+{
+    let from = next_row(rows, before, t);
+    let row = row_at(rows, from);
+    let i = put_instr(
+        out,
+        at,
+        row.code as u32,
+        row.a as u32,
+        row.b as u32,
+        row.word,
+    );
+    put_loaded(out, i, rows, from, after, t)
+}
+
+// What was carried out, or which entry was committed.
+fn put_done(
+    out: &mut [u8],
+    at: usize,
+    rows: &[u8],
+    before: &[u8],
+    after: &[u8],
+    t: u8,
+    c: u8,
+) -> usize
+    requires { ⌜ at + 51 ≤ 2 ^ 62 ⌝ }
+    ensures { λ r. ⌜ (r ≤ at + 51)
+        × Puts (now (out .entry)) at (doneText (now (rows .entry)) (now (before .entry)) (now (after .entry)) t c)
+        (now (out .exit)) r ⌝ }
+{
+    let i = put_text(out, at, b" done ");
+    if c == 0 {
+        return put_carried(out, i, rows, before, after, t);
+    }
+    let j = put_text(out, i, b"commits ");
+    let from = entry_from(t, (c - 1) as usize);
+    put_entry(out, j, before, from)
+}
+
+// What came of a move.
+fn put_outcome(
+    out: &mut [u8],
+    at: usize,
+    rows: &[u8],
+    before: &[u8],
+    after: &[u8],
+    t: u8,
+    c: u8,
+) -> usize
+    requires { ⌜ at + 51 ≤ 2 ^ 62 ⌝ }
+    ensures { λ r. ⌜ (r ≤ at + 51)
+        × Puts (now (out .entry)) at
+        (cond (hasWaited (now (before .entry)) (now (after .entry))) waitedWord
+        (doneText (now (rows .entry)) (now (before .entry)) (now (after .entry)) t c))
+        (now (out .exit)) r ⌝ }
+{
+    if quad_at(before, 8) == quad_at(after, 8) {
+        return put_text(out, at, b" waited");
+    }
+    put_done(out, at, rows, before, after, t, c)
+}
+
+// The line of move n, which names lane t and choice c, from the program's rows and the state records before and after
+// the move: as far as the buffer reaches.
+pub fn tell_move(
+    out: &mut [u8],
+    rows: &[u8],
+    before: &[u8],
+    after: &[u8],
+    n: u32,
+    t: u8,
+    c: u8,
+) -> usize
+    ensures { λ r. ⌜ Puts (now (out .entry)) 0
+        (moveLine (now (rows .entry)) (now (before .entry)) (now (after .entry)) n t c) (now (out .exit)) r ⌝ }
+{
+    let i = put_decimal(out, 0, n);
+    let j = put_one(out, i, b" lane ", t as u32);
+    let k = put_one(out, j, b" choice ", c as u32);
+    let end = put_outcome(out, k, rows, before, after, t, c);
+    put(out, end, b'\n')
+}

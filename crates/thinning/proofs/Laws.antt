@@ -1,4 +1,0 @@
--- Laws by subject.
-pub mod Positions
-pub mod Onto
-pub mod Lane

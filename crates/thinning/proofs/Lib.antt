@@ -1,2 +1,0 @@
--- Laws of making level 2 from a level 1 sheet.
-pub mod Laws

@@ -1,2 +1,0 @@
--- Laws by subject.
-pub mod Put

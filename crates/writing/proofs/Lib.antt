@@ -1,2 +1,0 @@
--- Laws of bytes written.
-pub mod Laws

@@ -1,2 +1,0 @@
--- Bytes that are copied into a sheet.
-pub mod Eight
