@@ -9,7 +9,7 @@
  * are as they were.
  *
  *   1 file under 16 bytes                   6 a chain of more than 64 records
- *   2 bad header                            7 a SKIP that leads nowhere behind it
+ *   2 bad header                            7 a SKIP whose target is not later in its lane
  *   3 bad length                            8 a lock taken or released against the rule
  *   4 bad record                            9 the output buffer is shorter than the result
  *   5 a record in no lane, or met twice    10 a move with no such lane or choice, or an odd number of bytes

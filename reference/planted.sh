@@ -67,14 +67,14 @@ fault 'a byte of the kernel file is written' planted/src/lib.rs \
     's/unsafe { $lower(/unsafe { if kl > 0 { *kernel.cast_mut() ^= 1; } $lower(/'
 fault 'bytes are written past the output buffer' planted/src/lib.rs \
     's/unsafe { $lower(/unsafe { *sheet.add(sl) ^= 1; $lower(/'
-fault 'a volatile load of the house does not wait' $machine 's/else if own.ordered > 0/else if own.ordered > 64/'
-fault 'an UNLOCK commits ahead of an older plain store' $machine 's/CHIP || ordered || older/CHIP || older/'
+fault 'a volatile load on the source machine goes on' $machine 's/else if own.ordered > 0/else if own.ordered > 64/'
+fault 'an UNLOCK commits ahead of an older plain store' $machine 's/TSO || ordered || older/TSO || older/'
 fault 'a plain store overtakes one to its location' $machine 's/ || older.iter().any(same)//'
-fault 'LOCK of the chip with a pending list' $machine 's/if CHIP { self.first < self.last }/if CHIP { false }/'
+fault 'LOCK of the tso machine with a pending list' $machine 's/if TSO { self.first < self.last }/if TSO { false }/'
 fault 'MFENCE does not wait' $machine 's/_ if own.first < own.last => return Turn::Waits,//'
 fault 'a load takes the oldest own value' $machine 's/.iter().rev().find(stored)/.iter().find(stored)/'
 fault 'only the first move is looked at for 10' $machine 's/moves.iter().fold/moves.iter().take(1).fold/'
-fault 'choice 64 of the house is refused' $machine 's/else { 64 }/else { 63 }/'
+fault 'choice 64 of the source machine is refused' $machine 's/else { 64 }/else { 63 }/'
 fault 'done and waited exchanged' $machine \
     's/record(done, moves.len() as u64 - done,/record(moves.len() as u64 - done, done,/'
 fault 'finished always' $machine 's/= finished.into();/= u8::from(finished) | 1;/'

@@ -15,8 +15,8 @@ cc -std=c99 -Wall -Wextra -Wpedantic -Werror -O2 examples/translate.c target/sta
 cmp "$built/translated" examples/translate.expected
 
 # input that no kernel can be: nothing at all, and more than any kernel has
-printf 'refused 1 record 0\n' > "$built/stub"
-target/bin/lanetext < /dev/null | cmp - "$built/stub"
+printf 'refused 1 record 0\n' > "$built/truncated"
+target/bin/lanetext < /dev/null | cmp - "$built/truncated"
 printf 'refused 3 record 0\n' > "$built/long"
 { cat examples/store-buffering-mask-3.kernel; head -c 100000 /dev/zero; } | target/bin/lanetext | cmp - "$built/long"
 # schedules by hand: a move that no machine has, a line that is no move, a refused kernel, a file that is not there

@@ -63,7 +63,7 @@ pub fn compare_long(calls: &Calls) -> Result<Tally, String> {
     let mut random = Random::new(1);
     let draft = random::draft_of(&mut random, &[64; 4]);
     let file = random::numbered(&mut random, &draft);
-    let own = [(Machine::House, fast::run_source as Run), (Machine::Chip, fast::run_tso as Run)];
+    let own = [(Machine::Source, fast::run_source as Run), (Machine::Tso, fast::run_tso as Run)];
     for ((machine, fast), run) in own.into_iter().zip(calls.runs.iter().flatten()) {
         let mut moves = random::long_schedule(&mut random, 4, 8_000_000, machine.highest_choice());
         for last in [0, 4] {
@@ -106,7 +106,7 @@ impl Tally {
     fn try_runs(&mut self, random: &mut Random, calls: &Calls, file: &[u8]) -> Result<(), String> {
         let mut lent_file = Lent::holding(file);
         let lanes = file.first().map_or(1, |lanes| usize::from(*lanes).clamp(1, 4));
-        let machines = [Machine::House, Machine::Chip].into_iter().zip(calls.runs.iter().flatten());
+        let machines = [Machine::Source, Machine::Tso].into_iter().zip(calls.runs.iter().flatten());
         // an accepted kernel gets several schedules
         let schedules = if slow::kernel::check(file).is_ok() { 3 } else { 1 };
         for (machine, run) in machines.flat_map(|pair| vec![pair; schedules]) {

@@ -5,8 +5,8 @@ use reference::slow::machines::{Machine, Program};
 use reference::slow::{self, STATE};
 use reference::{Run, fast};
 
-const HOUSE: [Run; 2] = [|file, moves, state| slow::run(Machine::House, file, moves, state), fast::run_source];
-const CHIP: [Run; 2] = [|file, moves, state| slow::run(Machine::Chip, file, moves, state), fast::run_tso];
+const SOURCE: [Run; 2] = [|file, moves, state| slow::run(Machine::Source, file, moves, state), fast::run_source];
+const TSO: [Run; 2] = [|file, moves, state| slow::run(Machine::Tso, file, moves, state), fast::run_tso];
 
 fn kernel(locations: &str, volatile: &str, lanes: &str) -> Vec<u8> {
     let assembled = assemble(locations, lanes).unwrap();
@@ -41,7 +41,7 @@ fn memory(state: &[u8], location: usize) -> u8 {
 fn both_zero_in_store_buffering() {
     for (mask, possible) in [("{x y}", false), ("{x}", true)] {
         let file = kernel("x y", mask, "r0=1; x=r0; r1=y ‖ r0=1; y=r0; r1=x");
-        for machine in [Machine::House, Machine::Chip] {
+        for machine in [Machine::Source, Machine::Tso] {
             let outcomes = slow::outcomes(machine, &file).unwrap();
             let zero = outcomes.iter().any(|outcome| outcome.registers.iter().all(|lane| lane[1] == 0));
             assert_eq!(zero, possible);
@@ -53,7 +53,7 @@ fn both_zero_in_store_buffering() {
 fn the_state_record() {
     let file = kernel("x y", "{}", "r0=1; x=r0; r1=y ‖ lock l1; unlock l1");
     // lane 0 carries out all, lane 1 takes lock 1 and appends its release; one more move of each waits
-    let state = state(CHIP, &file, &[[0, 0], [0, 0], [1, 0], [1, 0], [0, 0], [0, 0], [1, 0]]);
+    let state = state(TSO, &file, &[[0, 0], [0, 0], [1, 0], [1, 0], [0, 0], [0, 0], [1, 0]]);
     let mut expected = vec![0; STATE];
     expected[0] = 1;
     expected[4..8].copy_from_slice(&[0, 2, 0, 0]);
@@ -68,16 +68,16 @@ fn the_state_record() {
 #[test]
 fn a_volatile_load_waits_for_the_own_volatile_store() {
     let file = kernel("x", "{x}", "x=5; r1=x");
-    let waits = state(HOUSE, &file, &[[0, 0], [0, 0], [0, 0]]);
+    let waits = state(SOURCE, &file, &[[0, 0], [0, 0], [0, 0]]);
     assert_eq!((counts(&waits), register(&waits, 0, 1)), ((2, 1), 0));
-    let reads = state(HOUSE, &file, &[[0, 0], [0, 0], [0, 1], [0, 0]]);
+    let reads = state(SOURCE, &file, &[[0, 0], [0, 0], [0, 1], [0, 0]]);
     assert_eq!((counts(&reads), register(&reads, 0, 1), reads[0]), ((4, 0), 5, 1));
 }
 
 #[test]
 fn a_plain_load_takes_the_newest_own_value() {
     let file = kernel("x", "{}", "x=5; x=6; r1=x");
-    for runs in [HOUSE, CHIP] {
+    for runs in [SOURCE, TSO] {
         let end = state(runs, &file, &[[0, 0]; 5]);
         assert_eq!((counts(&end), register(&end, 0, 1), memory(&end, 0)), ((5, 0), 6, 0));
     }
@@ -87,7 +87,7 @@ fn a_plain_load_takes_the_newest_own_value() {
 fn commits_of_the_house_machine() {
     let file = kernel("x y", "{}", "lock l; x=5; x=6; y=7; unlock l");
     let carried = [[0, 0]; 8];
-    let after = |choice: u8| state(HOUSE, &file, &[&carried[..], &[[0, choice]]].concat());
+    let after = |choice: u8| state(SOURCE, &file, &[&carried[..], &[[0, choice]]].concat());
     assert_eq!((counts(&after(1)), memory(&after(1), 0)), ((9, 0), 5));
     // an older own entry has its location
     assert_eq!(counts(&after(2)), (8, 1));
@@ -100,7 +100,7 @@ fn commits_of_the_house_machine() {
 #[test]
 fn a_lock_is_handed_over_by_the_commit() {
     let file = kernel("x", "{}", "lock l; unlock l ‖ lock l; unlock l");
-    for runs in [HOUSE, CHIP] {
+    for runs in [SOURCE, TSO] {
         let waits = state(runs, &file, &[[0, 0], [1, 0], [0, 0], [1, 0]]);
         assert_eq!((counts(&waits), waits[4]), ((2, 2), 1));
         let takes = state(runs, &file, &[[0, 0], [0, 0], [0, 1], [1, 0]]);
@@ -112,14 +112,14 @@ fn a_lock_is_handed_over_by_the_commit() {
 fn a_lock_and_the_own_list() {
     let file = kernel("x", "{}", "x=5; lock l; unlock l");
     let moves = [[0, 0]; 3];
-    assert_eq!(counts(&state(HOUSE, &file, &moves)), (3, 0));
-    assert_eq!(counts(&state(CHIP, &file, &moves)), (2, 1));
+    assert_eq!(counts(&state(SOURCE, &file, &moves)), (3, 0));
+    assert_eq!(counts(&state(TSO, &file, &moves)), (2, 1));
 }
 
 #[test]
 fn skips_and_sums() {
     let file = kernel("x", "{}", "r1=-1; r2=3; r1+=r2; skip r0 D; r3=9; D:; skip r1 end; r4=4");
-    for runs in [HOUSE, CHIP] {
+    for runs in [SOURCE, TSO] {
         let end = state(runs, &file, &[[0, 0]; 7]);
         let registers: Vec<u8> = (0..5).map(|number| register(&end, 0, number)).collect();
         assert_eq!((counts(&end), registers, end[0]), ((6, 1), vec![0, 2, 3, 0, 4], 1));
@@ -128,8 +128,8 @@ fn skips_and_sums() {
 
 #[test]
 fn an_empty_run() {
-    assert_eq!(state(HOUSE, &kernel("x", "{}", ""), &[])[0], 1);
-    assert_eq!(state(CHIP, &kernel("x", "{}", "r0=1"), &[])[0], 0);
+    assert_eq!(state(SOURCE, &kernel("x", "{}", ""), &[])[0], 1);
+    assert_eq!(state(TSO, &kernel("x", "{}", "r0=1"), &[])[0], 0);
 }
 
 #[test]
@@ -142,20 +142,20 @@ fn refusals_of_a_run() {
             assert_eq!(state, vec![3; room]);
         }
     };
-    answers(HOUSE, &file[..15], &[9], 0, 1);
-    answers(HOUSE, &file, &[9], STATE - 1, 9);
-    answers(CHIP, &file, &[0, 0, 0], STATE, 10);
-    answers(CHIP, &file, &[0, 0, 2, 0], STATE, 10);
-    answers(CHIP, &file, &[0, 0, 1, 2], STATE, 10);
-    answers(HOUSE, &file, &[0, 0, 1, 65], STATE, 10);
-    assert_eq!(counts(&state(HOUSE, &file, &[[0, 64]])), (0, 1));
+    answers(SOURCE, &file[..15], &[9], 0, 1);
+    answers(SOURCE, &file, &[9], STATE - 1, 9);
+    answers(TSO, &file, &[0, 0, 0], STATE, 10);
+    answers(TSO, &file, &[0, 0, 2, 0], STATE, 10);
+    answers(TSO, &file, &[0, 0, 1, 2], STATE, 10);
+    answers(SOURCE, &file, &[0, 0, 1, 65], STATE, 10);
+    assert_eq!(counts(&state(SOURCE, &file, &[[0, 64]])), (0, 1));
 }
 
 #[test]
 fn the_row_of_loaded_values() {
     let file = kernel("x y", "{x y}", "x=1; r1=y ‖ r1=x");
     let kernel = slow::kernel::check(&file).unwrap();
-    let run = Program::new(Machine::Chip, &kernel).run(&[0, 0, 0, 0, 0, 1, 1, 0, 0, 0, 0, 0]).unwrap();
+    let run = Program::new(Machine::Tso, &kernel).run(&[0, 0, 0, 0, 0, 1, 1, 0, 0, 0, 0, 0]).unwrap();
     let row: Vec<_> = run.loaded.iter().map(|loaded| (loaded.lane, loaded.position, loaded.value)).collect();
     assert_eq!(row, [(1, 0, 1), (0, 2, 0)]);
 }

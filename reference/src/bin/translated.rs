@@ -13,7 +13,7 @@ fn main() -> io::Result<()> {
         for level in [1, 2] {
             println!("{}", lowered(level, &kernel));
         }
-        for (name, machine) in [("source", Machine::House), ("tso", Machine::Chip)] {
+        for (name, machine) in [("source", Machine::Source), ("tso", Machine::Tso)] {
             println!("{}", ran(name, machine, &kernel));
         }
     }

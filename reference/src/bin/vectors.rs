@@ -27,7 +27,7 @@ fn main() -> Result<(), String> {
         let schedule = format!("{}-lanes.moves", file[0]);
         write(&format!("data/{name}"), &file)?;
         expected.push_str(&format!("{name} {}\n", lowered(&file)));
-        for (machine, word) in [(Machine::House, "source"), (Machine::Chip, "tso")] {
+        for (machine, word) in [(Machine::Source, "source"), (Machine::Tso, "tso")] {
             expected.push_str(&format!("{schedule} {word}\n{}", ran(machine, &file)));
         }
         arguments.extend([name, schedule]);

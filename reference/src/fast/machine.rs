@@ -34,14 +34,14 @@ struct Lane {
     registers: [u32; 8],
     first: usize,
     last: usize,
-    /// Pending entries that commit only as the oldest; counted for the house machine.
+    /// Pending entries that commit only as the oldest; counted for the source machine.
     ordered: usize,
     pending: [Entry; 64],
 }
 
 const START: Lane = Lane { position: 0, registers: [0; 8], first: 0, last: 0, ordered: 0, pending: [0; 64] };
 
-struct Machine<'a, const CHIP: bool> {
+struct Machine<'a, const TSO: bool> {
     parts: [&'a [Instruction]; 4],
     /// Locations whose stores commit only as the oldest and whose loads wait.
     mask: u16,
@@ -57,7 +57,7 @@ enum Turn {
 }
 
 /// ROOM is at least the number of instructions of all lanes at this level.
-pub fn run<const LEVEL: usize, const ROOM: usize, const CHIP: bool>(
+pub fn run<const LEVEL: usize, const ROOM: usize, const TSO: bool>(
     file: &[u8],
     moves: &[u8],
     state: &mut [u8],
@@ -67,15 +67,15 @@ pub fn run<const LEVEL: usize, const ROOM: usize, const CHIP: bool>(
     plan.lay::<LEVEL>(&kernel)?;
     let state = state.first_chunk_mut::<STATE>().ok_or(Refusal::new(9, 0))?;
     let (moves, odd) = moves.as_chunks::<2>();
-    let highest = if CHIP { 1 } else { 64 };
-    let strange = |named: &[u8; 2]| (named[0] >= kernel.head[0]) | (named[1] > highest);
-    if !odd.is_empty() || moves.iter().fold(false, |found, named| found | strange(named)) {
+    let highest = if TSO { 1 } else { 64 };
+    let illegal = |named: &[u8; 2]| (named[0] >= kernel.head[0]) | (named[1] > highest);
+    if !odd.is_empty() || moves.iter().fold(false, |found, named| found | illegal(named)) {
         return Err(Refusal::new(10, 0));
     }
     let mut code = [[0; 8]; ROOM];
     let parts = write_lanes::<LEVEL>(&kernel, &plan, &mut code);
     let mask = kernel.mask();
-    let mut machine = Machine::<CHIP> { parts, mask, lanes: [START; 4], memory: [0; 16], locks: [0; 4] };
+    let mut machine = Machine::<TSO> { parts, mask, lanes: [START; 4], memory: [0; 16], locks: [0; 4] };
     let mut done = 0;
     for [lane, choice] in moves {
         let lane = usize::from(lane & 3);
@@ -92,7 +92,7 @@ pub fn run<const LEVEL: usize, const ROOM: usize, const CHIP: bool>(
     Ok(STATE)
 }
 
-impl<const CHIP: bool> Machine<'_, CHIP> {
+impl<const TSO: bool> Machine<'_, TSO> {
     fn turn(&mut self, lane: usize, choice: u8) -> Turn {
         if choice > 0 { self.commit(lane, usize::from(choice) - 1) } else { self.carry_out(lane) }
     }
@@ -110,7 +110,7 @@ impl<const CHIP: bool> Machine<'_, CHIP> {
             ADD => own.registers[a] = own.registers[a].wrapping_add(own.registers[usize::from(b & 7)]),
             LOAD => {
                 let memory = self.memory[usize::from(b & 15)];
-                if CHIP || !ordered(self.mask, b) {
+                if TSO || !ordered(self.mask, b) {
                     own.registers[a] = own.newest(b).unwrap_or(memory);
                 } else if own.ordered > 0 {
                     return Turn::Waits;
@@ -119,7 +119,7 @@ impl<const CHIP: bool> Machine<'_, CHIP> {
                 }
             }
             STORE => own.append(entry(STORED, b, own.registers[a]), ordered(self.mask, b)),
-            LOCK if *lock != 0 || own.waits::<CHIP>() => return Turn::Waits,
+            LOCK if *lock != 0 || own.waits::<TSO>() => return Turn::Waits,
             LOCK => *lock = lane as u8 + 1,
             UNLOCK if *lock != lane as u8 + 1 => return Turn::StrangeRelease,
             UNLOCK => own.append(entry(RELEASED, b, 0), true),
@@ -143,7 +143,7 @@ impl<const CHIP: bool> Machine<'_, CHIP> {
         if index > 0 {
             let older = &own.pending[own.first..own.first + index];
             let same = |other: &Entry| is_store(*other) && place(*other) == place(entry);
-            if CHIP || ordered || older.iter().any(same) {
+            if TSO || ordered || older.iter().any(same) {
                 return Turn::Waits;
             }
             own.pending.copy_within(own.first..own.first + index, own.first + 1);
@@ -196,8 +196,8 @@ impl Lane {
     }
 
     /// Whether the list holds back a LOCK.
-    fn waits<const CHIP: bool>(&self) -> bool {
-        if CHIP { self.first < self.last } else { self.ordered > 0 }
+    fn waits<const TSO: bool>(&self) -> bool {
+        if TSO { self.first < self.last } else { self.ordered > 0 }
     }
 
     fn record(&self, out: &mut [u8]) {

@@ -36,12 +36,12 @@ pub fn lower2(file: &[u8], sheet: &mut [u8]) -> u64 {
     answer(lower::<2>(file, sheet))
 }
 
-/// Runs the house machine over the kernel's chains.
+/// Runs the source machine over the kernel's chains.
 pub fn run_source(file: &[u8], moves: &[u8], state: &mut [u8]) -> u64 {
     answer(machine::run::<0, 256, false>(file, moves, state))
 }
 
-/// Runs the chip machine over the level 2 sheet: at most 63 of a lane's 64 records have an MFENCE before them.
+/// Runs the tso machine over the level 2 sheet: at most 63 of a lane's 64 records have an MFENCE before them.
 pub fn run_tso(file: &[u8], moves: &[u8], state: &mut [u8]) -> u64 {
     answer(machine::run::<2, 508, true>(file, moves, state))
 }

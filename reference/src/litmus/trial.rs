@@ -8,7 +8,7 @@ use crate::slow::outcomes::Outcome;
 use crate::slow::{outcomes, straight_outcomes};
 use std::collections::BTreeSet;
 
-/// Runs of somebody, by name: the house machine's and the chip's.
+/// Runs of somebody, by name: the source machine's and the tso machine's.
 pub struct Runs {
     pub name: &'static str,
     pub source: Run,
@@ -25,12 +25,12 @@ pub struct Trial {
 pub fn try_row(row: &Row, mask: u16, others: &[Runs]) -> Result<Trial, String> {
     let file = row.assembled.file(mask);
     let refused = |refusal| format!("{}: {refusal:?}", row.name);
-    let source = outcomes(Machine::House, &file).map_err(refused)?;
-    let tso = outcomes(Machine::Chip, &file).map_err(refused)?;
+    let source = outcomes(Machine::Source, &file).map_err(refused)?;
+    let tso = outcomes(Machine::Tso, &file).map_err(refused)?;
     let straight = straight_outcomes(&file).map_err(refused)?;
     let mut differences = Vec::new();
-    for Runs { name, source: house, tso: chip } in others {
-        for (machine, run, expected) in [(Machine::House, house, &source), (Machine::Chip, chip, &tso)] {
+    for Runs { name, source: by_source, tso: by_tso } in others {
+        for (machine, run, expected) in [(Machine::Source, by_source, &source), (Machine::Tso, by_tso, &tso)] {
             if search(machine, &file, *run)? != *expected {
                 differences.push(format!("{machine:?} by {name}: other outcomes than by slow"));
             }

@@ -10,7 +10,7 @@ pub fn kernel(random: &mut Random) -> Vec<u8> {
     match random.below(16) {
         0..8 => valid(random),
         8..11 => damaged(random),
-        11 => stray(random),
+        11 => anywhere(random),
         12..14 => locked(random),
         14 => long(random),
         _ => garbage(random),
@@ -53,8 +53,8 @@ fn edge(random: &mut Random) -> u8 {
     }
 }
 
-/// Targets and nexts anywhere: tangles and stray skips.
-fn stray(random: &mut Random) -> Vec<u8> {
+/// Targets and nexts anywhere: bad linkage and bad targets.
+fn anywhere(random: &mut Random) -> Vec<u8> {
     let mut file = valid(random);
     let count = (file.len() - 16) / 12;
     for (index, record) in file[16..].chunks_mut(12).enumerate() {

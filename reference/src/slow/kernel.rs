@@ -74,14 +74,14 @@ impl Kernel {
 }
 
 pub fn check(file: &[u8]) -> Result<Kernel, Refusal> {
-    stub(file)?;
-    let header = bad_head(file)?;
+    truncated_header(file)?;
+    let header = bad_header(file)?;
     bad_length(file, &header)?;
     let records = bad_record(file, &header)?;
-    let chains = tangle(&header, &records)?;
-    long_lane(&chains)?;
+    let chains = bad_linkage(&header, &records)?;
+    chain_too_long(&chains)?;
     let kernel = Kernel { header, records, chains };
-    stray_skip(&kernel)?;
+    bad_target(&kernel)?;
     lock_fault(&kernel)?;
     Ok(kernel)
 }
@@ -102,11 +102,11 @@ fn index(bytes: &[u8], at: usize) -> usize {
     usize::from(word(bytes, at))
 }
 
-fn stub(file: &[u8]) -> Result<(), Refusal> {
+fn truncated_header(file: &[u8]) -> Result<(), Refusal> {
     refuse_if(file.len() < 16, 1)
 }
 
-fn bad_head(file: &[u8]) -> Result<Header, Refusal> {
+fn bad_header(file: &[u8]) -> Result<Header, Refusal> {
     let header = Header {
         lanes: file[0].into(),
         locations: file[1].into(),
@@ -178,7 +178,7 @@ fn lawful(record: &Record, header: &Header) -> bool {
         && record.next <= header.count
 }
 
-fn tangle(header: &Header, records: &[Record]) -> Result<Vec<Vec<usize>>, Refusal> {
+fn bad_linkage(header: &Header, records: &[Record]) -> Result<Vec<Vec<usize>>, Refusal> {
     let mut met = BTreeSet::new();
     let mut chains = Vec::new();
     for head in header.heads.iter().take(header.lanes) {
@@ -199,15 +199,15 @@ fn tangle(header: &Header, records: &[Record]) -> Result<Vec<Vec<usize>>, Refusa
     }
 }
 
-fn long_lane(chains: &[Vec<usize>]) -> Result<(), Refusal> {
+fn chain_too_long(chains: &[Vec<usize>]) -> Result<(), Refusal> {
     match chains.iter().find(|chain| chain.len() > 64) {
         Some(chain) => refuse(6, chain[64]),
         None => Ok(()),
     }
 }
 
-fn stray_skip(kernel: &Kernel) -> Result<(), Refusal> {
-    let stray = |chain: &Vec<usize>| -> Vec<usize> {
+fn bad_target(kernel: &Kernel) -> Result<(), Refusal> {
+    let bad = |chain: &Vec<usize>| -> Vec<usize> {
         let later = |position: usize, target: &usize| chain[position + 1..].contains(target);
         let skips = chain.iter().enumerate().filter(|(_, number)| kernel.records[**number - 1].operation == SKIP);
         skips
@@ -216,7 +216,7 @@ fn stray_skip(kernel: &Kernel) -> Result<(), Refusal> {
             .map(|(_, number, _)| number)
             .collect()
     };
-    match kernel.chains.iter().flat_map(stray).min() {
+    match kernel.chains.iter().flat_map(bad).min() {
         Some(lowest) => refuse(7, lowest),
         None => Ok(()),
     }

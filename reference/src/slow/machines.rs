@@ -5,16 +5,16 @@ use super::sheets::{Instruction, Level, MFENCE, instructions};
 
 #[derive(Clone, Copy, Debug, PartialEq, Eq, PartialOrd, Ord)]
 pub enum Machine {
-    House,
-    Chip,
+    Source,
+    Tso,
 }
 
 impl Machine {
     /// A move may not name a choice above this.
     pub fn highest_choice(self) -> u8 {
         match self {
-            Machine::House => 64,
-            Machine::Chip => 1,
+            Machine::Source => 64,
+            Machine::Tso => 1,
         }
     }
 }
@@ -55,7 +55,7 @@ pub enum Turn {
     StrangeRelease(usize),
 }
 
-/// A machine with what its lanes carry out: the chains (house) or the level 2 sheet (chip).
+/// A machine with what its lanes carry out: the chains (source) or the level 2 sheet (tso).
 pub struct Program<'a> {
     machine: Machine,
     kernel: &'a Kernel,
@@ -73,7 +73,7 @@ pub struct Run {
 
 impl<'a> Program<'a> {
     pub fn new(machine: Machine, kernel: &'a Kernel) -> Self {
-        let level = if machine == Machine::House { Level::Chain } else { Level::Two };
+        let level = if machine == Machine::Source { Level::Chain } else { Level::Two };
         let parts = (0..kernel.header.lanes).map(|lane| instructions(kernel, lane, level)).collect();
         Program { machine, kernel, parts }
     }
@@ -151,8 +151,8 @@ impl<'a> Program<'a> {
         let volatile = next.operation == LOAD && self.kernel.volatile(next.b);
         let locks = next.operation == LOCK;
         let list = match self.machine {
-            Machine::House => !(volatile || locks) || !ordered,
-            Machine::Chip => !(next.operation == MFENCE || locks) || pending.is_empty(),
+            Machine::Source => !(volatile || locks) || !ordered,
+            Machine::Tso => !(next.operation == MFENCE || locks) || pending.is_empty(),
         };
         list && (!locks || state.locks[usize::from(next.b)] == 0)
     }
@@ -168,7 +168,7 @@ impl<'a> Program<'a> {
     /// What a LOAD of the location takes.
     fn seen(&self, state: &State, lane: usize, from: u8) -> u32 {
         let memory = state.memory[usize::from(from)];
-        if self.machine == Machine::House && self.kernel.volatile(from) {
+        if self.machine == Machine::Source && self.kernel.volatile(from) {
             return memory;
         }
         let own = state.lanes[lane].pending.iter().rev().find_map(|entry| match entry {
@@ -197,7 +197,7 @@ impl<'a> Program<'a> {
             _ => false,
         };
         match self.machine {
-            Machine::House if !self.ordered(entry) => !older.iter().any(same),
+            Machine::Source if !self.ordered(entry) => !older.iter().any(same),
             _ => older.is_empty(),
         }
     }

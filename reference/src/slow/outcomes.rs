@@ -23,10 +23,10 @@ pub fn outcomes(machine: Machine, file: &[u8]) -> Result<BTreeSet<Outcome>, Refu
     Ok(search(&program, lane_moves))
 }
 
-/// Every outcome of house runs that go straight to memory.
+/// Every outcome of source runs that go straight to memory.
 pub fn straight_outcomes(file: &[u8]) -> Result<BTreeSet<Outcome>, Refusal> {
     let kernel = check(file)?;
-    let program = Program::new(Machine::House, &kernel);
+    let program = Program::new(Machine::Source, &kernel);
     let lane_moves = |state: &State, lane: usize| {
         let next = done(&program, state, lane, 0);
         let commits = |next: State| match next.lanes[lane].pending.is_empty() {

@@ -5,7 +5,7 @@ use super::placement::{Barrier, placement};
 
 pub const MFENCE: u8 = 15;
 
-/// What a lane carries out: the chain itself (house machine) or a lane's part of a sheet.
+/// What a lane carries out: the chain itself (source machine) or a lane's part of a sheet.
 #[derive(Clone, Copy, Debug, PartialEq, Eq)]
 pub enum Level {
     Chain,

@@ -14,7 +14,7 @@ const WAITS: usize = 10_000;
 
 pub fn runs(rounds: usize) {
     let pairs: [(Machine, Run, Run); 2] =
-        [(Machine::House, library::run_source, fast::run_source), (Machine::Chip, library::run_tso, fast::run_tso)];
+        [(Machine::Source, library::run_source, fast::run_source), (Machine::Tso, library::run_tso, fast::run_tso)];
     for (machine, library, fast) in pairs {
         let full = kernels(&[64, 64, 64, 64]);
         let done: Vec<Case> = full.filter_map(|file| done_case(machine, file)).take(KERNELS).collect();
