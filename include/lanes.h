@@ -2,7 +2,8 @@
  *
  * A kernel file, a schedule and an output buffer are each a pointer and a length in bytes. A pointer is never NULL,
  * also where the length is 0. The buffers of one call do not overlap. A call keeps no pointer and needs no memory but
- * stack.
+ * stack: measured on x86-64, lanes_lower1 4,232 bytes, lanes_lower2 19,960, lanes_run_source 12,408 and lanes_run_tso
+ * 29,192, whatever the input.
  *
  * Answer: a success is the number of bytes written, below 2^32. A refusal is number * 2^32 + record, the record being
  * 0 where none is named. After a refusal the output buffer is as it was; after a success the bytes behind the result
@@ -33,6 +34,9 @@ extern "C" {
 
 /* A state record has this many bytes. */
 #define LANES_STATE_SIZE 2280
+
+/* Stack that is enough for every call, in bytes. */
+#define LANES_STACK 32768
 
 /* The number of a refusal, 0 for a success; and the record that it names. */
 #define LANES_NUMBER(answer) ((uint32_t)((answer) >> 32))

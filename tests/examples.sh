@@ -14,6 +14,10 @@ cc -std=c99 -Wall -Wextra -Wpedantic -Werror -O2 examples/translate.c target/sta
 "$built/translate" examples/*.kernel > "$built/translated"
 cmp "$built/translated" examples/translate.expected
 
+# the stack of each call, on the longest kernel
+cc -std=c11 -Wall -Wextra -Werror -O2 tests/stack.c target/staticlib/liblanes.a -lpthread -o "$built/stack"
+"$built/stack" > "$built/bytes" || { cat "$built/bytes"; exit 1; }
+
 # input that no kernel can be: nothing at all, and more than any kernel has
 printf 'refused 1 record 0\n' > "$built/truncated"
 target/bin/lanetext < /dev/null | cmp - "$built/truncated"
