@@ -91,7 +91,7 @@ fn end_of(state: &State) -> End
 }
 
 // A refused run is not finished.
-fn finished(x: Course, state: &State) -> bool
+pub(crate) fn finished(x: Course, state: &State) -> bool
     requires { ⌜ Judged x (now state) ⌝ }
     ensures { λ r. ⌜ ((s : List ℕ) (m : Machine) (mvs : List Move) (rows : List ℕ) → Stands s m mvs rows x
         (now (state .entry))

@@ -23,7 +23,9 @@ use Rattle.machine_state.specs.Machines.{machineIn}
 use Rattle.machine_record.specs.SmallStates.{Small}
 use Rattle.machine_start.proofs.Answered.{not-refused, shape}
 use Rattle.machine_start.proofs.Laws.Runs.{shaped-small}
-use Rattle.machine_course.specs.Stands.{answerBy}
+use Rattle.machine_state.specs.States.{Held, stateIn}
+use Rattle.machine_course.specs.declared.course.Course.{Course}
+use Rattle.machine_course.specs.Stands.{answerBy, Stands}
 use Rattle.machine_course.specs.Returned.{Fits}
 use Rattle.machine_course.proofs.Laws.Starts.{header-valid}
 
@@ -106,9 +108,14 @@ module _ (m : Coded) (s : List ℕ) (mvs : List Move) where
                 small = shaped-small law shaped;
               }
 
-  pub answer-fits : Fits (answerBy m s mvs .state)
+  answer-fits : Fits (answerBy m s mvs .state)
   answer-fits = go (verdict s) refl
     where
       go : (v : Verdict) → verdict s ≡ v → Fits (answerBy m s mvs .state)
       go (refused n r) v = subst (λ w. Fits (answered w)) (sym v) (refused-fits s n r v)
       go (accepted k) v = subst (λ w. Fits (answered w)) (sym v) (accepted-fits k v)
+
+-- so what a run so far holds does
+pub stands-fits : {s : List ℕ} {m : Coded} {mvs : List Move} {rows : List ℕ} {x : Course} {h : Held}
+    → Stands s m mvs rows x h → Fits (stateIn h)
+stands-fits {s} {m} {mvs} so = subst Fits (sym (so .state)) (answer-fits m s mvs)
