@@ -2,12 +2,14 @@
 -- keep.
 use mathlib.Core.Path.{_≡_}
 use mathlib.Core.List.{List, map}
-use lib.ListN.{take}
+use Prim.Native.Nat.{_≤_}
+use lib.ListN.{length, take}
 use Rattle.machine_spec.specs.Schedule.{Move, move}
 use Rattle.machine_spec.specs.State.{State, Loaded}
 use Rattle.machine_spec.specs.Run.{Answer}
 use Rattle.machine_lane.specs.Lanes.{laneIn}
 use Rattle.machine_state.specs.States.{Held, stateIn}
+use Rattle.machine_record.specs.SmallStates.{Small}
 use Rattle.machine_course.specs.declared.moves.Move.{Move as Declared}
 use Rattle.machine_course.specs.declared.finish.End.{End}
 use Rattle.machine_course.specs.declared.finish.Ran.{Ran}
@@ -20,6 +22,12 @@ endState e =
       memory = take (e .locations) (e .memory);
       locks = take (e .lockwords) (e .locks);
     }
+
+-- a state that `End` has room for, and that can be written
+pub record Fits (s : State) : Type 0 where
+  pub memory : length (s .memory) ≤ 16
+  pub locks : length (s .locks) ≤ 4
+  pub small : Small s
 
 abbrev pub Holds : Held → End → Type 0
 Holds s e = endState e ≡ stateIn s

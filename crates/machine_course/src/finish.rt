@@ -2,11 +2,12 @@
 ghost use mathlib.Core.Path.{_≡_};
 ghost use mathlib.Core.List.{List};
 ghost use Prim.Native.Nat.{ℕ};
+ghost use lib.ListN.{take};
 ghost use Rattle.machine_spec.specs.Schedule.{Move};
 ghost use Rattle.machine_state.specs.declared.rules.Machine.{Machine};
 ghost use Rattle.machine_course.specs.Stands.{Stands, Judged, answerBy};
-ghost use Rattle.machine_course.specs.Returned.{answerIn, Holds};
-ghost use Rattle.machine_state.specs.States.{stateIn, Sized};
+ghost use Rattle.machine_course.specs.Returned.{answerIn, Fits, Holds};
+ghost use Rattle.machine_state.specs.States.{rowAt, stateIn, Sized};
 use crate::course::Course;
 use machine_lane::lane::Lane;
 use machine_run::judge::ended;
@@ -19,8 +20,8 @@ pub struct End {
     pub locations: u32,
     pub lockwords: u32,
     pub lanes: [Lane; 4],
-    pub memory: [u32; 64],
-    pub locks: [u32; 64],
+    pub memory: [u32; 16],
+    pub locks: [u32; 4],
 }
 
 // Number 0 is a run that took place, else it is the number of a refusal, with its record.
@@ -33,8 +34,43 @@ pub struct Ran {
     pub end: End,
 }
 
-fn end_of(state: &State) -> End
+// The first words of memory.
+fn memory_of(state: &State) -> [u32; 16]
     requires { ⌜ Sized (now state) ⌝ }
+    ensures { λ r. ⌜ r ≡ take 16 (rowAt (now (state .entry)) 4 0) ⌝ }
+{
+    let w = state[4][0];
+    [
+        w[0],
+        w[1],
+        w[2],
+        w[3],
+        w[4],
+        w[5],
+        w[6],
+        w[7],
+        w[8],
+        w[9],
+        w[10],
+        w[11],
+        w[12],
+        w[13],
+        w[14],
+        w[15],
+    ]
+}
+
+// The first of the lock words.
+fn locks_of(state: &State) -> [u32; 4]
+    requires { ⌜ Sized (now state) ⌝ }
+    ensures { λ r. ⌜ r ≡ take 4 (rowAt (now (state .entry)) 4 1) ⌝ }
+{
+    let w = state[4][1];
+    [w[0], w[1], w[2], w[3]]
+}
+
+fn end_of(state: &State) -> End
+    requires { ⌜ Sized (now state) × Fits (stateIn (now state)) ⌝ }
     ensures { λ r. ⌜ Holds (now (state .entry)) r ⌝ }
 {
     let a = take(state, 0);
@@ -42,8 +78,8 @@ fn end_of(state: &State) -> End
     let c = take(state, 2);
     let d = take(state, 3);
     let lanes = [a, b, c, d];
-    let memory = state[4][0];
-    let locks = state[4][1];
+    let memory = memory_of(state);
+    let locks = locks_of(state);
     End {
         lanecount: state[4][2][0],
         locations: state[4][2][1],
@@ -55,7 +91,7 @@ fn end_of(state: &State) -> End
 }
 
 // A refused run is not finished.
-fn finished(x: Course, state: &State) -> bool
+pub(crate) fn finished(x: Course, state: &State) -> bool
     requires { ⌜ Judged x (now state) ⌝ }
     ensures { λ r. ⌜ ((s : List ℕ) (m : Machine) (mvs : List Move) (rows : List ℕ) → Stands s m mvs rows x
         (now (state .entry))

@@ -58,7 +58,7 @@ short-verdict s h n r e = go (ltb (length s) 16) refl
         let two : 2 ≡ n = cc in
         omega arith
 
-header-valid : (s : List ℕ) (n r : ℕ) → verdict s ≡ refused n r → 3 ≤ n → headerRule s ≡ true
+pub header-valid : (s : List ℕ) (n r : ℕ) → verdict s ≡ refused n r → 3 ≤ n → headerRule s ≡ true
 header-valid s n r e l = go (headerRule s) refl
   where
     go : (b : Bool) → headerRule s ≡ b → headerRule s ≡ true

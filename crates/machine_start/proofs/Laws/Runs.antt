@@ -12,7 +12,7 @@ use Rattle.file_wellformed.proofs.Lawful.{accepted-lawful}
 use Rattle.sheet_format.specs.Layout.{Instr, rank}
 use Rattle.machine_spec.specs.Schedule.{Move, limit, legal}
 use Rattle.machine_spec.specs.Entries.{Entry, write, release}
-use Rattle.machine_spec.specs.State.{Lane, State, Outcome, idle, laneAt, run, begin}
+use Rattle.machine_spec.specs.State.{Lane, State, Loaded, Outcome, idle, laneAt, run, begin}
 use Rattle.machine_spec.specs.Run.{answerOf, startOf, programFor, runOn, runProgram}
 use Rattle.machine_spec.specs.View.{finished, viewOf}
 use Rattle.machine_spec.specs.Shape.{EntrySmall, AllSmall, Shaped}
@@ -38,6 +38,16 @@ entry-smaller wl wk (release l) h = omega arith
 all-smaller : {ls ks : ℕ} → ls ≤ 16 → ks ≤ 4 → (es : List Entry) → AllSmall ls ks es → AllSmall 16 4 es
 all-smaller wl wk [] h = tt
 all-smaller wl wk (e ∷ es) h = (entry-smaller wl wk e (h .0), all-smaller wl wk es (h .1))
+
+-- a state within a kernel's bounds can be written
+pub shaped-small : {k : Program} {row : List Loaded} {f : Bool} {s : State} → Lawful k → Shaped k (viewOf row f s)
+    → Small s
+shaped-small {k} {s = s} law shaped = record {
+  locks = λ i. omega (arith, shaped .locks-small i, law .few-lanes);
+  entries = λ t. all-smaller (law .few-locations) (law .few-locks) (laneAt s t .pending)
+      (subst (AllSmall (k .locations) (k .locks)) (List·getD-map (λ (l : Lane). l .pending) (s .lanes) t idle)
+      (shaped .entries t));
+}
 
 module _ {m : Coded} {vol : ℕ → Bool} {rows first count : List ℕ} {mvs : List Move} {h : Held} {s : List ℕ}
     {k : Program} (b : Begins m vol rows first count mvs h s k) where
@@ -88,12 +98,7 @@ module _ {m : Coded} {vol : ℕ → Bool} {rows first count : List ℕ} {mvs : L
       shaped = shape s k (b .schedule .accepts) (machineIn m) mvs (b .schedule .lets) _ (came r)
 
       pub small : Small (stateIn e)
-      small = record {
-        locks = λ i. omega (arith, shaped .locks-small i, law .few-lanes);
-        entries = λ t. all-smaller (law .few-locations) (law .few-locks) (laneAt (stateIn e) t .pending)
-            (subst (AllSmall (k .locations) (k .locks))
-            (List·getD-map (λ (l : Lane). l .pending) (stateIn e .lanes) t idle) (shaped .entries t));
-      }
+      small = shaped-small law shaped
 
       -- f is what `ended` says of the lanes' positions
       pub record-is : {f : Bool}

@@ -1,6 +1,7 @@
 -- `machine_course::finish::finish` meets its contract.
 use mathlib.Core.Path.{_∙_}
 use Rattle.machine_course.specs.Stands.{answerBy}
+use Rattle.machine_course.proofs.Laws.Sizes.{stands-fits}
 use borrow.Author.Needs.{needs}
 use Rattle.machine_course.proofs.finish.finish.Statement.{statement}
 use Rattle.machine_course.proofs.finish.finish.Tie as tie
@@ -9,7 +10,7 @@ finished-requires : tie.Need-finished-requires
 finished-requires c κs = search needs
 
 end-of-requires : tie.Need-end-of-requires
-end-of-requires c κs = c .before .pre .stands .sized
+end-of-requires c κs = let so = c .before .pre .stands in (so .sized, stands-fits so)
 
 returns : tie.Need-returns
 returns c =
