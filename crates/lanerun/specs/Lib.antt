@@ -1,0 +1,2 @@
+-- Told: a run that is told move by move.
+pub mod Told
