@@ -5,7 +5,7 @@ use mathlib.Core.List.{List, map}
 use Prim.Native.Nat.{_≤_}
 use lib.ListN.{length, take}
 use Rattle.machine_spec.specs.Schedule.{Move, move}
-use Rattle.machine_spec.specs.State.{State, Loaded}
+use Rattle.machine_spec.specs.State.{State}
 use Rattle.machine_spec.specs.Run.{Answer}
 use Rattle.machine_lane.specs.Lanes.{laneIn}
 use Rattle.machine_state.specs.States.{Held, stateIn}
@@ -32,17 +32,14 @@ pub record Fits (s : State) : Type 0 where
 abbrev pub Holds : Held → End → Type 0
 Holds s e = endState e ≡ stateIn s
 
-abbrev pub answerIn : Ran → List Loaded → Answer
-answerIn r row =
-    record {
-      number = r .number;
-      blames = r .rec;
-      state = endState (r .end);
-      finished = r .finished;
-      done = r .done;
-      waited = r .waited;
-      row = row;
-    }
+-- r is the answer a
+pub record Answers (r : Ran) (a : Answer) : Type 0 where
+  pub number : r .number ≡ a .number
+  pub blames : r .rec ≡ a .blames
+  pub state : endState (r .end) ≡ a .state
+  pub finished : r .finished ≡ a .finished
+  pub done : r .done ≡ a .done
+  pub waited : r .waited ≡ a .waited
 
 -- the moves of a slice of move structs
 abbrev pub moveIn : Declared → Move

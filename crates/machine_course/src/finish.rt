@@ -6,7 +6,7 @@ ghost use lib.ListN.{take};
 ghost use Rattle.machine_spec.specs.Schedule.{Move};
 ghost use Rattle.machine_state.specs.declared.rules.Machine.{Machine};
 ghost use Rattle.machine_course.specs.Stands.{Stands, Judged, answerBy};
-ghost use Rattle.machine_course.specs.Returned.{answerIn, Fits, Holds};
+ghost use Rattle.machine_course.specs.Returned.{Answers, Fits, Holds};
 ghost use Rattle.machine_state.specs.States.{rowAt, stateIn, Sized};
 use crate::course::Course;
 use machine_lane::lane::Lane;
@@ -108,7 +108,7 @@ pub fn finish(x: Course, state: &State) -> Ran
     requires { ⌜ Judged x (now state) ⌝ }
     ensures { λ r. ⌜ ((s : List ℕ) (m : Machine) (mvs : List Move) (rows : List ℕ) → Stands s m mvs rows x
         (now (state .entry))
-        → answerIn r (answerBy m s mvs .row) ≡ answerBy m s mvs) ⌝ }
+        → Answers r (answerBy m s mvs)) ⌝ }
 {
     let finished = finished(x, state);
     let end = end_of(state);

@@ -1,9 +1,6 @@
 // A run from a kernel file and a slice of move structs.
-ghost use mathlib.Core.Path.{_≡_};
-ghost use Rattle.file_verdict.specs.Verdict.{verdict};
-ghost use Rattle.machine_spec.specs.Run.{runBy};
-ghost use Rattle.machine_state.specs.Machines.{machineIn};
-ghost use Rattle.machine_course.specs.Returned.{answerIn, movesOf};
+ghost use Rattle.machine_course.specs.Stands.{answerBy};
+ghost use Rattle.machine_course.specs.Returned.{Answers, movesOf};
 use crate::moves::run_moves;
 use machine_course::begin::begin;
 use machine_course::course::no_rows;
@@ -13,11 +10,9 @@ use machine_course::finish::finish;
 use machine_course::moves::Move;
 use machine_state::rules::Machine;
 
-// The answer is the definition's; the row of loaded values, which it has besides, is not returned.
+// The answer is the definition's: number, record, state, finished, done, waited.
 pub fn run(machine: Machine, file: &[u8], moves: &[Move]) -> Ran
-    ensures { λ r. ⌜ answerIn r (runBy (machineIn machine) (now (file .entry)) (verdict (now (file .entry)))
-        (movesOf (now (moves .entry))) .row)
-        ≡ runBy (machineIn machine) (now (file .entry)) (verdict (now (file .entry))) (movesOf (now (moves .entry))) ⌝ }
+    ensures { λ r. ⌜ Answers r (answerBy machine (now (file .entry)) (movesOf (now (moves .entry)))) ⌝ }
 {
     let mut rows = no_rows();
     let mut state = no_state();

@@ -1,6 +1,6 @@
 -- The two machines: Entries pending lists, Rules what tells the machines apart, Step one lane's move, Schedule rows of
 -- moves, Moves their bytes, State states and runs over schedules, View what is compared of a run, Run answers from the
--- bytes of a kernel file, Shape the bounds of a state. Examples computes turns, runs and answers.
+-- bytes of a kernel file, Shape the bounds of a state. Examples computes turns and runs, AnswerExamples refusals.
 pub mod Entries
 pub mod Rules
 pub mod Step
@@ -11,3 +11,4 @@ pub mod View
 pub mod Run
 pub mod Shape
 pub mod Examples
+pub mod AnswerExamples

@@ -1,6 +1,5 @@
 -- `machine_course::finish::finish` meets its contract.
 use mathlib.Core.Path.{_∙_}
-use Rattle.machine_course.specs.Stands.{answerBy}
 use Rattle.machine_course.proofs.Laws.Sizes.{stands-fits}
 use borrow.Author.Needs.{needs}
 use Rattle.machine_course.proofs.finish.finish.Statement.{statement}
@@ -13,19 +12,14 @@ end-of-requires : tie.Need-end-of-requires
 end-of-requires c κs = let so = c .before .pre .stands in (so .sized, stands-fits so)
 
 returns : tie.Need-returns
-returns c =
-    λ s m mvs rows so.
-    let done = c .before .finished .ensures s m mvs rows so in
-    let end = c .end-of .ensures ∙ so .state in
-    λ i. record {
-      number = so .number i;
-      blames = so .blames i;
-      state = end i;
-      finished = done i;
-      done = so .done i;
-      waited = so .waited i;
-      row = answerBy m s mvs .row;
-    }
+returns c = λ s m mvs rows so. record {
+  number = so .number;
+  blames = so .blames;
+  state = c .end-of .ensures ∙ so .state;
+  finished = c .before .finished .ensures s m mvs rows so;
+  done = so .done;
+  waited = so .waited;
+}
 
 pub finish-spec : {M : Type 1} → statement M
 finish-spec = tie.close (tie.spec finished-requires end-of-requires returns)

@@ -1,5 +1,7 @@
--- `machine_moves::moves::run_moves` meets its contract: Walk walks its MIR, by hand.
+-- `machine_moves::moves::run_moves` meets its contract: Walk walks its MIR, by hand, with its call and its loop in
+-- files of their own.
 mod Call
+mod Loop
 mod Walk
 use mathlib.Core.Path.{refl}
 use mathlib.Core.List.{[], _∷_}
