@@ -11,6 +11,13 @@ use crate::course::Course;
 use machine_lane::lane::Lane;
 use machine_run::judge::ended;
 use machine_state::held::take;
+use machine_state::state::COUNTS;
+use machine_state::state::LANES;
+use machine_state::state::LOCATIONS;
+use machine_state::state::LOCKS;
+use machine_state::state::LOCKWORDS;
+use machine_state::state::MEMORY;
+use machine_state::state::SHARED;
 use machine_state::state::State;
 
 // The end state: the first `lanecount` lanes, `locations` of memory and `lockwords` of the locks.
@@ -42,12 +49,12 @@ fn end_of(state: &State) -> End
     let c = take(state, 2);
     let d = take(state, 3);
     let lanes = [a, b, c, d];
-    let memory = state[4][0];
-    let locks = state[4][1];
+    let memory = state[SHARED][MEMORY];
+    let locks = state[SHARED][LOCKWORDS];
     End {
-        lanecount: state[4][2][0],
-        locations: state[4][2][1],
-        lockwords: state[4][2][2],
+        lanecount: state[SHARED][COUNTS][LANES],
+        locations: state[SHARED][COUNTS][LOCATIONS],
+        lockwords: state[SHARED][COUNTS][LOCKS],
         lanes,
         memory,
         locks,
