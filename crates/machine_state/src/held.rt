@@ -25,6 +25,14 @@ pub fn position(state: &State, t: usize) -> u32
     word_at(state, t, HEAD, POSITION)
 }
 
+// The position after it.
+pub fn next_position(state: &State, t: usize) -> u32
+    requires { ⌜ (t < 4) × (laneOf (now state) t .control .pos < 65536) ⌝ }
+    ensures { λ r. ⌜ r ≡ suc (laneOf (now (state .entry)) t .control .pos) ⌝ }
+{
+    position(state, t) + 1
+}
+
 // Register a of lane t.
 pub fn register(state: &State, t: usize, a: u8) -> u32
     requires { ⌜ Lies (now state) t ⌝ }

@@ -9,7 +9,7 @@ use lib.Seq.{getD-set-same, getD-set-other, set-set, set-getD, set-out, take-set
 use Rattle.machine_spec.specs.State.{Lane}
 use Rattle.machine_lane.specs.Lanes.{entriesOf, laneIn}
 use Rattle.machine_lane.proofs.Laws.Entries.{entries-length}
-use Rattle.machine_state.specs.States.{HEAD, CELLS, VALUES, SHARED, MEMORY, LOCKWORDS, COUNTS}
+use Rattle.machine_state.specs.States.{CELLS, VALUES, SHARED, MEMORY, LOCKWORDS, COUNTS}
 use Rattle.machine_state.specs.States.{LANES, LOCATIONS, LOCKS}
 use Rattle.machine_state.specs.States.{Held, rowAt, withWord, storedIn, laneOf, countOf, stateIn}
 use Rattle.machine_state.specs.States.{Block, Sized, Lies, withLane, Became, Shared}

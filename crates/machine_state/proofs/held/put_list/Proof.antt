@@ -1,6 +1,5 @@
 -- `machine_state::held::put_list` meets its contract.
 use mathlib.Core.List.{[]}
-use mathlib.Core.Path.{ap, _∙_}
 use lib.ListN.{getD, set}
 use Rattle.machine_lane.proofs.Laws.Lanes.{cells-length, values-length}
 use Rattle.machine_state.specs.States.{CELLS, VALUES}
