@@ -12,6 +12,13 @@ use crate::course::Course;
 use machine_lane::lane::Lane;
 use machine_run::judge::ended;
 use machine_state::held::take;
+use machine_state::state::COUNTS;
+use machine_state::state::LANES;
+use machine_state::state::LOCATIONS;
+use machine_state::state::LOCKS;
+use machine_state::state::LOCKWORDS;
+use machine_state::state::MEMORY;
+use machine_state::state::SHARED;
 use machine_state::state::State;
 
 // The end state: the first `lanecount` lanes, `locations` of memory and `lockwords` of the locks.
@@ -39,7 +46,7 @@ fn memory_of(state: &State) -> [u32; 16]
     requires { ⌜ Sized (now state) ⌝ }
     ensures { λ r. ⌜ r ≡ take 16 (rowAt (now (state .entry)) 4 0) ⌝ }
 {
-    let w = state[4][0];
+    let w = state[SHARED][MEMORY];
     [
         w[0],
         w[1],
@@ -65,7 +72,7 @@ fn locks_of(state: &State) -> [u32; 4]
     requires { ⌜ Sized (now state) ⌝ }
     ensures { λ r. ⌜ r ≡ take 4 (rowAt (now (state .entry)) 4 1) ⌝ }
 {
-    let w = state[4][1];
+    let w = state[SHARED][LOCKWORDS];
     [w[0], w[1], w[2], w[3]]
 }
 
@@ -81,9 +88,9 @@ fn end_of(state: &State) -> End
     let memory = memory_of(state);
     let locks = locks_of(state);
     End {
-        lanecount: state[4][2][0],
-        locations: state[4][2][1],
-        lockwords: state[4][2][2],
+        lanecount: state[SHARED][COUNTS][LANES],
+        locations: state[SHARED][COUNTS][LOCATIONS],
+        lockwords: state[SHARED][COUNTS][LOCKS],
         lanes,
         memory,
         locks,

@@ -16,6 +16,9 @@ use machine_lane::lane::Lane;
 use machine_state::held::take;
 use machine_state::shared::lock_at;
 use machine_state::shared::memory_at;
+use machine_state::state::COUNTS;
+use machine_state::state::LANES;
+use machine_state::state::SHARED;
 use machine_state::state::State;
 use sheet_rows::number::wide;
 
@@ -86,7 +89,7 @@ fn write_lane_at(out: &mut [u8], start: usize, t: usize, state: &State) -> usize
     ensures { λ r. ⌜ Puts (now (out .entry)) start
         (stateLane (laneAt (stateIn (now (state .entry))) t)) (now (out .exit)) r ⌝ }
 {
-    if t < wide(state[4][2][0]) {
+    if t < wide(state[SHARED][COUNTS][LANES]) {
         return write_lane(out, start, take(state, t));
     }
     let none = Lane {

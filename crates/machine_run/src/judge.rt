@@ -13,6 +13,9 @@ ghost use Rattle.machine_state.specs.States.{countOf, stateIn, Sized};
 ghost use Rattle.machine_run.specs.Counts.{Counts};
 use machine_state::held::position;
 use machine_state::rules::Machine;
+use machine_state::state::COUNTS;
+use machine_state::state::LANES;
+use machine_state::state::SHARED;
 use machine_state::state::State;
 use sheet_rows::number::wide;
 
@@ -54,7 +57,7 @@ pub fn ended(state: &State, count: &[usize; 4]) -> bool
     ensures { λ r. ⌜ ((prog : List (List Instr)) → Counts (countOf (now (state .entry)) 0) (now (count .entry)) prog
         → r ≡ finished prog (stateIn (now (state .entry)))) ⌝ }
 {
-    let n = wide(state[4][2][0]);
+    let n = wide(state[SHARED][COUNTS][LANES]);
     let mut t = 0;
     while t < n {
         if wide(position(state, t)) < count[t] {

@@ -13,6 +13,11 @@ use machine_run::judge::ended;
 use machine_run::run::Ended;
 use machine_run::run::run_moves;
 use machine_state::rules::Machine;
+use machine_state::state::COUNTS;
+use machine_state::state::LANES;
+use machine_state::state::LOCATIONS;
+use machine_state::state::LOCKS;
+use machine_state::state::SHARED;
 use machine_state::state::State;
 use sheet_format::Lowered;
 use sheet_rows::parts::parts_of;
@@ -62,9 +67,9 @@ pub fn run_rows(machine: Machine, mask: u32, rows: &[u8], moves: &[u8], out: &mu
     let count = parts.count;
     let flags = flags_of(mask);
     let mut state = [[[0u32; 64]; 3]; 5];
-    state[4][2][0] = byte_at(rows, 0) as u32;
-    state[4][2][1] = byte_at(rows, 1) as u32;
-    state[4][2][2] = byte_at(rows, 2) as u32;
+    state[SHARED][COUNTS][LANES] = byte_at(rows, 0) as u32;
+    state[SHARED][COUNTS][LOCATIONS] = byte_at(rows, 1) as u32;
+    state[SHARED][COUNTS][LOCKS] = byte_at(rows, 2) as u32;
     run_lanes(
         machine,
         &flags,

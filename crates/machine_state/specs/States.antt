@@ -1,45 +1,99 @@
 -- The state of the text that the borrowed array holds, and what a write to it makes of it.
-use Prim.Native.Nat.{ℕ, _<_}
+use Prim.Native.Nat.{ℕ, zero, suc, _<_}
 use mathlib.Core.Path.{_≡_}
-use mathlib.Core.List.{List, [], map}
+use mathlib.Core.List.{List, [], _∷_, map}
 use lib.ListN.{length, getD, take, set as update}
 use Rattle.machine_spec.specs.Step.{Core}
 use Rattle.machine_spec.specs.State.{Lane, State}
 use Rattle.machine_lane.specs.declared.lane.Lane.{Lane as Stored}
 use Rattle.machine_lane.specs.Lanes.{laneIn}
 
--- blocks of rows of words: four lanes, and what they share
+-- ## the layout: blocks of rows of words, four lanes and what they share. Names as in src/state.rt
+
 abbrev pub Held : Type 0
 Held = List (List (List ℕ))
+
+-- the rows of a lane
+abbrev pub HEAD : ℕ
+HEAD = 0
+
+abbrev pub CELLS : ℕ
+CELLS = 1
+
+abbrev pub VALUES : ℕ
+VALUES = 2
+
+-- the words of a lane's head after its eight registers
+abbrev pub POSITION : ℕ
+POSITION = 8
+
+abbrev pub LENGTH : ℕ
+LENGTH = 9
+
+-- the shared block, and its rows
+abbrev pub SHARED : ℕ
+SHARED = 4
+
+abbrev pub MEMORY : ℕ
+MEMORY = 0
+
+abbrev pub LOCKWORDS : ℕ
+LOCKWORDS = 1
+
+abbrev pub COUNTS : ℕ
+COUNTS = 2
+
+-- the words of the counts
+abbrev pub LANES : ℕ
+LANES = 0
+
+abbrev pub LOCATIONS : ℕ
+LOCATIONS = 1
+
+abbrev pub LOCKS : ℕ
+LOCKS = 2
 
 abbrev pub rowAt : Held → ℕ → ℕ → List ℕ
 rowAt s t j = getD (getD s t []) j []
 
--- the lane of a block: row 0 has its registers, its position and the number of its entries, 1 their cells, 2 their
--- values
+abbrev pub wordAt : Held → ℕ → ℕ → ℕ → ℕ
+wordAt s t j i = getD (rowAt s t j) i 0
+
+-- the first n values of f
+abbrev pub firsts : ℕ → (ℕ → ℕ) → List ℕ
+firsts zero f = []
+firsts (suc n) f = f 0 ∷ firsts n (λ i. f (suc i))
+
+-- with another word
+abbrev pub withWord : Held → ℕ → ℕ → ℕ → ℕ → Held
+withWord s t j i x = update s t (update (getD s t []) j (update (rowAt s t j) i x))
+
+-- ## what it holds
+
+-- the lane of a block
 abbrev pub storedIn : List (List ℕ) → Stored
 storedIn b =
     record {
-      at = getD (getD b 0 []) 8 0;
-      registers = take 8 (getD b 0 []);
-      cells = getD b 1 [];
-      values = getD b 2 [];
-      len = getD (getD b 0 []) 9 0;
+      at = getD (getD b HEAD []) POSITION 0;
+      registers = take 8 (getD b HEAD []);
+      cells = getD b CELLS [];
+      values = getD b VALUES [];
+      len = getD (getD b HEAD []) LENGTH 0;
     }
 
 abbrev pub laneOf : Held → ℕ → Lane
 laneOf s t = laneIn (storedIn (getD s t []))
 
--- the number of lanes (0), of locations (1), of locks (2)
+-- how many lanes, locations or locks there are
 abbrev pub countOf : Held → ℕ → ℕ
-countOf s j = getD (rowAt s 4 2) j 0
+countOf s j = wordAt s SHARED COUNTS j
 
 abbrev pub stateIn : Held → State
 stateIn s =
     record {
-      lanes = take (countOf s 0) (map (λ b. laneIn (storedIn b)) (take 4 s));
-      memory = take (countOf s 1) (rowAt s 4 0);
-      locks = take (countOf s 2) (rowAt s 4 1);
+      lanes = take (countOf s LANES) (map (λ b. laneIn (storedIn b)) (take 4 s));
+      memory = take (countOf s LOCATIONS) (rowAt s SHARED MEMORY);
+      locks = take (countOf s LOCKS) (rowAt s SHARED LOCKWORDS);
     }
 
 abbrev pub coreIn : Held → ℕ → Core
@@ -75,12 +129,12 @@ withLane s t l = record { lanes = update (s .lanes) t l; memory = s .memory; loc
 pub record Became (s : Held) (t : ℕ) (l : Lane) (e : Held) : Type 0 where
   pub sized : Sized e
   pub lane : laneOf e t ≡ l
-  pub lanes : countOf e 0 ≡ countOf s 0
+  pub lanes : countOf e LANES ≡ countOf s LANES
   pub state : stateIn e ≡ withLane (stateIn s) t l
 
 -- s became e: the same but for memory and the lock words
 pub record Shared (s : Held) (memory locks : List ℕ) (e : Held) : Type 0 where
   pub sized : Sized e
   pub each : (t : ℕ) → t < 4 → getD e t [] ≡ getD s t []
-  pub lanes : countOf e 0 ≡ countOf s 0
+  pub lanes : countOf e LANES ≡ countOf s LANES
   pub state : stateIn e ≡ record { lanes = stateIn s .lanes; memory = memory; locks = locks }

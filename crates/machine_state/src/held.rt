@@ -6,8 +6,15 @@ ghost use Prim.Native.Nat.{suc, _<_, _≤_};
 ghost use lib.ListN.{length, getD};
 ghost use Rattle.machine_spec.specs.Entries.{appendEntry};
 ghost use Rattle.machine_lane.specs.Lanes.{entryOf, laneIn, placedAt, withPending, withRegister};
-ghost use Rattle.machine_state.specs.States.{storedIn, laneOf, Sized, Lies, Became};
+ghost use Rattle.machine_state.specs.States.{HEAD, firsts, wordAt, storedIn, laneOf, Lies, Became};
+use crate::state::CELLS;
+use crate::state::HEAD;
+use crate::state::LENGTH;
+use crate::state::POSITION;
 use crate::state::State;
+use crate::state::VALUES;
+use crate::state::put_word;
+use crate::state::word_at;
 use machine_lane::lane::Lane;
 
 // The position of lane t.
@@ -15,7 +22,15 @@ pub fn position(state: &State, t: usize) -> u32
     requires { ⌜ t < 4 ⌝ }
     ensures { λ r. ⌜ r ≡ laneOf (now (state .entry)) t .control .pos ⌝ }
 {
-    state[t][0][8]
+    word_at(state, t, HEAD, POSITION)
+}
+
+// The position after it.
+pub fn next_position(state: &State, t: usize) -> u32
+    requires { ⌜ (t < 4) × (laneOf (now state) t .control .pos < 65536) ⌝ }
+    ensures { λ r. ⌜ r ≡ suc (laneOf (now (state .entry)) t .control .pos) ⌝ }
+{
+    position(state, t) + 1
 }
 
 // Register a of lane t.
@@ -24,13 +39,7 @@ pub fn register(state: &State, t: usize, a: u8) -> u32
     ensures { λ r. ⌜ r ≡ getD (laneOf (now (state .entry)) t .regs) a 0 ⌝ }
 {
     let i = a as usize;
-    if i < 8 { state[t][0][i] } else { 0 }
-}
-
-fn wide(x: u32) -> usize
-    ensures { λ r. ⌜ r ≡ x ⌝ }
-{
-    x as usize
+    if i < 8 { word_at(state, t, HEAD, i) } else { 0 }
 }
 
 // How many entries lane t has pending.
@@ -38,8 +47,24 @@ pub fn count(state: &State, t: usize) -> usize
     requires { ⌜ Lies (now state) t ⌝ }
     ensures { λ r. ⌜ (r ≡ length (laneOf (now (state .entry)) t .pending)) × (r ≤ 64) ⌝ }
 {
-    let n = wide(state[t][0][9]);
+    let n = word_at(state, t, HEAD, LENGTH) as usize;
     if n < 64 { n } else { 64 }
+}
+
+fn registers(state: &State, t: usize) -> [u32; 8]
+    requires { ⌜ t < 4 ⌝ }
+    ensures { λ r. ⌜ r ≡ firsts 8 (wordAt (now (state .entry)) t HEAD) ⌝ }
+{
+    [
+        state[t][HEAD][0],
+        state[t][HEAD][1],
+        state[t][HEAD][2],
+        state[t][HEAD][3],
+        state[t][HEAD][4],
+        state[t][HEAD][5],
+        state[t][HEAD][6],
+        state[t][HEAD][7],
+    ]
 }
 
 // Lane t as a whole.
@@ -47,15 +72,15 @@ pub fn take(state: &State, t: usize) -> Lane
     requires { ⌜ Lies (now state) t ⌝ }
     ensures { λ r. ⌜ r ≡ storedIn (getD (now (state .entry)) t []) ⌝ }
 {
-    let h = state[t][0];
-    let c = state[t][1];
-    let v = state[t][2];
+    let r = registers(state, t);
+    let c = state[t][CELLS];
+    let v = state[t][VALUES];
     Lane {
-        at: h[8],
-        registers: [h[0], h[1], h[2], h[3], h[4], h[5], h[6], h[7]],
+        at: word_at(state, t, HEAD, POSITION),
+        registers: r,
         cells: c,
         values: v,
-        len: h[9],
+        len: word_at(state, t, HEAD, LENGTH),
     }
 }
 
@@ -65,7 +90,7 @@ pub fn go(t: usize, next: u32, state: &mut State)
     ensures { λ _. ⌜ Became (now (state .entry)) t (placedAt (laneOf (now (state .entry)) t) next) (now (state .exit))
         ⌝ }
 {
-    state[t][0][8] = next;
+    put_word(t, HEAD, POSITION, next, state);
 }
 
 // Register a of lane t becomes a value.
@@ -76,7 +101,7 @@ fn set_register(t: usize, a: u8, value: u32, state: &mut State)
 {
     let i = a as usize;
     if i < 8 {
-        state[t][0][i] = value;
+        put_word(t, HEAD, i, value, state);
     }
 }
 
@@ -103,9 +128,9 @@ fn put_newest(lane: Lane, t: usize, state: &mut State)
     let n = lane.len as usize - 1;
     let c = lane.cells;
     let v = lane.values;
-    state[t][1][n] = c[n];
-    state[t][2][n] = v[n];
-    state[t][0][9] = lane.len;
+    put_word(t, CELLS, n, c[n], state);
+    put_word(t, VALUES, n, v[n], state);
+    put_word(t, HEAD, LENGTH, lane.len, state);
 }
 
 // The lane's pending list becomes that of lane t.
@@ -115,10 +140,10 @@ pub fn put_list(lane: Lane, t: usize, state: &mut State)
         (withPending (laneOf (now (state .entry)) t) (laneIn lane .pending)) (now (state .exit)) ⌝ }
 {
     let c = lane.cells;
-    state[t][1] = c;
+    state[t][CELLS] = c;
     let v = lane.values;
-    state[t][2] = v;
-    state[t][0][9] = lane.len;
+    state[t][VALUES] = v;
+    put_word(t, HEAD, LENGTH, lane.len, state);
 }
 
 // Lane t, at `next` with one entry more pending.

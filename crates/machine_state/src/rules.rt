@@ -10,7 +10,9 @@ use crate::held::count;
 use crate::held::take;
 use crate::search::has_older;
 use crate::search::has_sync;
+use crate::state::CELLS;
 use crate::state::State;
+use crate::state::word_at;
 use barrier_placement::cookbook::Barrier;
 use machine_lane::lane::is_sync;
 use machine_lane::lane::is_volatile;
@@ -39,7 +41,7 @@ pub fn may_commit(
     }
     match machine {
         Machine::Source => {
-            let cell = state[t][1][index];
+            let cell = word_at(state, t, CELLS, index);
             if is_sync(volatile, cell) {
                 false
             } else {

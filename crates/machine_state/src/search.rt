@@ -6,7 +6,9 @@ ghost use Rattle.machine_spec.specs.Entries.{anySync, anySame};
 ghost use Rattle.machine_lane.specs.Lanes.{flags, entryOf};
 ghost use Rattle.machine_state.specs.States.{laneOf, Lies};
 use crate::held::count;
+use crate::state::CELLS;
 use crate::state::State;
+use crate::state::word_at;
 use machine_lane::lane::is_sync;
 
 // Whether a volatile store or a release is pending.
@@ -17,7 +19,7 @@ pub fn has_sync(volatile: &[bool], state: &State, t: usize) -> bool
     let n = count(state, t);
     let mut i = 0;
     while i < n {
-        if is_sync(volatile, state[t][1][i]) {
+        if is_sync(volatile, word_at(state, t, CELLS, i)) {
             return true;
         }
         i += 1;
@@ -32,7 +34,7 @@ pub fn has_older(state: &State, t: usize, n: usize, cell: u32) -> bool
 {
     let mut i = 0;
     while i < n {
-        if state[t][1][i] == cell {
+        if word_at(state, t, CELLS, i) == cell {
             return true;
         }
         i += 1;

@@ -7,7 +7,7 @@ ghost use Rattle.machine_lane.specs.Lanes.{flags};
 ghost use Rattle.machine_state.specs.Ready.{Ready};
 ghost use Rattle.machine_step.specs.Turns.{Carried};
 use machine_state::held::issue;
-use machine_state::held::position;
+use machine_state::held::next_position;
 use machine_state::held::register;
 use machine_state::held::write_register;
 use machine_state::rules::Machine;
@@ -34,7 +34,7 @@ pub(crate) fn load(
         return Moved::Waited;
     }
     let value = sees(machine, volatile, state, t, x as u32, memory_at(state, x));
-    let next = position(state, t) + 1;
+    let next = next_position(state, t);
     write_register(t, a, value, next, state);
     Moved::Done
 }
@@ -46,7 +46,7 @@ pub(crate) fn store(a: u8, x: u8, t: usize, state: &mut State) -> Moved
         → Carried m f (op (Store a x)) t (now (state .entry)) r (now (state .exit))) ⌝ }
 {
     let value = register(state, t, a);
-    let next = position(state, t) + 1;
+    let next = next_position(state, t);
     issue(t, x as u32, value, next, state);
     Moved::Done
 }

@@ -10,8 +10,11 @@ use machine_state::rules::Machine;
 use machine_state::rules::may_commit;
 use machine_state::shared::set_lock;
 use machine_state::shared::set_memory;
+use machine_state::state::CELLS;
 use machine_state::state::Moved;
 use machine_state::state::State;
+use machine_state::state::VALUES;
+use machine_state::state::word_at;
 
 // An entry's value reaches memory, or its lock is free.
 fn settle(cell: u32, value: u32, state: &mut State)
@@ -46,7 +49,11 @@ pub fn commit(
         return Moved::Waited;
     }
     let own = take(state, t);
-    settle(state[t][1][index], state[t][2][index], state);
+    settle(
+        word_at(state, t, CELLS, index),
+        word_at(state, t, VALUES, index),
+        state,
+    );
     put_list(own.commit(index), t, state);
     Moved::Done
 }

@@ -8,7 +8,7 @@ ghost use Rattle.machine_state.specs.Ready.{Ready};
 ghost use Rattle.machine_step.specs.Turns.{Carried};
 use machine_state::held::go;
 use machine_state::held::issue;
-use machine_state::held::position;
+use machine_state::held::next_position;
 use machine_state::rules::Machine;
 use machine_state::rules::may_lock;
 use machine_state::shared::lock_at;
@@ -28,7 +28,7 @@ pub(crate) fn lock(machine: Machine, volatile: &[bool], l: u8, t: usize, state: 
     if !may_lock(machine, volatile, state, t) {
         return Moved::Waited;
     }
-    let next = position(state, t) + 1;
+    let next = next_position(state, t);
     set_lock(l as u32, t as u32 + 1, state);
     go(t, next, state);
     Moved::Done
@@ -43,7 +43,7 @@ pub(crate) fn unlock(l: u8, t: usize, state: &mut State) -> Moved
     if lock_at(state, l) != t as u32 + 1 {
         return Moved::ReleaseNotHeld;
     }
-    let next = position(state, t) + 1;
+    let next = next_position(state, t);
     issue(t, 16 + l as u32, 0, next, state);
     Moved::Done
 }

@@ -7,7 +7,7 @@ ghost use Rattle.machine_state.specs.Ready.{Ready};
 ghost use Rattle.machine_step.specs.Turns.{Carried};
 use barrier_placement::cookbook::Barrier;
 use machine_state::held::go;
-use machine_state::held::position;
+use machine_state::held::next_position;
 use machine_state::held::register;
 use machine_state::held::write_register;
 use machine_state::rules::Machine;
@@ -21,7 +21,7 @@ pub(crate) fn set(a: u8, value: u32, t: usize, state: &mut State) -> Moved
     ensures { λ r. ⌜ ((m : Machine) (f : ℕ → Bool)
         → Carried m f (op (Set a value)) t (now (state .entry)) r (now (state .exit))) ⌝ }
 {
-    let next = position(state, t) + 1;
+    let next = next_position(state, t);
     write_register(t, a, value, next, state);
     Moved::Done
 }
@@ -33,7 +33,7 @@ pub(crate) fn add(a: u8, b: u8, t: usize, state: &mut State) -> Moved
         → Carried m f (op (Add a b)) t (now (state .entry)) r (now (state .exit))) ⌝ }
 {
     let sum = std::num::wrapping_add_u32(register(state, t, a), register(state, t, b));
-    let next = position(state, t) + 1;
+    let next = next_position(state, t);
     write_register(t, a, sum, next, state);
     Moved::Done
 }
@@ -48,7 +48,7 @@ pub(crate) fn skip(a: u8, target: u32, t: usize, state: &mut State) -> Moved
         go(t, target, state);
         return Moved::Done;
     }
-    let next = position(state, t) + 1;
+    let next = next_position(state, t);
     go(t, next, state);
     Moved::Done
 }
@@ -62,7 +62,7 @@ pub(crate) fn pass(machine: Machine, kind: Barrier, t: usize, state: &mut State)
     if !may_pass(machine, kind, state, t) {
         return Moved::Waited;
     }
-    let next = position(state, t) + 1;
+    let next = next_position(state, t);
     go(t, next, state);
     Moved::Done
 }

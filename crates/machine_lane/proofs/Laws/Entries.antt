@@ -78,9 +78,3 @@ pub take-length-take : (m : ℕ) (l : List Entry) → take (length (take m l)) l
 take-length-take zero l = refl
 take-length-take (suc m) [] = refl
 take-length-take (suc m) (x ∷ xs) = ap (λ t. x ∷ t) (take-length-take m xs)
-
-pub take-within : (n m : ℕ) (l : List Entry) → n ≤ length (take m l) → take n (take m l) ≡ take n l
-take-within zero m l h = refl
-take-within (suc n) zero l h = absurd (omega arith)
-take-within (suc n) (suc m) [] h = refl
-take-within (suc n) (suc m) (x ∷ l) h = ap (λ t. x ∷ t) (take-within n m l (omega arith))

@@ -1,22 +1,15 @@
 -- What a lane's type says of its arrays and of its pending list.
-use Prim.Native.Nat.{ℕ, zero, suc, min}
-use mathlib.Core.Path.{_≡_, refl, ap, sym, _∙_}
-use mathlib.Core.List.{List, [], _∷_}
-use native.Mathlib.Omega.{arith}
-use borrow.Author.Tests.{ne-eqb}
-use lib.Dec.{eqb}
-use lib.ListN.{length, take, length-map, length-take}
+use Prim.Native.Nat.{min}
+use mathlib.Core.Path.{_≡_, ap, sym, _∙_}
+use mathlib.Core.List.{List}
+use lib.ListN.{length, length-map, length-take}
 use mir.Val.{Val}
 use denote.Laws.{Is}
-use Rattle.machine_spec.specs.Entries.{Entry, isNil}
 use Rattle.machine_spec.specs.State.{Lane as TextLane}
 use Rattle.machine_lane.specs.declared.lane.Lane.{Lane}
 use Rattle.machine_lane.specs.Lanes.{entriesOf, laneIn}
 use Rattle.machine_lane.proofs.Laws.Entries.{entries-length}
 use Rattle.machine_lane.proofs.lane.Lane as T
-
-pub registers-length : (l : Lane) (vs : List Val) → Is T.the-row l vs → length (l .registers) ≡ 8
-registers-length l vs is = sym (length-map (l .registers) _) ∙ is .1 .1 .1 .0 .1 .0 .1
 
 pub cells-length : (l : Lane) (vs : List Val) → Is T.the-row l vs → length (l .cells) ≡ 64
 cells-length l vs is = sym (length-map (l .cells) _) ∙ is .1 .1 .1 .1 .0 .1 .0 .1
@@ -34,13 +27,3 @@ pending-length l vs is = length-take (l .len) (entriesOf (l .cells) (l .values))
 -- two lanes are one where their parts are
 pub lane-eq : {s t : TextLane} → s .control .pos ≡ t .control .pos → s .regs ≡ t .regs → s .pending ≡ t .pending → s ≡ t
 lane-eq p q r = λ i. record { control = record { pos = p i }; regs = q i; pending = r i }
-
--- nothing is pending exactly where the length is 0
-pub none-pending : (l : Lane) → length (entriesOf (l .cells) (l .values)) ≡ 64
-    → eqb (l .len) 0 ≡ isNil (laneIn l .pending)
-none-pending l e = go (l .len) (entriesOf (l .cells) (l .values)) e
-  where
-    go : (n : ℕ) (es : List Entry) → length es ≡ 64 → eqb n 0 ≡ isNil (take n es)
-    go zero es e = refl
-    go (suc n) [] e = absurd (omega arith)
-    go (suc n) (x ∷ es) e = ne-eqb (suc n) 0 (λ z. omega arith)

@@ -1,15 +1,15 @@
 -- Laws of the loops that look through a pending list.
 use Prim.Native.Nat.{ℕ, suc, _-_, _≤_, _<_}
-use mathlib.Core.Path.{_≡_, refl, ap, sym, _∙_}
-use mathlib.Core.Bool.{Bool, cond, _||_}
+use mathlib.Core.Path.{_≡_, refl, sym, _∙_}
+use mathlib.Core.Bool.{cond}
 use mathlib.Core.List.{List, [], _∷_, _++_}
 use native.Mathlib.Omega.{arith}
 use lib.Dec.{eqb}
-use lib.ListN.{length, getD, take, drop, length-take}
-use lib.Seq.{drop-cons, take-suc, getD-take}
+use lib.ListN.{length, getD, take}
+use lib.Seq.{take-suc}
 use borrow.Author.Tests.{eq-eqb, ne-eqb, lt-ltb, le-ltb}
 use native.Mathlib.Decide.{decLe}
-use Rattle.machine_spec.specs.Entries.{Entry, write, release, isSync, anySync, sameTarget, anySame, newest}
+use Rattle.machine_spec.specs.Entries.{Entry, write, release, sameTarget, newest}
 use Rattle.machine_lane.specs.Lanes.{entryOf, entriesOf}
 use Rattle.machine_lane.proofs.Laws.Entries.{entries-length, entries-at}
 
@@ -47,15 +47,6 @@ module _ (cs vs : List ℕ) (full : length cs ≡ 64) (whole : length vs ≡ 64)
   here : (i : ℕ) → i < 64 → getD (entriesOf cs vs) i (write 0 0) ≡ entryOf (getD cs i 0) (getD vs i 0)
   here i h = entries-at cs vs i (write 0 0) (omega (arith, entries-length 64 cs vs full whole))
 
-  among : (n i : ℕ) → i < n → n ≤ 64 → drop i (take n (entriesOf cs vs))
-      ≡ entryOf (getD cs i 0) (getD vs i 0) ∷ drop (suc i) (take n (entriesOf cs vs))
-  among n i h k =
-      let inside : i < length (take n (entriesOf cs vs)) =
-      omega (arith, length-take n (entriesOf cs vs), entries-length 64 cs vs full whole) in
-      drop-cons (take n (entriesOf cs vs)) i (write 0 0) inside
-      ∙ ap (λ e. e ∷ drop (suc i) (take n (entriesOf cs vs)))
-      (getD-take n (entriesOf cs vs) i (write 0 0) h ∙ here i (omega arith))
-
   -- the newest value among the first i + 1
   pub newest-on : (x m i : ℕ) → x < 16 → i < 64 → newest x m (take (suc i) (entriesOf cs vs))
       ≡ cond (eqb (getD cs i 0) x) (getD vs i 0) (newest x m (take i (entriesOf cs vs)))
@@ -63,14 +54,3 @@ module _ (cs vs : List ℕ) (full : length cs ≡ 64) (whole : length vs ≡ 64)
       let inside : i < length (entriesOf cs vs) = omega (arith, entries-length 64 cs vs full whole) in
       rw (take-suc (entriesOf cs vs) i (write 0 0) inside, here i k)
       (newest-snoc x m (take i (entriesOf cs vs)) (getD cs i 0) (getD vs i 0) h)
-
-  pub sync-on : (f : ℕ → Bool) (n i : ℕ) → i < n → n ≤ 64 → anySync f (drop i (take n (entriesOf cs vs)))
-      ≡ (isSync f (entryOf (getD cs i 0) (getD vs i 0)) || anySync f (drop (suc i) (take n (entriesOf cs vs))))
-  sync-on f n i h k = ap (anySync f) (among n i h k)
-
-  pub same-on : (c v n i : ℕ) → i < n → n ≤ 64 → anySame (entryOf c v) (drop i (take n (entriesOf cs vs)))
-      ≡ (eqb (getD cs i 0) c || anySame (entryOf c v) (drop (suc i) (take n (entriesOf cs vs))))
-  same-on c v n i h k =
-      ap (anySame (entryOf c v)) (among n i h k)
-      ∙ ap (λ b. b || anySame (entryOf c v) (drop (suc i) (take n (entriesOf cs vs))))
-      (same-cell c v (getD cs i 0) (getD vs i 0))

@@ -13,7 +13,7 @@ use Rattle.machine_spec.specs.Rules.{mayCommit}
 use Rattle.machine_state.specs.declared.rules.Machine.{Machine}
 use Rattle.machine_state.specs.declared.rules.Machine.the-variants.{Source, Tso}
 use Rattle.machine_lane.specs.Lanes.{entryOf, entriesOf, noEntry}
-use Rattle.machine_state.specs.States.{Held, rowAt, storedIn, laneOf}
+use Rattle.machine_state.specs.States.{Held, CELLS, VALUES, rowAt, wordAt, storedIn, laneOf}
 use Rattle.machine_state.specs.Machines.{machineIn}
 use Rattle.machine_lane.proofs.Laws.Entries.{entries-at}
 
@@ -27,12 +27,12 @@ oldest-may Tso f e = refl
 
 -- what is pending at an index
 pub pending-at : (s : Held) (t i : ℕ) → i < length (laneOf s t .pending)
-    → getD (laneOf s t .pending) i noEntry ≡ entryOf (getD (rowAt s t 1) i 0) (getD (rowAt s t 2) i 0)
+    → getD (laneOf s t .pending) i noEntry ≡ entryOf (wordAt s t CELLS i) (wordAt s t VALUES i)
 pending-at s t i h =
     let n = storedIn (getD s t []) .len in
-    let es = entriesOf (rowAt s t 1) (rowAt s t 2) in
+    let es = entriesOf (rowAt s t CELLS) (rowAt s t VALUES) in
     getD-take n es i noEntry (omega (arith, length-take n es))
-    ∙ entries-at (rowAt s t 1) (rowAt s t 2) i noEntry (omega (arith, length-take n es))
+    ∙ entries-at (rowAt s t CELLS) (rowAt s t VALUES) i noEntry (omega (arith, length-take n es))
 
 -- nothing is pending exactly where the count is 0
 pub none-pending : (es : List Entry) → eqb (length es) 0 ≡ isNil es

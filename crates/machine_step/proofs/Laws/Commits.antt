@@ -14,7 +14,7 @@ use Rattle.machine_state.specs.declared.state.Moved.{Moved}
 use Rattle.machine_state.specs.declared.state.Moved.the-variants.{Waited, Done}
 use Rattle.machine_lane.specs.Lanes.{entryOf, noEntry, withPending}
 use Rattle.machine_state.specs.Machines.{machineIn}
-use Rattle.machine_state.specs.States.{Held, rowAt, laneOf, coreIn, stateIn, Sized, Became, Shared}
+use Rattle.machine_state.specs.States.{Held, CELLS, VALUES, wordAt, laneOf, coreIn, stateIn, Sized, Became, Shared}
 use Rattle.machine_step.specs.Turns.{commits, Took}
 use Rattle.machine_state.proofs.Laws.Rules.{pending-at}
 use Rattle.machine_step.proofs.Laws.Turns.{took-wait, took-does}
@@ -39,8 +39,8 @@ module _ (m : Coded) (f : ℕ → Bool) (s : Held) (t i : ℕ) where
 
   pub commit-does : (d z : Held) → i < length entries
       → mayCommit (machineIn m) f (take i entries) (getD entries i noEntry) ≡ true
-      → Shared s (landed (stateIn s .memory) (entryOf (getD (rowAt s t 1) i 0) (getD (rowAt s t 2) i 0)))
-      (freed (stateIn s .locks) (entryOf (getD (rowAt s t 1) i 0) (getD (rowAt s t 2) i 0))) d
+      → Shared s (landed (stateIn s .memory) (entryOf (wordAt s t CELLS i) (wordAt s t VALUES i)))
+      (freed (stateIn s .locks) (entryOf (wordAt s t CELLS i) (wordAt s t VALUES i))) d
       → Became d t (withPending (laneOf s t) (without i entries)) z
       → Took s t (commits m f s t i) Done z
   commit-does d z h may w b =

@@ -1,17 +1,16 @@
 -- Laws of a lane's turn on the borrowed state: a wait, a refusal, a move that is done.
-use Prim.Native.Nat.{ℕ, suc, _+_, _-_, _<_}
-use mathlib.Core.Path.{_≡_, refl, ap, sym, _∙_}
+use Prim.Native.Nat.{ℕ, _+_, _-_, _<_}
+use mathlib.Core.Path.{_≡_, refl, ap, _∙_}
 use mathlib.Core.Bool.{Bool, false}
 use mathlib.Core.List.{List}
 use mathlib.Core.Option.{Option}
-use native.Mathlib.Numerals.{add-one}
 use native.Mathlib.Omega.{arith}
 use borrow.Author.Tests.{lt-ltb, le-ltb}
 use Rattle.file_format.specs.declared.accepted.Op.{Op}
 use Rattle.sheet_format.specs.Layout.{op}
 use Rattle.machine_spec.specs.Entries.{write, release}
 use Rattle.machine_spec.specs.Step.{Control, Core, waits, refuses, passes, does, permits}
-use Rattle.machine_spec.specs.State.{Lane, laneOf as placed, setLane}
+use Rattle.machine_spec.specs.State.{laneOf as placed, setLane}
 use Rattle.machine_state.specs.declared.rules.Machine.{Machine as Coded}
 use Rattle.machine_state.specs.declared.state.Moved.the-variants.{Waited, Done, ReleaseNotHeld}
 use Rattle.machine_lane.specs.Lanes.{entryOf, laneIn}
@@ -49,10 +48,6 @@ module _ (s d e : Held) (t : ℕ) (k : Control) (c : Core) (w : Shared s (c .mem
 -- a lane stays where memory and lock words change
 pub same-lane : {s e : Held} {t : ℕ} {m l : List ℕ} → Shared s m l e → t < 4 → laneOf e t ≡ laneOf s t
 same-lane {t = t} w h = ap (λ b. laneIn (storedIn b)) (w .each t h)
-
--- the next position
-pub next-of : {r p : ℕ} → r ≡ p → r + 1 ≡ suc p
-next-of {p = p} e = ap (λ x. x + 1) e ∙ add-one p
 
 -- the entries of a STORE and of an UNLOCK
 pub write-of : (x v : ℕ) → x < 16 → entryOf x v ≡ write x v

@@ -5,34 +5,23 @@ use borrow.Author.Needs.{needs}
 use Rattle.machine_state.proofs.held.count.Statement.{statement}
 use Rattle.machine_state.proofs.held.count.Tie as tie
 
-mul-wide : tie.Need-mul-wide
-mul-wide c = search needs
+word-at-requires : tie.Need-word-at-requires
+word-at-requires c κs = search needs
 
-index-1-wide : tie.Need-index-1-wide
-index-1-wide c = search needs
-
-index-2-wide : tie.Need-index-2-wide
-index-2-wide c = search needs
-
-index-3-wide : tie.Need-index-3-wide
-index-3-wide c = search needs
-
-wide-requires : tie.Need-wide-requires
-wide-requires c κs = search needs
+cast-n : tie.Need-cast-n
+cast-n c = search needs
 
 returns : tie.Need-returns
 returns c =
-    let s = c .before .before .before in
+    let s = c .before .before in
     let few = pending-count (s .args .state .now) (s .args .t) (s .pre) in
-    (omega (arith, few, c .before .wide .ensures), omega (arith, c .before .wide .ensures))
+    (omega (arith, few, c .before .word-at .ensures), omega arith)
 
 returns-2 : tie.Need-returns-2
 returns-2 c =
-    let s = c .before .before .before in
+    let s = c .before .before in
     let few = pending-count (s .args .state .now) (s .args .t) (s .pre) in
-    (omega (arith, few, c .before .wide .ensures), omega (arith, c .before .wide .ensures))
+    (omega (arith, few, c .before .word-at .ensures), omega arith)
 
 pub count-spec : {M : Type 1} → statement M
-count-spec =
-    tie.close
-    (tie.spec mul-wide index-1-wide index-2-wide index-3-wide wide-requires returns returns-2)
+count-spec = tie.close (tie.spec word-at-requires cast-n returns returns-2)

@@ -1,23 +1,17 @@
 -- `machine_state::held::go` meets its contract.
-use Rattle.machine_state.proofs.Laws.States.{went}
+use Rattle.machine_state.proofs.Laws.States.{came}
+use Rattle.machine_state.proofs.Laws.Writes.{position-set}
 use borrow.Author.Needs.{needs}
 use Rattle.machine_state.proofs.held.go.Statement.{statement}
 use Rattle.machine_state.proofs.held.go.Tie as tie
 
-mul-state : tie.Need-mul-state
-mul-state c = search needs
-
-index-1-state : tie.Need-index-1-state
-index-1-state c = search needs
-
-index-2-state : tie.Need-index-2-state
-index-2-state c = search needs
-
-index-3-state : tie.Need-index-3-state
-index-3-state c = search needs
+put-word-requires : tie.Need-put-word-requires
+put-word-requires c κs = search needs
 
 returns : tie.Need-returns
-returns c = went (c .args .state .now) (c .args .t) (c .pre) (c .args .next)
+returns c =
+    let s = c .before .before in
+    came (c .put-word .ensures) (position-set (s .args .state .now) (s .args .t) (s .pre) (s .args .next))
 
 pub go-spec : {M : Type 1} → statement M
-go-spec = tie.close (tie.spec mul-state index-1-state index-2-state index-3-state returns)
+go-spec = tie.close (tie.spec put-word-requires returns)

@@ -1,5 +1,5 @@
 -- `machine_state::held::issue` meets its contract.
-use Prim.Native.Nat.{suc, _≤_, _<_}
+use Prim.Native.Nat.{suc, _<_}
 use mathlib.Core.Path.{_≡_, ap, ap₂, sym, subst, _∙_}
 use mathlib.Core.List.{[]}
 use mathlib.Core.Option.{some}

@@ -2,7 +2,9 @@
 use mathlib.Core.List.{[]}
 use lib.ListN.{getD, set}
 use Rattle.machine_lane.proofs.Laws.Lanes.{cells-length, values-length}
-use Rattle.machine_state.proofs.Laws.States.{again, listed}
+use Rattle.machine_state.specs.States.{CELLS, VALUES}
+use Rattle.machine_state.proofs.Laws.States.{again, came}
+use Rattle.machine_state.proofs.Laws.Writes.{list-set}
 use borrow.Author.Needs.{needs}
 use Rattle.machine_state.proofs.held.put_list.Statement.{statement}
 use Rattle.machine_state.proofs.held.put_list.Tie as tie
@@ -25,39 +27,18 @@ index-1-v c = search needs
 index-2-v : tie.Need-index-2-v
 index-2-v c = search needs
 
-mul-state : tie.Need-mul-state
-mul-state c = search needs
-
-index-1-state : tie.Need-index-1-state
-index-1-state c = search needs
-
-index-2-state : tie.Need-index-2-state
-index-2-state c = search needs
-
-index-3-state : tie.Need-index-3-state
-index-3-state c = search needs
+put-word-requires : tie.Need-put-word-requires
+put-word-requires c κs = search needs
 
 returns : tie.Need-returns
 returns c =
-    let s = c .before .before in
+    let s = c .before .before .before .before in
     let a = s .args in
     let w = a .state .now in
-    listed w (a .t) (s .pre) _ (a .lane .cells) (a .lane .values) (a .lane .len)
+    came (c .put-word .ensures)
+    (list-set w (a .t) (s .pre) _ (a .lane .cells) (a .lane .values) (a .lane .len)
     (cells-length (a .lane) _ (s .good .0)) (values-length (a .lane) _ (s .good .0))
-    (again w (a .t) (s .pre) (set (getD w (a .t) []) 1 (a .lane .cells)) (λ b. set b 2 (a .lane .values)))
+    (again w (a .t) (s .pre) (set (getD w (a .t) []) CELLS (a .lane .cells)) (λ b. set b VALUES (a .lane .values))))
 
 pub put-list-spec : {M : Type 1} → statement M
-put-list-spec =
-    tie.close
-    (tie.spec
-    mul-c
-    index-1-c
-    index-2-c
-    mul-v
-    index-1-v
-    index-2-v
-    mul-state
-    index-1-state
-    index-2-state
-    index-3-state
-    returns)
+put-list-spec = tie.close (tie.spec mul-c index-1-c index-2-c mul-v index-1-v index-2-v put-word-requires returns)

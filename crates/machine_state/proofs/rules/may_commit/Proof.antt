@@ -1,11 +1,11 @@
 -- `machine_state::rules::may_commit` meets its contract.
+use Prim.Native.Nat.{_<_}
 use mathlib.Core.Path.{_≡_, ap, sym, _∙_}
 use mathlib.Core.Bool.{not}
-use Prim.Native.Nat.{_<_}
 use native.Mathlib.Omega.{arith}
 use lib.ListN.{getD}
-use Rattle.machine_lane.specs.Lanes.{flags, noEntry}
-use Rattle.machine_state.specs.States.{rowAt, laneOf}
+use Rattle.machine_lane.specs.Lanes.{flags, noEntry, entryOf}
+use Rattle.machine_state.specs.States.{VALUES, wordAt, laneOf}
 use Rattle.machine_state.proofs.Laws.States.{pending-count}
 use Rattle.machine_state.proofs.Laws.Rules.{oldest-may, pending-at, some-older}
 use borrow.Author.Needs.{needs}
@@ -22,26 +22,12 @@ returns c =
 enum-told : tie.Need-enum-told
 enum-told c = search needs
 
-mul-cell : tie.Need-mul-cell
-mul-cell c = search needs
-
-mul-cell-2 : tie.Need-mul-cell-2
-mul-cell-2 c =
+word-at-requires : tie.Need-word-at-requires
+word-at-requires c κs =
     let s = c .before .before .before .before in
     let low : s .args .index < 64 =
     omega (arith, pending-count (s .args .state .now) (s .args .t) (s .pre .0), s .pre .1) in
     search needs
-
-index-1-cell : tie.Need-index-1-cell
-index-1-cell c = search needs
-
-index-2-cell : tie.Need-index-2-cell
-index-2-cell c = search needs
-
-index-3-cell : tie.Need-index-3-cell
-index-3-cell c =
-    let s = c .before .before .before .before in
-    omega (arith, pending-count (s .args .state .now) (s .args .t) (s .pre .0), s .pre .1)
 
 is-sync-requires : tie.Need-is-sync-requires
 is-sync-requires c κs = search needs
@@ -54,25 +40,26 @@ enum-told-2 c = search needs
 
 returns-2 : tie.Need-returns-2
 returns-2 c =
-    let s = c .before .before .before .before .before .before .before in
+    let c3 = c .before .before .before in
+    let s = c3 .before .before .before .before in
     let a = s .args in
     let w = a .state .now in
-    let here = pending-at w (a .t) (a .index) (s .pre .1) in
-    let test = sym (c .before .is-sync .ensures (getD (rowAt w (a .t) 2) (a .index) 0)) ∙ c .if2 .taken in
-    rw (c .before .before .before .enum-told .given .1, here, test)
-    (sym (some-older (laneOf w (a .t) .pending) (a .index) (c .before .before .before .before .before .if1 .left)
-    (s .pre .1)))
+    let v = wordAt w (a .t) VALUES (a .index) in
+    let here = pending-at w (a .t) (a .index) (s .pre .1) ∙ ap (λ x. entryOf x v) (sym (c .before .before .word-at .ensures))
+    in
+    rw (c3 .enum-told .given .1, here, sym (c .before .is-sync .ensures v) ∙ c .if2 .taken)
+    (sym (some-older (laneOf w (a .t) .pending) (a .index) (c3 .before .before .if1 .left) (s .pre .1)))
 
 returns-3 : tie.Need-returns-3
 returns-3 c =
-    let c4 = c .before .before .before .before in
-    let s = c4 .before .before .before .before in
+    let c3 = c .before .before .before in
+    let s = c3 .before .before .before .before .before in
     let a = s .args in
     let w = a .state .now in
-    let here = pending-at w (a .t) (a .index) (s .pre .1) in
-    let test = sym (c .before .before .is-sync .ensures (getD (rowAt w (a .t) 2) (a .index) 0)) ∙ c .before .if2 .left
-    in
-    rw (c4 .enum-told .given .1, here, test) (ap not (c .has-older .ensures (getD (rowAt w (a .t) 2) (a .index) 0)))
+    let v = wordAt w (a .t) VALUES (a .index) in
+    let here = pending-at w (a .t) (a .index) (s .pre .1) ∙ ap (λ x. entryOf x v) (sym (c3 .word-at .ensures)) in
+    rw (c3 .before .enum-told .given .1, here, sym (c .before .before .is-sync .ensures v) ∙ c .before .if2 .left)
+    (ap not (c .has-older .ensures v))
 
 returns-4 : tie.Need-returns-4
 returns-4 c =
@@ -82,19 +69,4 @@ returns-4 c =
     (sym (some-older (laneOf (a .state .now) (a .t) .pending) (a .index) (c .before .before .if1 .left) (s .pre .1)))
 
 pub may-commit-spec : {M : Type 1} → statement M
-may-commit-spec =
-    tie.close
-    (tie.spec
-    returns
-    enum-told
-    mul-cell
-    mul-cell-2
-    index-1-cell
-    index-2-cell
-    index-3-cell
-    is-sync-requires
-    has-older-requires
-    enum-told-2
-    returns-2
-    returns-3
-    returns-4)
+may-commit-spec = tie.close (tie.spec returns enum-told word-at-requires is-sync-requires has-older-requires enum-told-2 returns-2 returns-3 returns-4)

@@ -9,7 +9,7 @@ use Rattle.machine_state.specs.States.{laneOf}
 use Rattle.machine_lane.proofs.Laws.Lanes.{lane-eq}
 use Rattle.machine_state.proofs.Laws.Rules.{denied, granted}
 use Rattle.machine_state.proofs.Laws.States.{became}
-use Rattle.machine_step.proofs.Laws.Turns.{kept, not-permitted, took-does, next-of}
+use Rattle.machine_step.proofs.Laws.Turns.{kept, not-permitted, took-does}
 use borrow.Author.Needs.{needs}
 use Rattle.machine_step.proofs.access.load.Statement.{statement}
 use Rattle.machine_step.proofs.access.load.Tie as tie
@@ -32,11 +32,8 @@ memory-at-requires c κs = search needs
 sees-requires : tie.Need-sees-requires
 sees-requires c κs = search needs
 
-position-requires : tie.Need-position-requires
-position-requires c κs = search needs
-
-add-next : tie.Need-add-next
-add-next c = search needs
+next-position-requires : tie.Need-next-position-requires
+next-position-requires c κs = search needs
 
 write-register-requires : tie.Need-write-register-requires
 write-register-requires c κs = search needs
@@ -53,7 +50,7 @@ returns-2 c =
     let seen = sees (machineIn (a .machine)) (flags (a .volatile .now)) (laneOf w (a .t) .pending) (a .x) in
     let value = c4 .sees .ensures ∙ ap seen (c4 .before .memory-at .ensures) in
     rw test (took-does w w _ (a .t) _ _ (kept w h)
-    (became (lane-eq (next-of (c .before .before .position .ensures)) (ap (set (laneOf w (a .t) .regs) (a .a)) value)
+    (became (lane-eq (c .before .before .next-position .ensures) (ap (set (laneOf w (a .t) .regs) (a .a)) value)
     refl)
     (c .write-register .ensures)) _)
 
@@ -65,7 +62,6 @@ load-spec =
     returns
     memory-at-requires
     sees-requires
-    position-requires
-    add-next
+    next-position-requires
     write-register-requires
     returns-2)

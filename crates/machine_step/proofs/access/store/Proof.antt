@@ -5,7 +5,7 @@ use Rattle.machine_spec.specs.Entries.{write, appendEntry}
 use Rattle.machine_state.specs.States.{laneOf}
 use Rattle.machine_lane.proofs.Laws.Lanes.{lane-eq}
 use Rattle.machine_state.proofs.Laws.States.{became}
-use Rattle.machine_step.proofs.Laws.Turns.{kept, took-does, write-of, next-of}
+use Rattle.machine_step.proofs.Laws.Turns.{kept, took-does, write-of}
 use borrow.Author.Needs.{needs}
 use Rattle.machine_step.proofs.access.store.Statement.{statement}
 use Rattle.machine_step.proofs.access.store.Tie as tie
@@ -13,11 +13,8 @@ use Rattle.machine_step.proofs.access.store.Tie as tie
 register-requires : tie.Need-register-requires
 register-requires c κs = search needs
 
-position-requires : tie.Need-position-requires
-position-requires c κs = search needs
-
-add-next : tie.Need-add-next
-add-next c = search needs
+next-position-requires : tie.Need-next-position-requires
+next-position-requires c κs = search needs
 
 issue-requires : tie.Need-issue-requires
 issue-requires c κs = search needs
@@ -31,9 +28,9 @@ returns c =
     let entry = write-of (a .x) _ (s .pre .asked .0)
     ∙ ap (write (a .x)) (c .before .before .before .before .register .ensures) in
     λ m f. took-does w w _ (a .t) _ _ (kept w h)
-    (became (lane-eq (next-of (c .before .before .position .ensures)) refl
+    (became (lane-eq (c .before .before .next-position .ensures) refl
     (ap (λ e. appendEntry (laneOf w (a .t) .pending) (some e)) entry)) (c .issue .ensures)) _
 
 pub store-spec : {M : Type 1} → statement M
 store-spec =
-    tie.close (tie.spec register-requires position-requires add-next issue-requires returns)
+    tie.close (tie.spec register-requires next-position-requires issue-requires returns)

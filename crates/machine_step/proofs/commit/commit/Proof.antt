@@ -5,10 +5,12 @@ use mathlib.Core.List.{List}
 use native.Mathlib.Omega.{arith}
 use lib.ListN.{length}
 use Rattle.machine_spec.specs.Entries.{Entry, without}
+use Rattle.machine_spec.specs.Step.{landed, freed}
 use Rattle.machine_lane.specs.declared.lane.Lane.{Lane}
-use Rattle.machine_lane.specs.Lanes.{laneIn, withPending}
+use Rattle.machine_lane.specs.Lanes.{entryOf, laneIn, withPending}
+use Rattle.machine_state.specs.States.{stateIn}
 use Rattle.machine_state.proofs.Laws.Rules.{denied, granted}
-use Rattle.machine_state.proofs.Laws.States.{became}
+use Rattle.machine_state.proofs.Laws.States.{became, shared}
 use Rattle.machine_step.proofs.Laws.Turns.{same-lane}
 use Rattle.machine_step.proofs.Laws.Commits.{commit-past, commit-waits, commit-does}
 use borrow.Author.Needs.{needs}
@@ -22,106 +24,65 @@ returns : tie.Need-returns
 returns c =
     let s = c .before .before .before .before in
     let a = s .args in
-    let w = a .state .now in
-    commit-past (a .machine) _ w (a .t) (a .index) (omega (arith, c .if1 .taken, c .before .count .ensures .0))
-    (s .pre .sized)
+    commit-past (a .machine) _ (a .state .now) (a .t) (a .index)
+    (omega (arith, c .if1 .taken, c .before .count .ensures .0)) (s .pre .sized)
 
 may-commit-requires : tie.Need-may-commit-requires
 may-commit-requires c κs = search needs
 
 returns-2 : tie.Need-returns-2
 returns-2 c =
-    let s = c .before .before .before .before .before .before .before in
+    let c3 = c .before .before .before in
+    let s = c3 .before .before .before .before in
     let a = s .args in
-    let w = a .state .now in
-    commit-waits (a .machine) _ w (a .t) (a .index)
-    (omega (arith, c .before .before .before .if1 .left, c .before .before .before .before .count .ensures .0))
+    commit-waits (a .machine) _ (a .state .now) (a .t) (a .index)
+    (omega (arith, c3 .if1 .left, c3 .before .count .ensures .0))
     (denied (c .before .may-commit .ensures) (c .if2 .taken)) (s .pre .sized)
 
 take-requires : tie.Need-take-requires
 take-requires c κs = search needs
 
-mul-settle : tie.Need-mul-settle
-mul-settle c = search needs
+word-at-requires : tie.Need-word-at-requires
+word-at-requires c κs = search needs
 
-mul-settle-2 : tie.Need-mul-settle-2
-mul-settle-2 c = search needs
-
-index-1-settle : tie.Need-index-1-settle
-index-1-settle c = search needs
-
-index-2-settle : tie.Need-index-2-settle
-index-2-settle c = search needs
-
-index-3-settle : tie.Need-index-3-settle
-index-3-settle c = search needs
-
-mul-settle-3 : tie.Need-mul-settle-3
-mul-settle-3 c = search needs
-
-mul-settle-4 : tie.Need-mul-settle-4
-mul-settle-4 c = search needs
-
-index-1-settle-2 : tie.Need-index-1-settle-2
-index-1-settle-2 c = search needs
-
-index-2-settle-2 : tie.Need-index-2-settle-2
-index-2-settle-2 c = search needs
-
-index-3-settle-2 : tie.Need-index-3-settle-2
-index-3-settle-2 c = search needs
+word-at-requires-2 : tie.Need-word-at-requires-2
+word-at-requires-2 c κs = search needs
 
 settle-requires : tie.Need-settle-requires
 settle-requires c κs = search needs
 
 commit-requires : tie.Need-commit-requires
 commit-requires c κs =
-    let c4 = c .before .before .before .before in
-    let c9 = c4 .before .before .before .before .before in
-    let s = c9 .before .before .before .before in
-    subst (λ (l : Lane). s .args .index < length (laneIn l .pending)) (sym (c4 .take .ensures))
-    (omega (arith, c9 .if1 .left, c9 .before .count .ensures .0))
+    let c6 = c .before .before .before .before .before .before in
+    let c11 = c6 .before .before .before .before .before in
+    let s = c11 .before .before .before .before in
+    subst (λ (l : Lane). s .args .index < length (laneIn l .pending)) (sym (c6 .take .ensures))
+    (omega (arith, c11 .if1 .left, c11 .before .count .ensures .0))
 
 put-list-requires : tie.Need-put-list-requires
-put-list-requires c κs = search needs
+put-list-requires c κs =
+    let c8 = c .before .before .before .before .before .before .before .before in
+    let s = c8 .before .before .before .before .before .before .before .before .before in
+    record { lane = s .pre .lane; sized = c .before .before .settle .ensures .sized }
 
 returns-3 : tie.Need-returns-3
 returns-3 c =
-    let s = c .before .before .before .before .before .before .before .before .before .before .before .before .before
-    .before .before .before in
+    let c3 = c .before .before .before in
+    let c9 = c3 .before .before .before .before .before .before in
+    let c14 = c9 .before .before .before .before .before in
+    let s = c14 .before .before .before .before in
     let a = s .args in
     let w = a .state .now in
-    let c7 = c .before .before .before .before .before .before .before in
-    let c12 = c7 .before .before .before .before .before in
-    let settled = c .before .before .before .settle .ensures in
+    let entry = ap₂ entryOf (c3 .before .before .before .before .word-at .ensures)
+    (c3 .before .before .word-at2 .ensures) in
+    let settled = shared (ap (landed (stateIn w .memory)) entry) (ap (freed (stateIn w .locks)) entry)
+    (c3 .settle .ensures) in
     let rest : Lane → List Entry = λ l. without (a .index) (laneIn l .pending) in
-    let left = ap (λ l. l .pending) (c .before .before .commit .ensures) ∙ ap rest (c7 .take .ensures) in
-    let same = same-lane settled (s .pre .lane) in
+    let left = ap (λ l. l .pending) (c .before .before .commit .ensures) ∙ ap rest (c9 .take .ensures) in
     commit-does (a .machine) _ w (a .t) (a .index) _ _
-    (omega (arith, c12 .if1 .left, c12 .before .count .ensures .0))
-    (granted (c7 .before .before .before .may-commit .ensures) (c7 .before .before .if2 .left))
-    settled (became (ap₂ withPending same left) (c .put-list .ensures))
+    (omega (arith, c14 .if1 .left, c14 .before .count .ensures .0))
+    (granted (c9 .before .before .before .may-commit .ensures) (c9 .before .before .if2 .left))
+    settled (became (ap₂ withPending (same-lane settled (s .pre .lane)) left) (c .put-list .ensures))
 
 pub commit-spec : {M : Type 1} → statement M
-commit-spec =
-    tie.close
-    (tie.spec
-    count-requires
-    returns
-    may-commit-requires
-    returns-2
-    take-requires
-    mul-settle
-    mul-settle-2
-    index-1-settle
-    index-2-settle
-    index-3-settle
-    mul-settle-3
-    mul-settle-4
-    index-1-settle-2
-    index-2-settle-2
-    index-3-settle-2
-    settle-requires
-    commit-requires
-    put-list-requires
-    returns-3)
+commit-spec = tie.close (tie.spec count-requires returns may-commit-requires returns-2 take-requires word-at-requires word-at-requires-2 settle-requires commit-requires put-list-requires returns-3)

@@ -1,5 +1,4 @@
 -- `machine_step::guard::lock` meets its contract.
-use Prim.Native.Nat.{_+_}
 use mathlib.Core.Path.{refl, ap, sym, _∙_}
 use mathlib.Core.Bool.{_&&_, and-false}
 use native.Mathlib.Numerals.{add-one}
@@ -14,7 +13,7 @@ use Rattle.machine_state.specs.States.{laneOf, stateIn}
 use Rattle.machine_lane.proofs.Laws.Lanes.{lane-eq}
 use Rattle.machine_state.proofs.Laws.Rules.{denied, granted}
 use Rattle.machine_state.proofs.Laws.States.{became, shared}
-use Rattle.machine_step.proofs.Laws.Turns.{not-permitted, took-does, same-lane, next-of}
+use Rattle.machine_step.proofs.Laws.Turns.{not-permitted, took-does, same-lane}
 use borrow.Author.Needs.{needs}
 use Rattle.machine_step.proofs.guard.lock.Statement.{statement}
 use Rattle.machine_step.proofs.guard.lock.Tie as tie
@@ -45,11 +44,8 @@ returns-2 c =
     let word = getD (stateIn w .locks) (a .l) 0 in
     not-permitted (a .machine) _ w (a .t) (Lock (a .l)) (ap (λ b. b && eqb word 0) test) h
 
-position-requires : tie.Need-position-requires
-position-requires c κs = search needs
-
-add-next : tie.Need-add-next
-add-next c = search needs
+next-position-requires : tie.Need-next-position-requires
+next-position-requires c κs = search needs
 
 cast-set-lock : tie.Need-cast-set-lock
 cast-set-lock c = search needs
@@ -75,9 +71,9 @@ returns-3 c =
     let free = eq-eqb _ 0 (sym (c9 .before .lock-at .ensures) ∙ c9 .if1 .left) in
     let words = shared refl (ap (set (stateIn w .locks) (a .l)) (add-one (a .t)))
     (c .before .before .set-lock .ensures) in
-    let next = next-of (c4 .position .ensures) in
+    let next = c4 .next-position .ensures in
     rw (test, free) (took-does w _ _ (a .t) _ _ words
-    (became (ap (λ l. placedAt l (c4 .position .result + 1)) (same-lane words (s .pre .lies .lane)) ∙ lane-eq next
+    (became (ap (λ l. placedAt l (c4 .next-position .result)) (same-lane words (s .pre .lies .lane)) ∙ lane-eq next
     refl refl) (c .go .ensures)) _)
 
 pub lock-spec : {M : Type 1} → statement M
@@ -88,8 +84,7 @@ lock-spec =
     returns
     may-lock-requires
     returns-2
-    position-requires
-    add-next
+    next-position-requires
     cast-set-lock
     add-set-lock
     set-lock-requires

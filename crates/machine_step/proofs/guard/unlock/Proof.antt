@@ -7,7 +7,7 @@ use Rattle.machine_spec.specs.Entries.{appendEntry}
 use Rattle.machine_state.specs.States.{laneOf}
 use Rattle.machine_lane.proofs.Laws.Lanes.{lane-eq}
 use Rattle.machine_state.proofs.Laws.States.{became}
-use Rattle.machine_step.proofs.Laws.Turns.{kept, took-refusal, took-does, release-of, next-of}
+use Rattle.machine_step.proofs.Laws.Turns.{kept, took-refusal, took-does, release-of}
 use borrow.Author.Needs.{needs}
 use Rattle.machine_step.proofs.guard.unlock.Statement.{statement}
 use Rattle.machine_step.proofs.guard.unlock.Tie as tie
@@ -30,11 +30,8 @@ returns c =
     let test = ne-eqb _ _ (λ e. c .if1 .taken (c .before .lock-at .ensures ∙ e ∙ sym (add-one (a .t)))) in
     λ m f. rw test (took-refusal w (a .t) h)
 
-position-requires : tie.Need-position-requires
-position-requires c κs = search needs
-
-add-next : tie.Need-add-next
-add-next c = search needs
+next-position-requires : tie.Need-next-position-requires
+next-position-requires c κs = search needs
 
 add-issue : tie.Need-add-issue
 add-issue c = search needs
@@ -51,7 +48,7 @@ returns-2 c =
     let c4 = c .before .before .before .before in
     let test = eq-eqb _ _ (sym (c4 .before .lock-at .ensures) ∙ c4 .if1 .left ∙ add-one (a .t)) in
     λ m f. rw test (took-does w w _ (a .t) _ _ (kept w h)
-    (became (lane-eq (next-of (c .before .before .position .ensures)) refl
+    (became (lane-eq (c .before .before .next-position .ensures) refl
     (ap (λ e. appendEntry (laneOf w (a .t) .pending) (some e)) (release-of (a .l) 0))) (c .issue .ensures)) _)
 
 pub unlock-spec : {M : Type 1} → statement M
@@ -62,8 +59,7 @@ unlock-spec =
     cast-if1
     add-if1
     returns
-    position-requires
-    add-next
+    next-position-requires
     add-issue
     issue-requires
     returns-2)

@@ -5,7 +5,7 @@ use lib.ListN.{set}
 use Rattle.machine_state.specs.States.{laneOf}
 use Rattle.machine_lane.proofs.Laws.Lanes.{lane-eq}
 use Rattle.machine_state.proofs.Laws.States.{became}
-use Rattle.machine_step.proofs.Laws.Turns.{kept, took-does, next-of}
+use Rattle.machine_step.proofs.Laws.Turns.{kept, took-does}
 use borrow.Author.Needs.{needs}
 use Rattle.machine_step.proofs.local.add.Statement.{statement}
 use Rattle.machine_step.proofs.local.add.Tie as tie
@@ -19,11 +19,8 @@ register-requires-2 c κs = search needs
 wrapping-add-u32-requires : tie.Need-wrapping-add-u32-requires
 wrapping-add-u32-requires c κs = search needs
 
-position-requires : tie.Need-position-requires
-position-requires c κs = search needs
-
-add-next : tie.Need-add-next
-add-next c = search needs
+next-position-requires : tie.Need-next-position-requires
+next-position-requires c κs = search needs
 
 write-register-requires : tie.Need-write-register-requires
 write-register-requires c κs = search needs
@@ -39,7 +36,7 @@ returns c =
     ∙ ap₂ (λ x y. (x + y) % (2 ^ 32)) (c4 .before .before .before .register .ensures) (c4 .before .register2 .ensures)
     in
     λ m f. took-does w w _ (a .t) _ _ (kept w h)
-    (became (lane-eq (next-of (c .before .before .position .ensures)) (ap (set (laneOf w (a .t) .regs) (a .a)) sum)
+    (became (lane-eq (c .before .before .next-position .ensures) (ap (set (laneOf w (a .t) .regs) (a .a)) sum)
     refl)
     (c .write-register .ensures)) _
 
@@ -50,7 +47,6 @@ add-spec =
     register-requires
     register-requires-2
     wrapping-add-u32-requires
-    position-requires
-    add-next
+    next-position-requires
     write-register-requires
     returns)

@@ -3,7 +3,7 @@ use mathlib.Core.Path.{refl}
 use Rattle.machine_lane.proofs.Laws.Lanes.{lane-eq}
 use Rattle.machine_state.proofs.Laws.Rules.{denied, granted}
 use Rattle.machine_state.proofs.Laws.States.{became}
-use Rattle.machine_step.proofs.Laws.Turns.{kept, took-wait, took-passes, next-of}
+use Rattle.machine_step.proofs.Laws.Turns.{kept, took-wait, took-passes}
 use borrow.Author.Needs.{needs}
 use Rattle.machine_step.proofs.local.pass.Statement.{statement}
 use Rattle.machine_step.proofs.local.pass.Tie as tie
@@ -20,11 +20,8 @@ returns c =
     let test = denied (c .before .may-pass .ensures) (c .if1 .taken) in
     λ f. rw test (took-wait w (a .t) h)
 
-position-requires : tie.Need-position-requires
-position-requires c κs = search needs
-
-add-next : tie.Need-add-next
-add-next c = search needs
+next-position-requires : tie.Need-next-position-requires
+next-position-requires c κs = search needs
 
 go-requires : tie.Need-go-requires
 go-requires c κs = search needs
@@ -38,8 +35,8 @@ returns-2 c =
     let c4 = c .before .before .before .before in
     let test = granted (c4 .before .may-pass .ensures) (c4 .if1 .left) in
     λ f. rw test (took-passes w w _ (a .t) _ _ (kept w h)
-    (became (lane-eq (next-of (c .before .before .position .ensures)) refl refl) (c .go .ensures)))
+    (became (lane-eq (c .before .before .next-position .ensures) refl refl) (c .go .ensures)))
 
 pub pass-spec : {M : Type 1} → statement M
 pass-spec =
-    tie.close (tie.spec may-pass-requires returns position-requires add-next go-requires returns-2)
+    tie.close (tie.spec may-pass-requires returns next-position-requires go-requires returns-2)

@@ -3,7 +3,7 @@ use mathlib.Core.Path.{refl, sym, _∙_}
 use borrow.Author.Tests.{eq-eqb, ne-eqb}
 use Rattle.machine_lane.proofs.Laws.Lanes.{lane-eq}
 use Rattle.machine_state.proofs.Laws.States.{became}
-use Rattle.machine_step.proofs.Laws.Turns.{kept, took-does, next-of}
+use Rattle.machine_step.proofs.Laws.Turns.{kept, took-does}
 use borrow.Author.Needs.{needs}
 use Rattle.machine_step.proofs.local.skip.Statement.{statement}
 use Rattle.machine_step.proofs.local.skip.Tie as tie
@@ -23,11 +23,8 @@ returns c =
     let test = eq-eqb _ 0 (sym (c .before .before .before .register .ensures) ∙ c .before .before .if1 .taken) in
     λ m f. rw test (took-does w w _ (a .t) _ _ (kept w h) (c .go .ensures) _)
 
-position-requires : tie.Need-position-requires
-position-requires c κs = search needs
-
-add-next : tie.Need-add-next
-add-next c = search needs
+next-position-requires : tie.Need-next-position-requires
+next-position-requires c κs = search needs
 
 go-requires-2 : tie.Need-go-requires-2
 go-requires-2 c κs = search needs
@@ -41,7 +38,7 @@ returns-2 c =
     let c4 = c .before .before .before .before in
     let test = ne-eqb _ 0 (λ e. c4 .if1 .left (c4 .before .register .ensures ∙ e)) in
     λ m f. rw test (took-does w w _ (a .t) _ _ (kept w h)
-    (became (lane-eq (next-of (c .before .before .position .ensures)) refl refl) (c .go2 .ensures)) _)
+    (became (lane-eq (c .before .before .next-position .ensures) refl refl) (c .go2 .ensures)) _)
 
 pub skip-spec : {M : Type 1} → statement M
 skip-spec =
@@ -50,7 +47,6 @@ skip-spec =
     register-requires
     go-requires
     returns
-    position-requires
-    add-next
+    next-position-requires
     go-requires-2
     returns-2)
