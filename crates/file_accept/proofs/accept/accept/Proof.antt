@@ -38,7 +38,7 @@ returns-3 c =
     (answer, λ v. absurd (not-accepted _ answer (omega arith) v))
 
 bad-record-requires : tie.Need-bad-record-requires
-bad-record-requires c κs = search needs
+bad-record-requires c κs = eqb-true _ _ (not-false _ (sym (c .before .bad-length .ensures) ∙ c .if3 .left))
 
 returns-4 : tie.Need-returns-4
 returns-4 c =
