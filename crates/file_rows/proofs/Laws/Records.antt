@@ -7,12 +7,11 @@ use native.Mathlib.Omega.{arith}
 use borrow.Author.Tests.{ltb-true, ne-eqb}
 use lib.ListN.{length, getD, take, drop, length-drop}
 use Rattle.file_format.specs.Fields.{byte, recordCount, head, operation, target}
-use Rattle.file_format.specs.Rules.{recordTests, recordRule, limitTarget}
+use Rattle.file_format.specs.Rules.{recordRule}
 use Rattle.file_format.specs.Accepted.{opOf, opsOf, opsAt}
 use Rattle.file_format.specs.Stored.{noOp}
 use Rattle.file_format.specs.Targets.{position}
-use Rattle.file_format.proofs.Laws.Search.{all-at}
-use Rattle.file_format.proofs.Laws.Rules.{few-records, record-rule}
+use Rattle.file_format.proofs.Laws.Rules.{few-records, record-rule, target-small}
 use Rattle.file_format.proofs.Laws.Targets.{position-le}
 use Rattle.file_format.proofs.Laws.Accepted.{opsOf-at}
 use Rattle.file_format.proofs.Laws.Stored.{opsFrom-length}
@@ -22,26 +21,6 @@ use Rattle.sheet_format.specs.Bytes.{opBytes}
 use Rattle.file_rows.specs.Structured.{Structured}
 use Rattle.file_rows.specs.Records.{recordRow, RecordIn, LaneIn}
 use Rattle.file_rows.proofs.Laws.Row.{record-row}
-
--- a target is at most the record count
-target-limit : (n o : ℕ) → limitTarget n o ≤ n + 1
-unfolding limitTarget
-target-limit n zero = omega arith
-target-limit n (suc zero) = omega arith
-target-limit n (suc (suc zero)) = omega arith
-target-limit n (suc (suc (suc zero))) = omega arith
-target-limit n (suc (suc (suc (suc zero)))) = omega arith
-target-limit n (suc (suc (suc (suc (suc zero))))) = omega arith
-target-limit n (suc (suc (suc (suc (suc (suc zero)))))) = omega arith
-target-limit n (suc (suc (suc (suc (suc (suc (suc zero))))))) = omega arith
-target-limit n (suc (suc (suc (suc (suc (suc (suc (suc o)))))))) = omega arith
-
-target-small : (s : List ℕ) (r : ℕ) → recordRule s r ≡ true → target s r ≤ recordCount s
-unfolding recordRule
-target-small s r holds =
-    let below : target s r < limitTarget (recordCount s) (operation s r) =
-    ltb-true _ _ (all-at (recordTests s r) 4 holds) in
-    omega (arith, target-limit (recordCount s) (operation s r))
 
 module _ {s order place ends : List ℕ} (st : Structured s order place ends) where
   pub few : recordCount s ≤ 256
@@ -98,7 +77,7 @@ module _ {s order place ends : List ℕ} (st : Structured s order place ends) wh
       lane-record : RecordIn s place begin n r
       lane-record = record {
         whole = omega (arith, numbered .1, st .sized);
-        aimed = omega (arith, target-small s r holds, few);
+        aimed = omega (arith, target-small s (st .records) r (numbered .0) (numbered .1), few);
         later =
             λ some. let on : p + 1 ≤ getD place (target s r) 0 - 1 - begin =
             rw (ne-eqb (target s r) 0 some) at (subst (λ x. p + 1 ≤ x) lands (omega arith)) in

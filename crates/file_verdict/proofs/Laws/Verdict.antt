@@ -1,22 +1,17 @@
 -- Laws of the verdict: what each check that did not refuse leaves.
 use Prim.Native.Nat.{ℕ, _+_, _*_, _<_}
 use mathlib.Core.Path.{_≡_, refl, ap, sym, _∙_}
-use mathlib.Core.List.{List, [], _∷_}
+use mathlib.Core.List.{List}
 use mathlib.Core.Bool.{Bool, true, false, not, cond}
 use mathlib.Core.Logic.{_⊎_, inl, inr}
 use native.Mathlib.Omega.{arith}
 use borrow.Author.Tests.{eqb-true, not-false}
 use lib.ListN.{length}
 use lib.Dec.{ltb, eqb}
-use types.Run.{OneOf, miss}
-use denote.Enum.Declared.{tagOf}
 use Rattle.file_verdict.specs.declared.refusal.Refusal.{Refusal}
 use Rattle.file_verdict.specs.declared.refusal.Refusal.the-variants.{Accepted, TruncatedHeader, BadHeader}
-use Rattle.file_verdict.specs.declared.refusal.Refusal.the-variants.{BadLength}
-use Rattle.file_verdict.specs.declared.refusal.Refusal.the-variants.{BadRecord, BadLinkage, ChainTooLong}
-use Rattle.file_verdict.specs.declared.refusal.Refusal.the-variants.{BadTarget}
-use Rattle.file_verdict.specs.declared.refusal.Refusal.the-variants.{LockFault}
-use Rattle.file_verdict.proofs.refusal.Refusal as T
+use Rattle.file_verdict.specs.declared.refusal.Refusal.the-variants.{BadLength, BadRecord, BadLinkage}
+use Rattle.file_verdict.specs.declared.refusal.Refusal.the-variants.{ChainTooLong, BadTarget, LockFault}
 use Rattle.file_format.specs.Fields.{recordCount}
 use Rattle.file_format.specs.Rules.{headerRule, badRecord}
 use Rattle.file_format.specs.Linkage.{badLinkage, chainTooLong}
@@ -126,15 +121,3 @@ accepted-as s k e = go (refusalOf s) refl e
     go (ChainTooLong r) h e = let z : _≡_ {A = ℕ} 0 1 = cc in absurd (omega arith)
     go (BadTarget r) h e = let z : _≡_ {A = ℕ} 0 1 = cc in absurd (omega arith)
     go (LockFault r) h e = let z : _≡_ {A = ℕ} 0 1 = cc in absurd (omega arith)
-
--- what a `match` tells the arm of the refusals
-pub refused-tag : (r : Refusal) → OneOf (1 ∷ 2 ∷ 3 ∷ 4 ∷ 5 ∷ 6 ∷ 7 ∷ 8 ∷ []) (tagOf T.the-type r) → 0 < numberOf r
-refused-tag Accepted k = absurd (miss (1 ∷ 2 ∷ 3 ∷ 4 ∷ 5 ∷ 6 ∷ 7 ∷ 8 ∷ []) 0 tt k)
-refused-tag TruncatedHeader k = omega arith
-refused-tag BadHeader k = omega arith
-refused-tag BadLength k = omega arith
-refused-tag (BadRecord r) k = omega arith
-refused-tag (BadLinkage r) k = omega arith
-refused-tag (ChainTooLong r) k = omega arith
-refused-tag (BadTarget r) k = omega arith
-refused-tag (LockFault r) k = omega arith

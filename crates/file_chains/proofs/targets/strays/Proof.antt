@@ -7,7 +7,8 @@ use mathlib.Core.Path.{_∙_, refl, sym, ap, ap₂}
 use native.Mathlib.Omega.{arith}
 use Rattle.file_format.specs.Targets.{unreachableTarget}
 use Rattle.file_chains.specs.Reach.{reached}
-use Rattle.file_chains.proofs.Laws.Reach.{target-small, strays-as}
+use Rattle.file_format.proofs.Laws.Rules.{target-small}
+use Rattle.file_chains.proofs.Laws.Reach.{strays-as}
 use Rattle.file_chains.proofs.targets.strays.Statement.{statement}
 use Rattle.file_chains.proofs.targets.strays.Tie as tie
 
