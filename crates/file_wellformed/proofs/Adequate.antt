@@ -19,7 +19,7 @@ use Rattle.file_format.proofs.Laws.Linkage.{walkOf-here, walkOf-on, last-one}
 use Rattle.file_format.proofs.Laws.Linkage.{chain-suc, chain-stop, chain-length, chain-front, chain-behind}
 use Rattle.file_format.proofs.Laws.Targets.{member-position, position-at}
 use Rattle.file_format.proofs.Laws.Rules.{head-range}
-use Rattle.file_verdict.proofs.Laws.Verdict.{Structured}
+use Rattle.file_format.specs.Structured.{Structured}
 use Rattle.file_format.proofs.Bounded.{chain-range}
 
 -- how many flags are up
@@ -77,7 +77,7 @@ pub walk-ends : (s : List ℕ) → Structured s → recordCount s ≤ 256 → (m
     → length (chain s 257 (head s t)) < 257
 walk-ends s ok small met t ht room z e =
     let range : Flagged met (chain s 257 (head s t)) = λ p l.
-    let r = chain-range s (ok .records) 257 (head s t) p (head-range s (ok .header) t ht) l in
+    let r = chain-range s (ok .fields .records) 257 (head s t) p (head-range s (ok .fields .header) t ht) l in
     (r .0, omega (arith, r .1, room)) in
     omega (arith, met-few met (chain s 257 (head s t)) z (omega (arith, room)) range e)
 
@@ -136,7 +136,7 @@ module _ (s : List ℕ) (ok : Structured s) (t : ℕ) (ht : t < 4) where
     unfolding badTarget unreachableTarget
     later =
         let r = getD lane p 0 in
-        let range = chain-range s (ok .records) 64 (head s t) p (head-range s (ok .header) t ht) h in
+        let range = chain-range s (ok .fields .records) 64 (head s t) p (head-range s (ok .fields .header) t ht) h in
         let reached : unreachableTarget s r ≡ false =
         nothing-found (unreachableTarget s) 1 (recordCount s) r (omega arith) (ok .targets) (range .0)
         (omega (arith, range .1)) in

@@ -16,6 +16,7 @@ use Rattle.file_format.specs.Fields.{recordCount}
 use Rattle.file_format.specs.Rules.{headerRule, badRecord}
 use Rattle.file_format.specs.Linkage.{badLinkage, chainTooLong}
 use Rattle.file_format.specs.Targets.{badTarget}
+use Rattle.file_format.specs.Structured.{Structured}
 use Rattle.file_format.specs.Accepted.{Program, programOf}
 use Rattle.file_format.specs.Held.{lockFault}
 use Rattle.file_verdict.specs.Verdict.{unless, structureThen, refusalOf, numberOf, accepted}
@@ -53,15 +54,6 @@ structure-check s =
     (check-then (unless (chainTooLong s) ChainTooLong) _ (check-unless (chainTooLong s) ChainTooLong (omega arith))
     (check-unless (badTarget s) BadTarget (omega arith)))))))
 
--- what each of checks 1 to 7 leaves where it does not refuse
-pub record Structured (s : List ℕ) : Type 0 where
-  pub header : headerRule s ≡ true
-  pub size : length s ≡ 16 + 12 * recordCount s
-  pub records : badRecord s ≡ 0
-  pub linkage : badLinkage s ≡ 0
-  pub chains : chainTooLong s ≡ 0
-  pub targets : badTarget s ≡ 0
-
 -- a refusal is not Accepted, so what accepts went past it
 past : (b : Bool) (r rest : Refusal) → 0 < numberOf r → cond b r rest ≡ Accepted → (b ≡ false) × (rest ≡ Accepted)
 past true r rest h e = absurd (omega (arith, ap numberOf e))
@@ -86,9 +78,11 @@ structured s e =
     let e6 = past-record (chainTooLong s) ChainTooLong _ (omega arith) (e5 .1) in
     let e7 = past-record (badTarget s) BadTarget _ (omega arith) (e6 .1) in
     record {
-      header = not-false (headerRule s) (e2 .0);
-      size = eqb-true _ _ (not-false _ (e3 .0));
-      records = e4 .0;
+      fields = record {
+        header = not-false (headerRule s) (e2 .0);
+        sized = eqb-true _ _ (not-false _ (e3 .0));
+        records = e4 .0;
+      };
       linkage = e5 .0;
       chains = e6 .0;
       targets = e7 .0;
