@@ -17,7 +17,7 @@ ghost use Rattle.barrier_placement.specs.declared.cookbook.Class.{Class};
 ghost use Rattle.barrier_placement.specs.declared.steps.Step.{Step};
 ghost use Rattle.barrier_placement.specs.Place.{standsAt, raises as raisesFor, stands};
 ghost use Rattle.barrier_placement.specs.Placed.{bit, bitOf, dueIn};
-ghost use Rattle.barrier_placement.specs.Plan.{barriersIn, beginning, Counted};
+ghost use Rattle.barrier_placement.specs.Plan.{barriersIn, Counted};
 ghost use Rattle.barrier_placement.specs.Steps.{steps as stepsBy};
 ghost use Rattle.sheet_rows.specs.Lanes.{Holds};
 ghost use Rattle.barrier_pass.specs.Classes.{classByte, callTable};
@@ -77,11 +77,11 @@ fn plan_step(plan: &mut [u16], p: usize, at: u16, stood: u16) -> u16
     at + width_of(stood)
 }
 
-// Writes the plan of the lane whose n rows are given; how many instructions it makes.
+// Writes the plan of the lane whose n rows are given; how many instructions it makes. No barrier stands at its end.
 // A SKIP brings what is due to its target; a jump back brings nothing to the positions ahead.
 pub fn place_lane(rows: &[u8], n: usize, mask: u16, plan: &mut [u16]) -> usize
     requires { ⌜ (n ≤ 64) × (8 * n ≤ length (now rows)) × (n < length (now plan)) ⌝ }
-    ensures size { λ r. ⌜ (r ≡ beginning (now (plan .exit)) n) × (r ≤ 320) ⌝ }
+    ensures end { λ r. ⌜ (getD (now (plan .exit)) n 0 ≡ 16 * r) × (r ≤ 320) ⌝ }
     ensures begins { λ r. ⌜ Counted (now (plan .exit)) n ⌝ }
     ensures stands { λ r. ⌜
         ((ops : List Op) → Holds (now (rows .entry)) n ops → (b : Barrier) (p : ℕ) → p < n

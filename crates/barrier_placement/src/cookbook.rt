@@ -1,6 +1,6 @@
 // The cookbook table: which barrier an earlier access and a later one call for.
 ghost use mathlib.Core.Path.{_≡_};
-ghost use Rattle.barrier_placement.specs.Cookbook.{cell as cellOf, cellCode, codeOf, numberOf};
+ghost use Rattle.barrier_placement.specs.Cookbook.{cell as cellOf, cellCode, numberOf};
 
 // Plain load, plain store, volatile load or LOCK, volatile store or UNLOCK.
 pub enum Class {
@@ -35,18 +35,6 @@ pub(crate) fn number(c: Class) -> usize
         Class::PS => 1,
         Class::VL => 2,
         Class::VS => 3,
-    }
-}
-
-// The barrier's operation code in a sheet.
-pub fn code(b: Barrier) -> u8
-    ensures { λ r. ⌜ r ≡ codeOf b ⌝ }
-{
-    match b {
-        Barrier::LL => 11,
-        Barrier::LS => 12,
-        Barrier::SS => 13,
-        Barrier::SL => 14,
     }
 }
 

@@ -12,7 +12,7 @@ use lib.ListN.{List·getD-eq-default}
 use Rattle.file_format.specs.Accepted.{Program}
 use Rattle.file_format.specs.Lawful.{Lawful}
 use Rattle.barrier_placement.proofs.Laws.Bools.{and-true}
-use Rattle.barrier_placement.proofs.Laws.Lists.{replicate-at}
+use Rattle.file_format.proofs.Laws.Lists.{replicate-at}
 use Rattle.sheet_format.specs.Layout.{Instr, op}
 use Rattle.sheet_format.specs.Levels.{volatileIn}
 use Rattle.machine_spec.specs.Rules.{source}

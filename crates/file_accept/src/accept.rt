@@ -3,13 +3,14 @@ ghost use mathlib.Core.Path.{_≡_};
 ghost use Prim.Native.Nat.{_+_, _*_, _≤_};
 ghost use lib.ListN.{length};
 ghost use Rattle.file_format.specs.Fields.{recordCount};
+ghost use Rattle.file_format.specs.Structured.{Fielded};
 ghost use Rattle.file_format.specs.Accepted.{programOf};
 ghost use Rattle.file_format.specs.Linkage.{badLinkage, chainTooLong};
 ghost use Rattle.file_format.specs.Targets.{badTarget};
 ghost use Rattle.file_verdict.specs.Verdict.{verdict, accepted, refusalOf};
 ghost use Rattle.sheet_format.specs.Bytes.{over};
 ghost use Rattle.file_rows.specs.Chains.{chainBytes};
-ghost use Rattle.file_accept.specs.Checks.{Fielded, linkedRefusal};
+ghost use Rattle.file_accept.specs.Checks.{linkedRefusal};
 use file_chains::link::link;
 use file_chains::targets::bad_target;
 use file_chains::targets::too_long;
@@ -37,7 +38,7 @@ fn judge(file: &[u8], rows: &mut [u8]) -> Refusal
         return Refusal::BadLinkage(linkage);
     }
     let ends = linked.ends;
-    let long = too_long(&order, &ends);
+    let long = too_long(file, &order, &ends);
     if long != 0 {
         return Refusal::ChainTooLong(long);
     }
@@ -46,14 +47,15 @@ fn judge(file: &[u8], rows: &mut [u8]) -> Refusal
         return Refusal::BadTarget(target);
     }
     write_chains(rows, file, &order, &place, &ends);
-    let fault = lock_fault(rows, &order, &ends);
+    let fault = lock_fault(file, rows, &order, &ends);
     if fault != 0 {
         return Refusal::LockFault(fault);
     }
     Refusal::Accepted
 }
 
-// The refusal, checks 1 to 8 in the order of the table. The chains of an accepted file stand at the front of `rows`.
+// The refusal, checks 1 to 8 in the order of the table. The chains of an accepted file stand at the front of
+// `rows`, which a refusal leaves open.
 pub fn accept(file: &[u8], rows: &mut [u8]) -> Refusal
     requires room { ⌜ (Fielded (now file) → 16 + 8 * recordCount (now file) ≤ length (now rows)) ⌝ }
     ensures answer { λ r. ⌜ r ≡ refusalOf (now (file .entry)) ⌝ }

@@ -1,8 +1,6 @@
--- Laws of the walk along the lanes, of chains, and of the order that the walk leaves.
--- Laws of the targets that a record reaches.
+-- Laws of the walk along the lanes, of the order that it leaves, and of the targets that a record reaches.
 pub mod Tally
 pub mod Walks
 pub mod Lanes
-pub mod Chains
 pub mod Places
 pub mod Reach

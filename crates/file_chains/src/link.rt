@@ -1,10 +1,11 @@
 // The lanes of a file walked one after the other: the order of its records, and each record's place in it (refusal 5).
 ghost use mathlib.Core.Path.{_≡_};
-ghost use mathlib.Core.Bool.{true, false, not};
+ghost use mathlib.Core.Bool.{false, not};
 ghost use Prim.Native.Nat.{_≤_};
 ghost use lib.ListN.{getD, replicate};
 ghost use Rattle.file_format.specs.Fields.{recordCount};
-ghost use Rattle.file_format.specs.Rules.{headerRule, badRecord};
+ghost use Rattle.file_format.specs.Rules.{badRecord};
+ghost use Rattle.file_format.specs.Structured.{Fielded};
 ghost use Rattle.file_format.specs.Search.{lowest};
 ghost use Rattle.file_format.specs.Linkage.{badLinkage};
 ghost use Rattle.file_chains.specs.Ordered.{Ordered};
@@ -62,9 +63,9 @@ pub struct Linked {
     pub ends: [usize; 4],
 }
 
-// Walks the lanes: the order of the records, and each record's place in it.
+// Walks the lanes: the order of the records, and each record's place in it, which a refusal leaves open, and the ends.
 pub fn link(s: &[u8], order: &mut [u16; 257], place: &mut [u16; 257]) -> Linked
-    requires fields { ⌜ (headerRule (now s) ≡ true) × (badRecord (now s) ≡ 0) ⌝ }
+    requires fields { ⌜ Fielded (now s) ⌝ }
     requires blank { ⌜ (now order ≡ replicate 257 0) × (now place ≡ replicate 257 0) ⌝ }
     ensures bad { λ r. ⌜ r .bad ≡ badLinkage (now (s .entry)) ⌝ }
     ensures order { λ r. ⌜ (badLinkage (now (s .entry)) ≡ 0

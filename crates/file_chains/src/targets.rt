@@ -1,11 +1,10 @@
 // Refusals 6 and 7 from the order of the records and their places in it.
 ghost use mathlib.Core.Path.{_≡_};
-ghost use mathlib.Core.Bool.{true};
 ghost use mathlib.Core.List.{List};
 ghost use Prim.Native.Nat.{ℕ, _≤_};
-ghost use lib.ListN.{getD};
 ghost use Rattle.file_format.specs.Fields.{recordCount};
-ghost use Rattle.file_format.specs.Rules.{headerRule, badRecord};
+ghost use Rattle.file_format.specs.Rules.{badRecord};
+ghost use Rattle.file_format.specs.Structured.{Fielded};
 ghost use Rattle.file_format.specs.Linkage.{chainTooLong};
 ghost use Rattle.file_format.specs.Targets.{unreachableTarget, badTarget};
 ghost use Rattle.file_chains.specs.Ordered.{Ordered};
@@ -13,11 +12,10 @@ ghost use Rattle.file_chains.specs.Reach.{reached};
 use file_format::fields::wide_word;
 use file_format::fields::word_at;
 
-// The 65th record of the first lane that has one, or 0.
-pub fn too_long(order: &[u16; 257], ends: &[usize; 4]) -> usize
-    requires { ⌜ ((t : ℕ) → getD (now ends) t 0 ≤ 257) ⌝ }
-    ensures { λ r. ⌜ ((s place : List ℕ) → Ordered s (now (order .entry)) place (now (ends .entry))
-        → r ≡ chainTooLong s) ⌝ }
+// The 65th record of the first lane of the file that has one, or 0.
+pub fn too_long(s: &[u8], order: &[u16; 257], ends: &[usize; 4]) -> usize
+    requires { ⌜ ((place : List ℕ) × Ordered (now s) (now order) place (now ends)) ⌝ }
+    ensures { λ r. ⌜ r ≡ chainTooLong (now (s .entry)) ⌝ }
 {
     let mut from = 0;
     let mut t = 0;
@@ -54,8 +52,8 @@ fn reaches(ends: &[usize; 4], j: usize, z: usize) -> bool
 // The target of record i is neither zero nor later in its lane.
 fn strays(s: &[u8], place: &[u16; 257], ends: &[usize; 4], i: usize) -> bool
     requires { ⌜ (recordCount (now s) ≤ 256) × (badRecord (now s) ≡ 0) × (1 ≤ i) × (i ≤ recordCount (now s)) ⌝ }
-    ensures { λ r. ⌜ ((order : List ℕ) → Ordered (now (s .entry)) order (now (place .entry)) (now (ends .entry))
-        → chainTooLong (now (s .entry)) ≡ 0 → r ≡ unreachableTarget (now (s .entry)) i) ⌝ }
+    requires { ⌜ (chainTooLong (now s) ≡ 0) × ((order : List ℕ) × Ordered (now s) order (now place) (now ends)) ⌝ }
+    ensures { λ r. ⌜ r ≡ unreachableTarget (now (s .entry)) i ⌝ }
 {
     let x = word_at(s, 4 + 12 * i + 8);
     if x == 0 {
@@ -66,9 +64,9 @@ fn strays(s: &[u8], place: &[u16; 257], ends: &[usize; 4], i: usize) -> bool
 
 // The lowest SKIP whose target is neither zero nor later in its lane, or 0.
 pub fn bad_target(s: &[u8], place: &[u16; 257], ends: &[usize; 4]) -> usize
-    requires { ⌜ (headerRule (now s) ≡ true) × (badRecord (now s) ≡ 0) ⌝ }
-    ensures { λ r. ⌜ ((order : List ℕ) → Ordered (now (s .entry)) order (now (place .entry)) (now (ends .entry))
-        → chainTooLong (now (s .entry)) ≡ 0 → r ≡ badTarget (now (s .entry))) ⌝ }
+    requires { ⌜ Fielded (now s) ⌝ }
+    requires { ⌜ (chainTooLong (now s) ≡ 0) × ((order : List ℕ) × Ordered (now s) order (now place) (now ends)) ⌝ }
+    ensures { λ r. ⌜ r ≡ badTarget (now (s .entry)) ⌝ }
 {
     let e = word_at(s, 6) + 1;
     let mut i = 1;

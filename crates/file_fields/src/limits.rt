@@ -18,7 +18,7 @@ fn row_of(op: u8) -> usize
 }
 
 // The rule of record i, all bytes of which the file has.
-pub(crate) fn whole_rule(
+pub(crate) fn record_rule(
     s: &[u8],
     i: usize,
     n: usize,

@@ -2,7 +2,6 @@
 use Prim.Native.Nat.{ℕ, _+_, _*_}
 use mathlib.Core.List.{List, [], _∷_}
 use lib.ListN.{getD}
-use Rattle.file_format.specs.declared.fields.Four.{Four}
 
 abbrev pub byte : List ℕ → ℕ → ℕ
 byte s i = getD s i 0
@@ -13,10 +12,6 @@ word s i = getD s i 0 + 256 * getD s (i + 1) 0
 
 abbrev pub quad : List ℕ → ℕ → ℕ
 quad s i = word s i + 65536 * word s (i + 2)
-
--- four bytes in a row
-abbrev pub four : List ℕ → ℕ → Four
-four s i = record { a = byte s i; b = byte s (i + 1); c = byte s (i + 2); d = byte s (i + 3) }
 
 -- the header
 abbrev pub laneCount : List ℕ → ℕ

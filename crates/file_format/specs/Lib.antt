@@ -1,10 +1,12 @@
--- The kernel file up to its verdict. Fields to Targets define the checks of its structure, Accepted the kernel that a
--- sound file stands for, Held the held-set rule, Stored what the code holds, Lawful what an accepted kernel satisfies.
+-- The kernel file up to its verdict. Fields to Targets define the checks of its structure, Structured what they leave,
+-- Accepted the kernel that a sound file stands for, Held the held-set rule, Stored what the code holds, Lawful what an
+-- accepted kernel satisfies.
 pub mod Search
 pub mod Fields
 pub mod Rules
 pub mod Linkage
 pub mod Targets
+pub mod Structured
 pub mod Accepted
 pub mod Held
 pub mod Stored

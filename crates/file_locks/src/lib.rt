@@ -7,12 +7,13 @@ ghost use Prim.Native.Nat.{ℕ, _+_, _-_, _*_, _<_, _≤_};
 ghost use lib.ListN.{length, set, getD, take, drop};
 ghost use Rattle.file_format.specs.declared.accepted.Op.{Op};
 ghost use Rattle.file_format.specs.Fields.{recordCount};
+ghost use Rattle.file_format.specs.Structured.{Structured};
 ghost use Rattle.file_format.specs.Accepted.{programOf};
 ghost use Rattle.file_format.specs.Held.{faultPosition, laneFault, lockFault};
+ghost use Rattle.file_chains.specs.Ordered.{Ordered};
 ghost use Rattle.sheet_format.specs.Bytes.{over};
 ghost use Rattle.sheet_rows.specs.Lanes.{fieldsOf};
 ghost use Rattle.file_rows.specs.Chains.{chainBytes};
-ghost use Rattle.file_rows.specs.Structured.{Structured};
 ghost use Rattle.file_locks.specs.Sets.{bitFor, stepNumber, partsLed, bring};
 ghost use Rattle.file_locks.specs.Lanes.{LaneIn, Stepped};
 use file_format::fields::wide_word;
@@ -110,24 +111,15 @@ fn fault_position(rows: &[u8], n: usize) -> usize
 
 // The record where the lane from `from` to `end` of the order breaks the rule, or 0; for the end the last one.
 fn lane_fault(rows: &[u8], order: &[u16; 257], from: usize, end: usize) -> usize
-    ensures { λ r.
-        ⌜ ((ops : List Op) → from ≤ end → end ≤ 256 → end - from ≤ 64 → 16 + 8 * end ≤ length (now (rows .entry))
-        → length (now (order .entry)) ≡ 257 → LaneIn (drop (16 + 8 * from) (now (rows .entry))) (end - from) ops
+    requires { ⌜ (from ≤ end) × (end ≤ 256) × (end - from ≤ 64) × (16 + 8 * end ≤ length (now rows))
+        × (length (now order) ≡ 257) ⌝ }
+    ensures { λ r. ⌜ ((ops : List Op) → LaneIn (drop (16 + 8 * from) (now (rows .entry))) (end - from) ops
         → r ≡ laneFault (take (end - from) (drop from (now (order .entry)))) ops) ⌝ }
 {
-    if 256 < end {
-        return 0;
-    }
     if end <= from {
         return 0;
     }
     let n = end - from;
-    if 64 < n {
-        return 0;
-    }
-    if rows.len() < 16 + 8 * end {
-        return 0;
-    }
     let i = least(fault_position(&rows[16 + 8 * from..], n), n);
     if i == 0 {
         return 0;
@@ -135,12 +127,13 @@ fn lane_fault(rows: &[u8], order: &[u16; 257], from: usize, end: usize) -> usize
     wide_word(order[from + i - 1])
 }
 
-// The same for the first lane that has one.
-pub fn lock_fault(rows: &[u8], order: &[u16; 257], ends: &[usize; 4]) -> usize
-    ensures { λ r.
-        ⌜ ((s place own : List ℕ) → Structured s (now (order .entry)) place (now (ends .entry))
-        → now (rows .entry) ≡ over (chainBytes (programOf s)) own → 16 + 8 * recordCount s ≤ length own
-        → r ≡ lockFault (programOf s)) ⌝ }
+// The same for the first lane of the file that has one, from its chains as rows.
+pub fn lock_fault(s: &[u8], rows: &[u8], order: &[u16; 257], ends: &[usize; 4]) -> usize
+    requires structure { ⌜ Structured (now s) ⌝ }
+    requires order { ⌜ ((place : List ℕ) × Ordered (now s) (now order) place (now ends)) ⌝ }
+    requires chains { ⌜ ((own : List ℕ) × (now rows ≡ over (chainBytes (programOf (now s))) own)
+        × (16 + 8 * recordCount (now s) ≤ length own)) ⌝ }
+    ensures { λ r. ⌜ r ≡ lockFault (programOf (now (s .entry))) ⌝ }
 {
     let mut from = 0;
     let mut t = 0;

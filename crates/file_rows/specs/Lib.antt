@@ -1,4 +1,3 @@
 -- The chains of a kernel file as rows, from the order of its records.
 pub mod Chains
 pub mod Records
-pub mod Structured

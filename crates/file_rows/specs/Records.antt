@@ -6,8 +6,8 @@ use mathlib.Core.List.{List, [], _∷_}
 use lib.Dec.{eqb}
 use lib.ListN.{length, getD}
 use Rattle.file_format.specs.Fields.{byte, start, operation, registerA, operandB, reserved, target}
-use Rattle.file_chains.specs.Ordered.{beginOf, landingIn}
-use Rattle.file_rows.specs.Structured.{Structured}
+use Rattle.file_format.specs.Structured.{Structured}
+use Rattle.file_chains.specs.Ordered.{beginOf, landingIn, Ordered}
 
 -- the first eight bytes of record r, of a SKIP with the position q to which it leads
 abbrev pub recordRow : List ℕ → ℕ → ℕ → List ℕ
@@ -29,6 +29,7 @@ pub record LaneIn (s order place : List ℕ) (begin end : ℕ) : Type 0 where
   pub lane : ℕ
   pub ends : List ℕ
   pub below : lane < 4
-  pub structured : Structured s order place ends
+  pub structured : Structured s
+  pub ordered : Ordered s order place ends
   pub from : begin ≡ beginOf ends lane
   pub to : end ≡ getD ends lane 0

@@ -4,11 +4,12 @@ ghost use Prim.Native.Nat.{_+_, _*_, _≤_};
 ghost use lib.ListN.{length};
 ghost use lib.Seq.{sets};
 ghost use Rattle.file_format.specs.Fields.{recordCount};
+ghost use Rattle.file_format.specs.Structured.{Structured};
 ghost use Rattle.file_format.specs.Accepted.{programOf};
+ghost use Rattle.file_chains.specs.Ordered.{Ordered};
 ghost use Rattle.sheet_format.specs.Bytes.{over};
 ghost use Rattle.sheet_format.specs.Put.{inTurn};
 ghost use Rattle.file_rows.specs.Chains.{chainAt, chainBytes};
-ghost use Rattle.file_rows.specs.Structured.{Structured};
 use crate::chain::write_chain;
 use sheet_rows::put::put_counts;
 use sheet_rows::put::put_first;
@@ -18,7 +19,8 @@ use sheet_rows::read::word_at;
 // Writes the four lanes behind the header.
 fn write_lanes(out: &mut [u8], s: &[u8], order: &[u16; 257], place: &[u16; 257], ends: &[usize; 4])
     requires room { ⌜ 16 + 8 * recordCount (now s) ≤ length (now out) ⌝ }
-    requires structure { ⌜ Structured (now s) (now order) (now place) (now ends) ⌝ }
+    requires structure { ⌜ Structured (now s) ⌝ }
+    requires order { ⌜ Ordered (now s) (now order) (now place) (now ends) ⌝ }
     ensures { λ q. ⌜ now (out .exit) ≡ sets (now (out .entry)) 16 (inTurn (chainAt (now (s .entry))) 4) ⌝ }
 {
     let mut begin = 0;
@@ -40,7 +42,8 @@ pub fn write_chains(
     ends: &[usize; 4],
 )
     requires room { ⌜ 16 + 8 * recordCount (now s) ≤ length (now out) ⌝ }
-    requires structure { ⌜ Structured (now s) (now order) (now place) (now ends) ⌝ }
+    requires structure { ⌜ Structured (now s) ⌝ }
+    requires order { ⌜ Ordered (now s) (now order) (now place) (now ends) ⌝ }
     ensures { λ q. ⌜ now (out .exit) ≡ over (chainBytes (programOf (now (s .entry)))) (now (out .entry)) ⌝ }
 {
     let mask = word_at(s, 4) as u16;

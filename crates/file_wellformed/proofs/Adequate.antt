@@ -4,8 +4,8 @@ use mathlib.Core.Path.{_≡_, refl, sym, ap, _∙_}
 use mathlib.Core.List.{List, [], _∷_}
 use mathlib.Core.Bool.{Bool, true, false, not, cond, true≢false, false≢true}
 use mathlib.Core.Logic.{_⊎_, inl, inr}
-use lib.ListN.{getD, set, length, drop, length-set}
-use lib.Seq.{getD-set-other, getD-drop}
+use lib.ListN.{getD, set, length, take, drop, length-set, length-drop, List·getD-eq-default}
+use lib.Seq.{getD-set-other, getD-drop, take-all}
 use lib.Dec.{eqb}
 use native.Mathlib.Omega.{arith}
 use native.Mathlib.Decide.{decLe}
@@ -15,10 +15,11 @@ use Rattle.file_format.specs.Linkage.{chain, walkOf, chainTooLong}
 use Rattle.file_format.specs.Targets.{member, unreachableTarget, badTarget, position}
 use Rattle.file_format.specs.Accepted.{recordsAt}
 use Rattle.file_format.proofs.Laws.Search.{nothing-found, nothing-named}
-use Rattle.file_format.proofs.Laws.Linkage.{walkOf-here, walkOf-on, chain-suc, chain-stop, chain-length, last-one}
-use Rattle.file_format.proofs.Laws.Targets.{member-on, position-here, position-on}
+use Rattle.file_format.proofs.Laws.Linkage.{walkOf-here, walkOf-on, last-one}
+use Rattle.file_format.proofs.Laws.Linkage.{chain-suc, chain-stop, chain-length, chain-front, chain-behind}
+use Rattle.file_format.proofs.Laws.Targets.{member-position, position-at}
 use Rattle.file_format.proofs.Laws.Rules.{head-range}
-use Rattle.file_verdict.proofs.Laws.Verdict.{Structured}
+use Rattle.file_format.specs.Structured.{Structured}
 use Rattle.file_format.proofs.Bounded.{chain-range}
 
 -- how many flags are up
@@ -76,27 +77,18 @@ pub walk-ends : (s : List ℕ) → Structured s → recordCount s ≤ 256 → (m
     → length (chain s 257 (head s t)) < 257
 walk-ends s ok small met t ht room z e =
     let range : Flagged met (chain s 257 (head s t)) = λ p l.
-    let r = chain-range s (ok .records) 257 (head s t) p (head-range s (ok .header) t ht) l in
+    let r = chain-range s (ok .fields .records) 257 (head s t) p (head-range s (ok .fields .header) t ht) l in
     (r .0, omega (arith, r .1, room)) in
     omega (arith, met-few met (chain s 257 (head s t)) z (omega (arith, room)) range e)
 
 -- a record that is in a list stands at its position there; 0 stands, or is read past the end
 getD-position : (x : ℕ) (l : List ℕ) → (x ≡ 0) ⊎ (member x l ≡ true) → getD l (position x l) 0 ≡ x
-unfolding position member
-getD-position x [] (inl z) = sym z
-getD-position x [] (inr m) = absurd (false≢true m)
-getD-position x (y ∷ ys) w = go (eqb x y) refl w (getD-position x ys)
+getD-position x l (inr m) = position-at x l (member-position x l m)
+getD-position x l (inl z) = go (decLe (length l) (position x l))
   where
-    go : (b : Bool) → eqb x y ≡ b → (x ≡ 0) ⊎ (member x (y ∷ ys) ≡ true)
-        → ((x ≡ 0) ⊎ (member x ys ≡ true) → getD ys (position x ys) 0 ≡ x)
-        → getD (y ∷ ys) (position x (y ∷ ys)) 0 ≡ x
-    go true h w ih =
-        let e = eqb-true x y h in
-        rw (position-here x y ys e) (sym e)
-    go false h (inl z) ih = rw (position-on x y ys (eqb-false x y h)) (ih (inl z))
-    go false h (inr m) ih =
-        let n = eqb-false x y h in
-        rw (position-on x y ys n) (ih (inr (sym (member-on x y ys n) ∙ m)))
+    go : Dec (length l ≤ position x l) → getD l (position x l) 0 ≡ x
+    go (yes past) = List·getD-eq-default l 0 {n = position x l} past ∙ sym z
+    go (no h) = position-at x l (omega arith)
 
 -- a chain that ends within k records is the same with more room
 chain-room : (s : List ℕ) (k r j : ℕ) → getD (chain s (suc k) r) k 0 ≡ 0 → chain s (k + j) r ≡ chain s k r
@@ -118,30 +110,6 @@ chain-room s (suc k) r j e = go (decLe 1 r) (chain-room s k (next s r) j)
         ∙ ap (λ l. r ∷ l) (ih (sym (ap (λ l. getD l (suc k) 0) (chain-suc s (suc k) r n)) ∙ e))
         ∙ sym (chain-suc s k r n))
 
--- what follows position p of a chain, and that it ends where the chain ends
-abbrev Tail : List ℕ → ℕ → ℕ → ℕ → Type 0
-Tail s k r p =
-    (drop (suc p) (chain s k r) ≡ chain s (k - suc p) (next s (getD (chain s k r) p 0)))
-    × (getD (chain s (suc k) r) k 0 ≡ 0
-    → getD (chain s (suc (k - suc p)) (next s (getD (chain s k r) p 0))) (k - suc p) 0 ≡ 0)
-
-chain-tail : (s : List ℕ) (k r p : ℕ) → p < length (chain s k r) → Tail s k r p
-unfolding chain
-chain-tail s zero r p h = absurd (omega arith)
-chain-tail s (suc k) r p h = go (decLe 1 r) p h (chain-tail s k (next s r))
-  where
-    go : Dec (1 ≤ r) → (p : ℕ) → p < length (chain s (suc k) r)
-        → ((p : ℕ) → p < length (chain s k (next s r)) → Tail s k (next s r) p) → Tail s (suc k) r p
-    go (no l) p h ih = absurd (omega (arith, ap length (chain-stop s (suc k) r (omega arith))))
-    go (yes l) zero h ih =
-        let n : r ≡ 0 → ⊥ = λ z. omega arith in
-        let q : suc k - 1 ≡ k = omega arith in
-        rw (chain-suc s k r n, chain-suc s (suc k) r n, q) (refl, λ e. e)
-    go (yes l) (suc p) h ih =
-        let n : r ≡ 0 → ⊥ = λ z. omega arith in
-        let q : suc k - suc (suc p) ≡ k - suc p = omega arith in
-        rw (chain-suc s k r n, chain-suc s (suc k) r n, q) (ih p (omega (arith, ap length (chain-suc s k r n))))
-
 module _ (s : List ℕ) (ok : Structured s) (t : ℕ) (ht : t < 4) where
   abbrev lane : List ℕ
   lane = recordsAt s (head s t)
@@ -155,19 +123,20 @@ module _ (s : List ℕ) (ok : Structured s) (t : ℕ) (ht : t < 4) where
     -- the records that follow the one at p, by next, are those at the later positions
     followed : chain s 64 (next s (getD lane p 0)) ≡ drop (suc p) lane
     followed =
-        let rest = chain-tail s 64 (head s t) p h in
+        let more : chain s 128 (head s t) ≡ lane = chain-room s 64 (head s t) 64 ends in
+        let rest : drop (suc p) lane ≡ chain s (128 - suc p) (next s (getD lane p 0)) =
+        rw more at (chain-behind s 128 (head s t) p (omega (arith, ap length more))) in
         let small : length lane ≤ 64 = chain-length s 64 (head s t) in
-        let q : 64 ≡ 64 - suc p + suc p = omega arith in
-        ap (λ n. chain s n (next s (getD lane p 0))) q
-        ∙ chain-room s (64 - suc p) (next s (getD lane p 0)) (suc p) (rest .1 ends)
-        ∙ sym (rest .0)
+        sym (chain-front s 64 (128 - suc p) (next s (getD lane p 0)) (omega arith))
+        ∙ ap (take 64) (sym rest)
+        ∙ take-all 64 (drop (suc p) lane) (omega (arith, length-drop (suc p) lane))
 
     -- a target is zero, or a record at a later position
     later : (target s (getD lane p 0) ≡ 0) ⊎ (member (target s (getD lane p 0)) (drop (suc p) lane) ≡ true)
     unfolding badTarget unreachableTarget
     later =
         let r = getD lane p 0 in
-        let range = chain-range s (ok .records) 64 (head s t) p (head-range s (ok .header) t ht) h in
+        let range = chain-range s (ok .fields .records) 64 (head s t) p (head-range s (ok .fields .header) t ht) h in
         let reached : unreachableTarget s r ≡ false =
         nothing-found (unreachableTarget s) 1 (recordCount s) r (omega arith) (ok .targets) (range .0)
         (omega (arith, range .1)) in

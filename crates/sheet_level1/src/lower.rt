@@ -3,7 +3,7 @@ ghost use mathlib.Core.Path.{_≡_};
 ghost use Prim.Native.Nat.{_+_, _*_, _≤_};
 ghost use lib.ListN.{length};
 ghost use Rattle.file_format.specs.Fields.{recordCount};
-ghost use Rattle.file_accept.specs.Checks.{Fielded};
+ghost use Rattle.file_format.specs.Structured.{Fielded};
 ghost use Rattle.sheet_format.specs.Bytes.{lower1 as lowered};
 use crate::whole::write_level1;
 use file_accept::accept::accept;

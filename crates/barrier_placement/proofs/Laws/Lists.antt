@@ -1,10 +1,9 @@
 -- Facts about numbers and lists that the logic's libraries lack.
-use Prim.Native.Nat.{ℕ, zero, suc, _<_, _≤_}
+use Prim.Native.Nat.{ℕ, _<_, _≤_}
 use mathlib.Core.Path.{_≡_, refl}
 use mathlib.Core.Bool.{Bool, true, false}
 use mathlib.Core.Logic.{_⊎_, inl, inr}
 use lib.Dec.{ltb}
-use lib.ListN.{getD, replicate}
 use borrow.Author.Tests.{ltb-true, ltb-false}
 
 pub lt-or-le : (a b : ℕ) → (a < b) ⊎ (b ≤ a)
@@ -13,8 +12,3 @@ lt-or-le a b = go (ltb a b) refl
     go : (t : Bool) → ltb a b ≡ t → (a < b) ⊎ (b ≤ a)
     go true h = inl (ltb-true a b h)
     go false h = inr (ltb-false a b h)
-
-pub replicate-at : {A : Type 0} (n j : ℕ) (a : A) → getD (replicate n a) j a ≡ a
-replicate-at zero j a = refl
-replicate-at (suc n) zero a = refl
-replicate-at (suc n) (suc j) a = replicate-at n j a

@@ -19,7 +19,7 @@ use Rattle.barrier_placement.specs.Place.{stands}
 use Rattle.barrier_placement.specs.Placed.{bit, bitOf, dueIn, landing}
 use Rattle.barrier_placement.proofs.Laws.Bits.{bit-or, bit-zero}
 use Rattle.barrier_placement.proofs.Laws.Bytes.{landing-small}
-use Rattle.barrier_placement.proofs.Laws.Lists.{replicate-at}
+use Rattle.file_format.proofs.Laws.Lists.{replicate-at}
 use Rattle.barrier_placement.proofs.Laws.Rows.{row-has}
 
 -- a step jumps to a position ahead exactly where its landing is that position

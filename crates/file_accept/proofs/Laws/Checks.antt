@@ -19,9 +19,7 @@ use Rattle.file_verdict.specs.declared.refusal.Refusal.the-variants.{BadRecord}
 use Rattle.file_verdict.specs.declared.refusal.Refusal.the-variants.{BadLinkage, ChainTooLong, BadTarget, LockFault}
 use Rattle.file_verdict.specs.Verdict.{unless, structureThen, refusalOf, numberOf, verdict, accepted}
 use Rattle.file_verdict.proofs.Laws.Verdict.{accepted-as}
-use Rattle.file_chains.specs.Ordered.{Ordered}
-use Rattle.file_rows.specs.Structured.{Structured}
-use Rattle.file_accept.specs.Checks.{Fielded, linkedRefusal}
+use Rattle.file_accept.specs.Checks.{linkedRefusal}
 
 -- a check that names a record, and one that names none
 module _ (x : ℕ) (f : ℕ → Refusal) (rest : Refusal) where
@@ -104,15 +102,3 @@ module _ (s : List ℕ) where
   -- a refused file is not accepted
   pub not-accepted : {r : Refusal} → r ≡ refusalOf s → 0 < numberOf r → ¬ verdict s ≡ accepted (programOf s)
   not-accepted e h v = omega (arith, ap numberOf (e ∙ accepted-as s (programOf s) v .0))
-
--- what checks 1 to 7 leave
-pub structured : {s order place ends : List ℕ} → Ordered s order place ends → Fielded s → chainTooLong s ≡ 0
-    → badTarget s ≡ 0 → Structured s order place ends
-structured o f z6 z7 = record {
-  header = f .header;
-  sized = f .sized;
-  records = f .records;
-  ordered = o;
-  short = z6;
-  targets = z7;
-}

@@ -11,6 +11,7 @@ use lib.Seq.{getD-set-same, getD-set-other, take-append-seam, drop-append-seam}
 use Rattle.file_format.specs.Fields.{recordCount, head}
 use Rattle.file_format.specs.Search.{lowest}
 use Rattle.file_format.specs.Linkage.{chain, linkageFrom, badLinkage}
+use Rattle.file_format.proofs.Laws.Lists.{replicate-at}
 use Rattle.file_format.proofs.Laws.Linkage.{linkage-on, linkage-end}
 use Rattle.file_chains.specs.Ordered.{beginOf, recordsIn, Ordered}
 use Rattle.file_chains.specs.Walks.{met, fronts, Filling, LaneWalked}
@@ -27,11 +28,6 @@ pub record Linking (s order place ends : List ℕ) (k t : ℕ) : Type 0 where
   pub end-at : (u : ℕ) → u < t → getD ends u 0 ≡ length (fronts s (suc u))
   pub answer : linkageFrom s (met place) t (4 - t) ≡ badLinkage s
 
-zeros-at : (n i : ℕ) → _≡_ {A = ℕ} (getD (replicate n 0) i 0) 0
-zeros-at zero i = refl
-zeros-at (suc n) zero = refl
-zeros-at (suc n) (suc i) = zeros-at n i
-
 pub linking-start : (s : List ℕ) → recordCount s ≤ 256
     → Linking s (replicate 257 0) (replicate 257 0) (replicate 4 0) 0 0
 unfolding fronts badLinkage
@@ -41,10 +37,10 @@ linking-start s few =
         order-room = refl;
         place-room = refl;
         counted = tally-none (met (replicate 257 0)) 1 (recordCount s)
-            (λ j. met-down (replicate 257 0) j (zeros-at 257 j));
+            (λ j. met-down (replicate 257 0) j (replicate-at {A = ℕ} 257 j 0));
         named = λ j h. absurd (omega arith);
         placed = λ j h. absurd (omega arith);
-        every = λ i up. absurd (omega (arith, zeros-at 257 i));
+        every = λ i up. absurd (omega (arith, replicate-at {A = ℕ} 257 i 0));
       };
       few = few;
       four = refl;

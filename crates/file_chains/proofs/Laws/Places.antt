@@ -14,9 +14,9 @@ use Rattle.file_format.specs.Linkage.{chain, chainTooLong}
 use Rattle.file_format.specs.Targets.{member, unreachableTarget, badTarget, position}
 use Rattle.file_format.specs.Accepted.{recordsAt}
 use Rattle.file_format.proofs.Laws.Search.{nothing-found, nothing-named}
-use Rattle.file_format.proofs.Laws.Targets.{position-le}
+use Rattle.file_format.proofs.Laws.Linkage.{chain-front, chain-behind}
+use Rattle.file_format.proofs.Laws.Targets.{position-le, member-position, position-at}
 use Rattle.file_chains.specs.Ordered.{beginOf, countOf, recordsIn, Ordered, landingIn}
-use Rattle.file_chains.proofs.Laws.Chains.{chain-front, chain-behind, member-position, position-at}
 
 -- the records behind record p of lane t
 abbrev pub behind : List ℕ → List ℕ → ℕ → ℕ → List ℕ

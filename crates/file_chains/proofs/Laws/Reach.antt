@@ -8,38 +8,12 @@ use native.Mathlib.Decide.{decLe}
 use borrow.Author.Tests.{ltb-true, le-leb, lt-leb, ne-eqb}
 use lib.ListN.{length, getD}
 use Rattle.file_format.specs.Fields.{recordCount, operation, target, next}
-use Rattle.file_format.specs.Rules.{recordTests, recordRule, badRecord, limitTarget}
 use Rattle.file_format.specs.Linkage.{chain, chainTooLong}
 use Rattle.file_format.specs.Targets.{member, unreachableTarget}
-use Rattle.file_format.proofs.Laws.Search.{all-at}
-use Rattle.file_format.proofs.Laws.Rules.{record-rule}
+use Rattle.file_format.proofs.Laws.Targets.{member-position, at-member}
 use Rattle.file_chains.specs.Ordered.{beginOf, countOf, recordsIn, Ordered}
 use Rattle.file_chains.specs.Reach.{endOf, reached}
-use Rattle.file_chains.proofs.Laws.Chains.{member-position, at-member}
 use Rattle.file_chains.proofs.Laws.Places.{behind, behind-length, behind-at, lane-at, lane-behind, found-place}
-
-limit-most : (n op : ℕ) → limitTarget n op ≤ n + 1
-unfolding limitTarget
-limit-most n zero = omega arith
-limit-most n (suc zero) = omega arith
-limit-most n (suc (suc zero)) = omega arith
-limit-most n (suc (suc (suc zero))) = omega arith
-limit-most n (suc (suc (suc (suc zero)))) = omega arith
-limit-most n (suc (suc (suc (suc (suc zero))))) = omega arith
-limit-most n (suc (suc (suc (suc (suc (suc zero)))))) = omega arith
-limit-most n (suc (suc (suc (suc (suc (suc (suc zero))))))) = omega arith
-limit-most n (suc (suc (suc (suc (suc (suc (suc (suc op)))))))) = omega arith
-
--- a target is one of the file's records, or 0
-pub target-small : (s : List ℕ) → badRecord s ≡ 0 → (i : ℕ) → 1 ≤ i → i ≤ recordCount s → target s i ≤ recordCount s
-unfolding recordRule
-target-small s ok i lo hi =
-    omega (
-      arith,
-      ltb-true (target s i) (limitTarget (recordCount s) (operation s i))
-          (all-at (recordTests s i) 4 (record-rule s ok i lo hi)),
-      limit-most (recordCount s) (operation s i),
-    )
 
 module _ {s order place ends : List ℕ} (o : Ordered s order place ends) where
   -- the lane of place j

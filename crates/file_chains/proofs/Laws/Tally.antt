@@ -10,6 +10,7 @@ use lib.Dec.{eqb}
 use lib.ListN.{length, getD, set, List·getD-map}
 use lib.Seq.{getD-set-same, getD-set-other}
 use Rattle.file_format.specs.Search.{lowest}
+use Rattle.file_format.proofs.Laws.Lists.{map-set}
 use Rattle.file_format.proofs.Laws.Search.{nothing-found}
 use Rattle.file_chains.specs.Walks.{given, met, bit, tally}
 
@@ -111,11 +112,6 @@ met-given place i h = go (decLe 1 (getD place i 0))
     go (no l) =
         let some = not-true (eqb (getD place i 0) 0) (sym (met-at place i) ∙ h) in
         absurd (eqb-false (getD place i 0) 0 some (omega arith))
-
-map-set : {A B : Type 0} (f : A → B) (l : List A) (i : ℕ) (a : A) → map f (set l i a) ≡ set (map f l) i (f a)
-map-set f [] i a = refl
-map-set f (x ∷ l) zero a = refl
-map-set f (x ∷ l) (suc i) a = ap (λ m. f x ∷ m) (map-set f l i a)
 
 pub met-set : (place : List ℕ) (r v : ℕ) → 1 ≤ v → met (set place r v) ≡ set (met place) r true
 met-set place r v h =

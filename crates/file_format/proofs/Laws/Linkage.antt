@@ -7,7 +7,7 @@ use native.Mathlib.Omega.{arith}
 use native.Mathlib.Numerals.{add-one}
 use native.Mathlib.Decide.{decLe}
 use borrow.Author.Tests.{eq-eqb, ne-eqb}
-use lib.ListN.{getD, set, length}
+use lib.ListN.{getD, set, length, take, drop}
 use lib.Dec.{eqb}
 use Rattle.file_format.specs.Fields.{recordCount, next}
 use Rattle.file_format.specs.Search.{lowest}
@@ -36,6 +36,43 @@ chain-length s (suc k) r = go (decLe 1 r) (chain-length s k (next s r))
     go : Dec (1 ≤ r) → length (chain s k (next s r)) ≤ k → length (chain s (suc k) r) ≤ suc k
     go (no l) ih = omega (arith, ap length (chain-stop s (suc k) r (omega arith)))
     go (yes l) ih = omega (arith, ap length (chain-suc s k r (λ z. omega arith)))
+
+-- a shorter chain is the front of a longer one
+pub chain-front : (s : List ℕ) (m k r : ℕ) → m ≤ k → take m (chain s k r) ≡ chain s m r
+unfolding chain
+chain-front s zero k r h = refl
+chain-front s (suc m) zero r h = absurd (omega arith)
+chain-front s (suc m) (suc k) r h = go (decLe 1 r) (chain-front s m k (next s r) (omega arith))
+  where
+    go : Dec (1 ≤ r) → take m (chain s k (next s r)) ≡ chain s m (next s r)
+        → take (suc m) (chain s (suc k) r) ≡ chain s (suc m) r
+    go (no l) ih =
+        let none : r ≡ 0 = omega arith in
+        ap (take (suc m)) (chain-stop s (suc k) r none) ∙ sym (chain-stop s (suc m) r none)
+    go (yes l) ih =
+        let some : r ≡ 0 → ⊥ = λ z. omega arith in
+        ap (take (suc m)) (chain-suc s k r some) ∙ ap (λ x. r ∷ x) ih ∙ sym (chain-suc s m r some)
+
+-- behind record p of a chain stands the chain of the record that follows it
+pub chain-behind : (s : List ℕ) (k r p : ℕ) → p < length (chain s k r)
+    → drop (suc p) (chain s k r) ≡ chain s (k - suc p) (next s (getD (chain s k r) p 0))
+unfolding chain
+chain-behind s zero r p h = absurd (omega arith)
+chain-behind s (suc k) r p h = go (decLe 1 r) p h (chain-behind s k (next s r))
+  where
+    go : Dec (1 ≤ r) → (p : ℕ) → p < length (chain s (suc k) r)
+        → ((p : ℕ) → p < length (chain s k (next s r))
+        → drop (suc p) (chain s k (next s r)) ≡ chain s (k - suc p) (next s (getD (chain s k (next s r)) p 0)))
+        → drop (suc p) (chain s (suc k) r) ≡ chain s (suc k - suc p) (next s (getD (chain s (suc k) r) p 0))
+    go (no l) p h ih = absurd (omega (arith, ap length (chain-stop s (suc k) r (omega arith))))
+    go (yes l) zero h ih =
+        let more = chain-suc s k r (λ z. omega arith) in
+        let less : suc k - 1 ≡ k = omega arith in
+        rw (more, less) refl
+    go (yes l) (suc p) h ih =
+        let more = chain-suc s k r (λ z. omega arith) in
+        let less : suc k - suc (suc p) ≡ k - suc p = omega arith in
+        rw (more, less) (ih p (omega (arith, ap length more)))
 
 -- A loop that walks a chain holds, at record r with k records ahead: F (chain s k r) is the answer. It ends at record
 -- 0, and else goes on from r to the record r′ that follows it.

@@ -1,11 +1,11 @@
 -- Laws of lists that the kit does not have.
 use Prim.Native.Nat.{ℕ, zero, suc, _-_, _<_, _≤_}
-use mathlib.Core.Path.{_≡_, refl}
+use mathlib.Core.Path.{_≡_, refl, ap}
 use mathlib.Core.List.{List, [], _∷_, map}
 use mathlib.Core.Option.{none, some}
 use native.Mathlib.Omega.{arith}
 use native.Mathlib.Decide.{decLe}
-use lib.ListN.{length, getD, getElem?, take, drop, length-drop}
+use lib.ListN.{length, getD, getElem?, take, drop, set, replicate, length-drop}
 use lib.Seq.{take-all}
 
 -- the part of a list from n on, as `&xs[n..]` has it
@@ -37,6 +37,16 @@ pub map-at : {A B : Type 0} (f : A → B) (l : List A) (t : ℕ) (a : A) (b : B)
 map-at f [] t a b h = absurd (omega arith)
 map-at f (x ∷ l) zero a b h = refl
 map-at f (x ∷ l) (suc t) a b h = map-at f l t a b (omega arith)
+
+pub map-set : {A B : Type 0} (f : A → B) (l : List A) (i : ℕ) (a : A) → map f (set l i a) ≡ set (map f l) i (f a)
+map-set f [] i a = refl
+map-set f (x ∷ l) zero a = refl
+map-set f (x ∷ l) (suc i) a = ap (λ m. f x ∷ m) (map-set f l i a)
+
+pub replicate-at : {A : Type 0} (n j : ℕ) (a : A) → getD (replicate n a) j a ≡ a
+replicate-at zero j a = refl
+replicate-at (suc n) zero a = refl
+replicate-at (suc n) (suc j) a = replicate-at n j a
 
 -- the values of f below n, the last first; two functions with the same values agree below n
 abbrev pub values : {A : Type 0} → (ℕ → A) → ℕ → List A

@@ -1,5 +1,5 @@
 -- What a header and a record that keep their rules have.
-use Prim.Native.Nat.{ℕ, zero, suc, _^_, _≤_, _<_}
+use Prim.Native.Nat.{ℕ, zero, suc, _+_, _^_, _≤_, _<_}
 use mathlib.Core.Path.{_≡_, refl, sym, ap, ap₂, _∙_}
 use mathlib.Core.List.{List, [], _∷_}
 use mathlib.Core.Bool.{Bool, true, false, not, cond}
@@ -11,8 +11,7 @@ use Rattle.file_format.specs.Fields.{laneCount, locations, locks, mask, 
 use Rattle.file_format.specs.Fields.{operation, registerA, operandB, reserved, constant, target, next}
 use Rattle.file_format.specs.Rules.{headRule, headerTests, headerRule, recordTests, recordRule, badRecord}
 use Rattle.file_format.specs.Rules.{rowA, rowB, rowConstant, rowTarget, limitA, limitB, limitConstant}
-use Rattle.file_format.specs.Rules.{limitTarget}
-use Rattle.file_format.specs.Rules.{Limits}
+use Rattle.file_format.specs.Rules.{limitTarget, Limits}
 use Rattle.file_format.specs.Search.{all}
 use Rattle.file_format.proofs.Laws.Search.{all-at, nothing-found}
 
@@ -71,6 +70,18 @@ module _ (s : List ℕ) (ok : headerRule s ≡ true) where
       let limit : head s t ≤ 0 = rw (le-ltb t (laneCount s) past) at (head-limit t h) in
       omega arith
 
+target-limit : (n op : ℕ) → limitTarget n op ≤ n + 1
+unfolding limitTarget
+target-limit n zero = omega arith
+target-limit n (suc zero) = omega arith
+target-limit n (suc (suc zero)) = omega arith
+target-limit n (suc (suc (suc zero))) = omega arith
+target-limit n (suc (suc (suc (suc zero)))) = omega arith
+target-limit n (suc (suc (suc (suc (suc zero))))) = omega arith
+target-limit n (suc (suc (suc (suc (suc (suc zero)))))) = omega arith
+target-limit n (suc (suc (suc (suc (suc (suc (suc zero))))))) = omega arith
+target-limit n (suc (suc (suc (suc (suc (suc (suc (suc op)))))))) = omega arith
+
 module _ (s : List ℕ) (ok : badRecord s ≡ 0) (i : ℕ) (lo : 1 ≤ i) (hi : i ≤ recordCount s) where
   -- the rule of each record holds
   pub record-rule : recordRule s i ≡ true
@@ -82,6 +93,14 @@ module _ (s : List ℕ) (ok : badRecord s ≡ 0) (i : ℕ) (lo : 1 ≤ i) (hi : 
   pub next-small : next s i ≤ recordCount s
   unfolding recordRule
   next-small = leb-true _ _ (all-at (recordTests s i) 5 record-rule)
+
+  -- a target is one of the file's records, or 0
+  pub target-small : target s i ≤ recordCount s
+  unfolding recordRule
+  target-small =
+      let below : target s i < limitTarget (recordCount s) (operation s i) =
+      ltb-true _ _ (all-at (recordTests s i) 4 record-rule) in
+      omega (arith, target-limit (recordCount s) (operation s i))
 
 -- ## the limits of an operation
 

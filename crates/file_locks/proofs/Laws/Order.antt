@@ -12,6 +12,7 @@ use Rattle.file_format.specs.Accepted.{recordsAt, opsAt, programOf}
 use Rattle.file_format.specs.Held.{laneFault, lockFault}
 use Rattle.file_format.specs.Lawful.{Bounded}
 use Rattle.file_format.specs.Search.{firstOf}
+use Rattle.file_format.specs.Structured.{Structured}
 use Rattle.file_format.specs.Stored.{noOp}
 use Rattle.file_format.proofs.Bounded.{lane-bounded}
 use Rattle.file_format.proofs.Laws.Lanes.{lane-records as own-lane, lane-ops}
@@ -22,7 +23,6 @@ use Rattle.file_chains.proofs.Laws.Places.{end-inside, lane-length, lane-record
 use Rattle.sheet_format.specs.Bytes.{over}
 use Rattle.sheet_rows.specs.Lanes.{fieldsOf}
 use Rattle.file_rows.specs.Chains.{chainBytes}
-use Rattle.file_rows.specs.Structured.{Structured}
 use Rattle.file_rows.proofs.Laws.Holds.{many, before, many-small, lane-holds}
 use Rattle.file_locks.specs.Sets.{noJump, jumpOr}
 use Rattle.file_locks.specs.Lanes.{LaneIn}
@@ -34,8 +34,7 @@ fault s t = laneFault (getD (programOf s .records) t []) (getD (programOf s .lan
 -- r is the fault of the lane from `from` to `end` of the order
 abbrev pub FaultIn : List ℕ → List ℕ → ℕ → ℕ → ℕ → Type 0
 FaultIn rows order from end r =
-    (ops : List Op) → from ≤ end → end ≤ 256 → end - from ≤ 64 → 16 + 8 * end ≤ length rows
-    → length order ≡ 257 → LaneIn (drop (16 + 8 * from) rows) (end - from) ops
+    (ops : List Op) → LaneIn (drop (16 + 8 * from) rows) (end - from) ops
     → r ≡ laneFault (take (end - from) (drop from order)) ops
 
 -- a bounded SKIP goes on, at most to the end
@@ -54,18 +53,12 @@ rows-room : (rows own bytes : List ℕ) → rows ≡ over bytes own → length o
 rows-room rows own bytes e =
     omega (arith, ap length e, length-append bytes (drop (length bytes) own), length-drop (length bytes) own)
 
-module _ (s order place ends : List ℕ) (st : Structured s order place ends) where
-  ordered : Ordered s order place ends
-  ordered = st .ordered
-
+module _ (s order place ends : List ℕ) (st : Structured s) (ordered : Ordered s order place ends) where
   abbrev end : ℕ → ℕ
   end t = getD ends t 0
 
-  end-small : (t : ℕ) → t < 4 → end t ≤ 256
-  end-small t h = omega (arith, end-inside ordered t h, few-records s (st .header))
-
   own-records : (t : ℕ) → t < 4 → recordsIn order ends t ≡ recordsAt s (head s t)
-  own-records t h = lane-records ordered (st .short) t h
+  own-records t h = lane-records ordered (st .chains) t h
 
   count-is : (t : ℕ) → t < 4 → countOf ends t ≡ many s t
   count-is t h =
@@ -82,7 +75,7 @@ module _ (s order place ends : List ℕ) (st : Structured s order place ends) wh
     where
       lane-in : LaneIn (drop (16 + 8 * before s t) rows) (many s t) (opsAt s (head s t))
       lane-in = record {
-        held = lane-holds s (st .header) rows own front (st .records) t below;
+        held = lane-holds s (st .fields .header) rows own front (st .fields .records) t below;
         onward = λ p l. led p l .0;
         within = λ p l. led p l .1;
       }
@@ -95,7 +88,20 @@ module _ (s order place ends : List ℕ) (st : Structured s order place ends) wh
               let len = opsFrom-length s 0 (recordsAt s (head s t)) in
               leads (locations s) (locks s) (many s t) p (getD (opsAt s (head s t)) p noOp) (many-small s t) l
               (rw len
-              (lane-bounded s (st .records) (head s t) (head-range s (st .header) t below) p noOp (omega (arith, len))))
+              (lane-bounded s (st .fields .records) (head s t) (head-range s (st .fields .header) t below) p noOp (omega (arith, len))))
+
+      -- lane t of the order fits the check
+      pub lane-fits : {from : ℕ} → from ≡ beginOf ends t
+          → (from ≤ end t) × (end t ≤ 256) × (end t - from ≤ 64) × (16 + 8 * end t ≤ length rows)
+          × (length order ≡ 257)
+      lane-fits ef =
+          let inside = end-inside ordered t below in (
+            omega (arith, ordered .rising t below),
+            omega (arith, inside, few-records s (st .fields .header)),
+            omega (arith, count-is t below, many-small s t),
+            omega (arith, inside, rows-room rows own (chainBytes (programOf s)) front, room),
+            ordered .order-room,
+          )
 
       -- what is found in lane t of the order is the fault of lane t
       pub fault-is : {from r : ℕ} → from ≡ beginOf ends t → FaultIn rows order from (end t) r → r ≡ fault s t
@@ -104,12 +110,9 @@ module _ (s order place ends : List ℕ) (st : Structured s order place ends) wh
           let count = count-is t below in
           let lane : LaneIn (drop (16 + 8 * beginOf ends t) rows) (countOf ends t) (opsAt s (head s t)) =
           rw (count, begin) lane-in in
-          subst (λ x. FaultIn rows order x (end t) r) ef found (opsAt s (head s t)) (ordered .rising t below)
-          (end-small t below) (omega (arith, count, many-small s t))
-          (omega (arith, end-inside ordered t below, rows-room rows own (chainBytes (programOf s)) front, room))
-          (ordered .order-room) lane
-          ∙ ap₂ laneFault (own-records t below ∙ sym (own-lane s (st .header) t below))
-          (sym (lane-ops s (st .header) t below))
+          subst (λ x. FaultIn rows order x (end t) r) ef found (opsAt s (head s t)) lane
+          ∙ ap₂ laneFault (own-records t below ∙ sym (own-lane s (st .fields .header) t below))
+          (sym (lane-ops s (st .fields .header) t below))
 
 pub fault-first : (s : List ℕ) → firstOf (fault s) 0 4 ≡ lockFault (programOf s)
 unfolding lockFault

@@ -13,28 +13,13 @@ use Rattle.file_locks.proofs.lane_fault.Statement.{statement}
 use Rattle.file_locks.proofs.lane_fault.Tie as tie
 
 returns : tie.Need-returns
-returns c = λ ops up few short big room lane. absurd (omega (arith, c .if1 .taken))
-
-returns-2 : tie.Need-returns-2
-returns-2 c =
-    let a = c .before .before .before .args in
-    λ ops up few short big room lane. record-none (a .order .now) (a .from) (a .end - a .from) (faultPosition ops) 0
-    (omega (arith, up, few, room)) (omega (arith, c .if2 .taken)) refl
+returns c =
+    let s = c .before .before in
+    λ ops lane. record-none (s .args .order .now) (s .args .from) (s .args .end - s .args .from) (faultPosition ops) 0
+    (omega (arith, s .pre)) (omega (arith, c .if1 .taken)) refl
 
 sub-n : tie.Need-sub-n
 sub-n c = search needs
-
-returns-3 : tie.Need-returns-3
-returns-3 c = λ ops up few short big room lane. absurd (omega (arith, c .if3 .taken))
-
-mul-if4 : tie.Need-mul-if4
-mul-if4 c = search needs
-
-add-if4 : tie.Need-add-if4
-add-if4 c = search needs
-
-returns-4 : tie.Need-returns-4
-returns-4 c = λ ops up few short big room lane. absurd (omega (arith, c .if4 .taken))
 
 mul-fault-position : tie.Need-mul-fault-position
 mul-fault-position c = search needs
@@ -53,26 +38,25 @@ part-fault-position-end c = search needs
 
 fault-position-requires : tie.Need-fault-position-requires
 fault-position-requires c κs =
-    let a = c .before .before .before .before .before .before .args in
-    let fits : 16 + 8 * a .end ≤ length (a .rows .now) = c .before .if4 .left in
-    let some : a .from < a .end = c .before .before .before .if2 .left in (
-      omega (arith, c .before .before .if3 .left),
-      omega (arith, part-length (a .rows .now) (16 + 8 * a .from) (omega (arith, fits, some)), fits, some),
+    let s = c .before .before .before in (
+      omega (arith, s .pre),
+      omega (arith, s .pre, part-length (s .args .rows .now) (16 + 8 * s .args .from) (omega (arith, s .pre))),
     )
 
 least-requires : tie.Need-least-requires
 least-requires c κs = search needs
 
-returns-5 : tie.Need-returns-5
-returns-5 c =
+returns-2 : tie.Need-returns-2
+returns-2 c =
     let w = c .before .before in
-    let a = w .before .before .before .before .before .before .before .args in
-    λ ops up few short big room lane.
+    let s = w .before .before .before .before in
+    let a = s .args in
+    λ ops lane.
     let from = 16 + 8 * a .from in
     let found = w .fault-position .ensures ops
     (subst (λ x. LaneIn x (a .end - a .from) ops) (sym (part-from from (a .rows .now))) lane) in
-    record-none (a .order .now) (a .from) (a .end - a .from) _ _ (omega (arith, up, few, room))
-    (c .before .least .ensures ∙ ap (λ x. min x (a .end - a .from)) found) (c .if5 .taken)
+    record-none (a .order .now) (a .from) (a .end - a .from) _ _ (omega (arith, s .pre))
+    (c .before .least .ensures ∙ ap (λ x. min x (a .end - a .from)) found) (c .if2 .taken)
 
 add-wide-word : tie.Need-add-wide-word
 add-wide-word c = search needs
@@ -89,30 +73,26 @@ element-copy-out-wide-word c = search needs
 wide-word-requires : tie.Need-wide-word-requires
 wide-word-requires c κs = search needs
 
-returns-6 : tie.Need-returns-6
-returns-6 c =
+returns-3 : tie.Need-returns-3
+returns-3 c =
     let w = c .before .before .before .before in
-    let a = w .before .before .before .before .before .before .before .args in
-    λ ops up few short big room lane.
+    let s = w .before .before .before .before in
+    let a = s .args in
+    λ ops lane.
     let from = 16 + 8 * a .from in
     let found = w .fault-position .ensures ops
     (subst (λ x. LaneIn x (a .end - a .from) ops) (sym (part-from from (a .rows .now))) lane) in
     c .wide-word .ensures .0
-    ∙ record-some (a .order .now) (a .from) (a .end - a .from) _ _ (omega (arith, up, few, room))
+    ∙ record-some (a .order .now) (a .from) (a .end - a .from) _ _ (omega (arith, s .pre))
     (c .before .before .before .least .ensures ∙ ap (λ x. min x (a .end - a .from)) found)
-    (c .before .before .if5 .left)
+    (c .before .before .if2 .left)
 
 pub lane-fault-spec : {M : Type 1} → statement M
 lane-fault-spec =
     tie.close
     (tie.spec
     returns
-    returns-2
     sub-n
-    returns-3
-    mul-if4
-    add-if4
-    returns-4
     mul-fault-position
     add-fault-position
     sub-fault-position
@@ -120,10 +100,10 @@ lane-fault-spec =
     part-fault-position-end
     fault-position-requires
     least-requires
-    returns-5
+    returns-2
     add-wide-word
     sub-wide-word
     mul-wide-word
     element-copy-out-wide-word
     wide-word-requires
-    returns-6)
+    returns-3)

@@ -23,7 +23,8 @@ use Rattle.file_format.proofs.Laws.Lists.{some-at}
 use Rattle.file_format.proofs.Laws.Rules.{four-lanes, head-range, head-none}
 use Rattle.file_format.proofs.Laws.Stored.{opsFrom-length, lane-count}
 use Rattle.file_verdict.specs.Verdict.{verdict, accepted}
-use Rattle.file_verdict.proofs.Laws.Verdict.{Structured, sound, accepted-as}
+use Rattle.file_format.specs.Structured.{Structured}
+use Rattle.file_verdict.proofs.Laws.Verdict.{sound, accepted-as}
 use Rattle.sheet_format.specs.Layout.{op}
 use Rattle.sheet_format.specs.Levels.{level1}
 use Rattle.sheet_format.specs.Bytes.{joined, laneBytes, over}
@@ -207,4 +208,4 @@ module _ (s : List ℕ) (ok : verdict s ≡ accepted (programOf s)) (rows own : 
 
   pub accepted-parts-hold : Holds (drop (getD (partsIn rows .from) t 0) rows) (getD (partsIn rows .count) t 0)
       (opsAt s (head s t))
-  accepted-parts-hold = parts-hold s (structure .header) rows own front (structure .records) t below
+  accepted-parts-hold = parts-hold s (structure .fields .header) rows own front (structure .fields .records) t below

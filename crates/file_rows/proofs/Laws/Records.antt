@@ -7,45 +7,24 @@ use native.Mathlib.Omega.{arith}
 use borrow.Author.Tests.{ltb-true, ne-eqb}
 use lib.ListN.{length, getD, take, drop, length-drop}
 use Rattle.file_format.specs.Fields.{byte, recordCount, head, operation, target}
-use Rattle.file_format.specs.Rules.{recordTests, recordRule, limitTarget}
+use Rattle.file_format.specs.Rules.{recordRule}
+use Rattle.file_format.specs.Structured.{Structured}
 use Rattle.file_format.specs.Accepted.{opOf, opsOf, opsAt}
 use Rattle.file_format.specs.Stored.{noOp}
 use Rattle.file_format.specs.Targets.{position}
-use Rattle.file_format.proofs.Laws.Search.{all-at}
-use Rattle.file_format.proofs.Laws.Rules.{few-records, record-rule}
+use Rattle.file_format.proofs.Laws.Rules.{few-records, record-rule, target-small}
 use Rattle.file_format.proofs.Laws.Targets.{position-le}
 use Rattle.file_format.proofs.Laws.Accepted.{opsOf-at}
 use Rattle.file_format.proofs.Laws.Stored.{opsFrom-length}
-use Rattle.file_chains.specs.Ordered.{beginOf, countOf, recordsIn, landingIn}
+use Rattle.file_chains.specs.Ordered.{beginOf, countOf, recordsIn, landingIn, Ordered}
 use Rattle.file_chains.proofs.Laws.Places.{end-inside, lane-length, lane-at, lane-short, lane-records, target-lands}
 use Rattle.sheet_format.specs.Bytes.{opBytes}
-use Rattle.file_rows.specs.Structured.{Structured}
 use Rattle.file_rows.specs.Records.{recordRow, RecordIn, LaneIn}
 use Rattle.file_rows.proofs.Laws.Row.{record-row}
 
--- a target is at most the record count
-target-limit : (n o : ℕ) → limitTarget n o ≤ n + 1
-unfolding limitTarget
-target-limit n zero = omega arith
-target-limit n (suc zero) = omega arith
-target-limit n (suc (suc zero)) = omega arith
-target-limit n (suc (suc (suc zero))) = omega arith
-target-limit n (suc (suc (suc (suc zero)))) = omega arith
-target-limit n (suc (suc (suc (suc (suc zero))))) = omega arith
-target-limit n (suc (suc (suc (suc (suc (suc zero)))))) = omega arith
-target-limit n (suc (suc (suc (suc (suc (suc (suc zero))))))) = omega arith
-target-limit n (suc (suc (suc (suc (suc (suc (suc (suc o)))))))) = omega arith
-
-target-small : (s : List ℕ) (r : ℕ) → recordRule s r ≡ true → target s r ≤ recordCount s
-unfolding recordRule
-target-small s r holds =
-    let below : target s r < limitTarget (recordCount s) (operation s r) =
-    ltb-true _ _ (all-at (recordTests s r) 4 holds) in
-    omega (arith, target-limit (recordCount s) (operation s r))
-
-module _ {s order place ends : List ℕ} (st : Structured s order place ends) where
+module _ {s order place ends : List ℕ} (st : Structured s) (o : Ordered s order place ends) where
   pub few : recordCount s ≤ 256
-  few = few-records s (st .header)
+  few = few-records s (st .fields .header)
 
   module _ (t : ℕ) (h : t < 4) where
     abbrev begin : ℕ
@@ -58,10 +37,10 @@ module _ {s order place ends : List ℕ} (st : Structured s order place ends) wh
     rs = recordsIn order ends t
 
     lane-ops-are : opsOf s rs ≡ opsAt s (head s t)
-    lane-ops-are = ap (opsOf s) (lane-records (st .ordered) (st .short) t h)
+    lane-ops-are = ap (opsOf s) (lane-records o (st .chains) t h)
 
     counted : length rs ≡ n
-    counted = lane-length (st .ordered) t h
+    counted = lane-length o t h
 
     pub lane-count-is : n ≡ length (opsAt s (head s t))
     lane-count-is = sym counted ∙ sym (opsFrom-length s 0 rs) ∙ ap length lane-ops-are
@@ -71,18 +50,18 @@ module _ {s order place ends : List ℕ} (st : Structured s order place ends) wh
       r = getD order (begin + p) 0
 
       record-is : getD rs p 0 ≡ r
-      record-is = lane-at (st .ordered) t h p below
+      record-is = lane-at o t h p below
 
       numbered : (1 ≤ r) × (r ≤ recordCount s)
-      numbered = st .ordered .named (begin + p) (omega (arith, end-inside (st .ordered) t h))
+      numbered = o .named (begin + p) (omega (arith, end-inside o t h))
 
       holds : recordRule s r ≡ true
-      holds = record-rule s (st .records) r (numbered .0) (numbered .1)
+      holds = record-rule s (st .fields .records) r (numbered .0) (numbered .1)
 
       lands : p + 1 + position (target s r) (drop (p + 1) rs) ≡ landingIn place begin n (target s r)
       lands =
           subst (λ x. p + 1 + position (target s x) (drop (p + 1) rs) ≡ landingIn place begin n (target s x)) record-is
-          (target-lands (st .ordered) (st .short) (st .targets) t p h below)
+          (target-lands o (st .chains) (st .targets) t p h below)
 
       landed : landingIn place begin n (target s r) ≤ 64
       landed =
@@ -92,13 +71,13 @@ module _ {s order place ends : List ℕ} (st : Structured s order place ends) wh
             position-le (target s r) (drop (p + 1) rs),
             length-drop (p + 1) rs,
             counted,
-            lane-short (st .ordered) (st .short) t h,
+            lane-short o (st .chains) t h,
           )
 
       lane-record : RecordIn s place begin n r
       lane-record = record {
-        whole = omega (arith, numbered .1, st .sized);
-        aimed = omega (arith, target-small s r holds, few);
+        whole = omega (arith, numbered .1, st .fields .sized);
+        aimed = omega (arith, target-small s (st .fields .records) r (numbered .0) (numbered .1), few);
         later =
             λ some. let on : p + 1 ≤ getD place (target s r) 0 - 1 - begin =
             rw (ne-eqb (target s r) 0 some) at (subst (λ x. p + 1 ≤ x) lands (omega arith)) in
@@ -123,23 +102,23 @@ module _ {s order place : List ℕ} {begin end : ℕ} (l : LaneIn s order place 
       subst (λ b. F b (end - begin)) (sym (l .from)) (subst (F (beginOf (l .ends) (l .lane))) count x)
 
   pub in-order : begin ≤ end
-  in-order = omega (arith, l .from, l .to, l .structured .ordered .rising (l .lane) (l .below))
+  in-order = omega (arith, l .from, l .to, l .ordered .rising (l .lane) (l .below))
 
   pub in-file : end ≤ 256
-  in-file = omega (arith, l .to, end-inside (l .structured .ordered) (l .lane) (l .below), few (l .structured))
+  in-file = omega (arith, l .to, end-inside (l .ordered) (l .lane) (l .below), few (l .structured) (l .ordered))
 
   pub counted-in : length (take (end - begin) (drop begin order)) ≡ end - begin
-  counted-in = by-lane (λ b k. length (take k (drop b order)) ≡ k) (counted (l .structured) (l .lane) (l .below))
+  counted-in = by-lane (λ b k. length (take k (drop b order)) ≡ k) (counted (l .structured) (l .ordered) (l .lane) (l .below))
 
   pub ops-in : opsOf s (take (end - begin) (drop begin order)) ≡ opsAt s (head s (l .lane))
   ops-in =
       by-lane (λ b k. opsOf s (take k (drop b order)) ≡ opsAt s (head s (l .lane)))
-      (lane-ops-are (l .structured) (l .lane) (l .below))
+      (lane-ops-are (l .structured) (l .ordered) (l .lane) (l .below))
 
   pub record-in : (p : ℕ) → p < end - begin → RecordIn s place begin (end - begin) (getD order (begin + p) 0)
   record-in =
       by-lane (λ b k. (p : ℕ) → p < k → RecordIn s place b k (getD order (b + p) 0))
-      (lane-record (l .structured) (l .lane) (l .below))
+      (lane-record (l .structured) (l .ordered) (l .lane) (l .below))
 
   pub row-in : ((i : ℕ) → byte s i < 256) → (p : ℕ) → p < end - begin
       → opBytes (getD (opsOf s (take (end - begin) (drop begin order))) p noOp)
@@ -149,4 +128,4 @@ module _ {s order place : List ℕ} {begin end : ℕ} (l : LaneIn s order place 
       by-lane
       (λ b k. (p : ℕ) → p < k → opBytes (getD (opsOf s (take k (drop b order))) p noOp)
       ≡ recordRow s (getD order (b + p) 0) (landingIn place b k (target s (getD order (b + p) 0))))
-      (λ p h. lane-row (l .structured) (l .lane) (l .below) p h small)
+      (λ p h. lane-row (l .structured) (l .ordered) (l .lane) (l .below) p h small)

@@ -7,7 +7,7 @@ use native.Mathlib.Omega.{arith}
 use borrow.Author.Tests.{ltb-true, eqb-true, eq-eqb, ne-eqb}
 use lib.Dec.{eqb}
 use lib.ListN.{set}
-use lib.Seq.{sets, set-set, set-comm}
+use lib.Seq.{sets, set-set}
 use Rattle.file_format.specs.Fields.{byte, start, locations, locks, operation, registerA, operandB, reserved, constant}
 use Rattle.file_format.specs.Fields.{target}
 use Rattle.file_format.specs.Rules.{recordTests, recordRule, limitA, limitB, limitConstant}
@@ -15,6 +15,7 @@ use Rattle.file_format.specs.Accepted.{opBy, opOf}
 use Rattle.file_format.specs.Targets.{position}
 use Rattle.file_format.proofs.Laws.Search.{all-at}
 use Rattle.sheet_format.specs.Bytes.{row, opBytes}
+use Rattle.sheet_format.proofs.Laws.Put.{before-sets}
 use Rattle.sheet_rows.proofs.Laws.Read.{quad-of}
 use Rattle.sheet_rows.specs.Eight.{eightIn}
 use Rattle.file_rows.specs.Records.{recordRow}
@@ -96,12 +97,6 @@ module _ (s : List ℕ) (small : (i : ℕ) → byte s i < 256) (r : ℕ) (holds 
       (subst (λ n. n < limitConstant (operation s r)) (sym number-is) low) hq
 
 -- one byte of a row written anew
-sets-behind : (l ys : List ℕ) (i j v : ℕ) → i < j → set (sets l j ys) i v ≡ sets (set l i v) j ys
-sets-behind l [] i j v h = refl
-sets-behind l (y ∷ ys) i j v h =
-    sets-behind (set l j y) ys i (suc j) v (omega arith)
-    ∙ ap (λ m. sets m (suc j) ys) (set-comm l j i y v (λ e. omega (arith, e)))
-
 fifth : (l : List ℕ) (i a b c d e f g h v : ℕ)
     → set (sets l i (a ∷ b ∷ c ∷ d ∷ e ∷ f ∷ g ∷ h ∷ [])) (i + 4) v
     ≡ sets l i (a ∷ b ∷ c ∷ d ∷ v ∷ f ∷ g ∷ h ∷ [])
@@ -109,8 +104,8 @@ fifth l i a b c d e f g h v =
     let m = sets l i (a ∷ b ∷ c ∷ d ∷ []) in
     let j : i + 4 ≡ suc (suc (suc (suc i))) = omega arith in
     ap (λ k. set (sets l i (a ∷ b ∷ c ∷ d ∷ e ∷ f ∷ g ∷ h ∷ [])) k v) j
-    ∙ sets-behind (set m (suc (suc (suc (suc i)))) e) (f ∷ g ∷ h ∷ []) (suc (suc (suc (suc i))))
-    (suc (suc (suc (suc (suc i))))) v (omega arith)
+    ∙ before-sets (set m (suc (suc (suc (suc i)))) e) (suc (suc (suc (suc (suc i))))) (suc (suc (suc (suc i))))
+    (f ∷ g ∷ h ∷ []) v (omega arith)
     ∙ ap (λ k. sets k (suc (suc (suc (suc (suc i))))) (f ∷ g ∷ h ∷ []))
     (set-set m (suc (suc (suc (suc i)))) e v)
 

@@ -8,15 +8,15 @@ use lib.ListN.{length, getD, length-map}
 use lib.Seq.{sets}
 use Rattle.file_format.specs.Fields.{laneCount, locations, locks, mask, recordCount, head}
 use Rattle.file_format.specs.Rules.{headerRule}
+use Rattle.file_format.specs.Structured.{Structured}
 use Rattle.file_format.specs.Accepted.{programOf, opsAt}
 use Rattle.sheet_format.specs.Layout.{op}
 use Rattle.sheet_format.specs.Bytes.{word, over}
 use Rattle.sheet_format.specs.Put.{laid, inTurn}
 use Rattle.sheet_format.proofs.Laws.Loaded.{sizes-by, put-by}
 use Rattle.sheet_format.proofs.Laws.Written.{written-all}
-use Rattle.file_chains.specs.Ordered.{countOf}
+use Rattle.file_chains.specs.Ordered.{countOf, Ordered}
 use Rattle.file_rows.specs.Chains.{chainBytes, chainAt}
-use Rattle.file_rows.specs.Structured.{Structured}
 use Rattle.file_rows.proofs.Laws.Records.{lane-count-is}
 
 module _
@@ -46,21 +46,21 @@ module _
         ∙ ap (λ x. x .1) (written-all (chainBytes (programOf s)) buffer room)
 
 -- of a structured file
-module _ {s order place ends : List ℕ} (st : Structured s order place ends) where
+module _ {s order place ends : List ℕ} (st : Structured s) (o : Ordered s order place ends) where
   first-is : getD ends 0 0 ≡ length (opsAt s (head s 0))
-  first-is = omega (arith, lane-count-is st 0 (omega arith))
+  first-is = omega (arith, lane-count-is st o 0 (omega arith))
 
   -- one row for each record
   pub chains-counted : length (chainBytes (programOf s)) ≡ 16 + 8 * recordCount s
   chains-counted =
       omega (
         arith,
-        chains-size s (st .header) first-is (lane-count-is st 1 (omega arith)) (lane-count-is st 2 (omega arith))
-            (lane-count-is st 3 (omega arith)),
-        st .ordered .rising 1 (omega arith),
-        st .ordered .rising 2 (omega arith),
-        st .ordered .rising 3 (omega arith),
-        st .ordered .all,
+        chains-size s (st .fields .header) first-is (lane-count-is st o 1 (omega arith)) (lane-count-is st o 2 (omega arith))
+            (lane-count-is st o 3 (omega arith)),
+        o .rising 1 (omega arith),
+        o .rising 2 (omega arith),
+        o .rising 3 (omega arith),
+        o .all,
       )
 
   -- the header with the counts of the lanes, and the lanes
@@ -72,5 +72,5 @@ module _ {s order place ends : List ℕ} (st : Structured s order place ends) wh
       → l₃ ≡ sets l₂ 16 (inTurn (chainAt s) 4)
       → l₃ ≡ over (chainBytes (programOf s)) buffer
   chains-from en els eks em buffer room =
-      chains-put s (st .header) first-is (lane-count-is st 1 (omega arith)) (lane-count-is st 2 (omega arith))
-      (lane-count-is st 3 (omega arith)) en els eks em buffer (omega (arith, chains-counted))
+      chains-put s (st .fields .header) first-is (lane-count-is st o 1 (omega arith)) (lane-count-is st o 2 (omega arith))
+      (lane-count-is st o 3 (omega arith)) en els eks em buffer (omega (arith, chains-counted))

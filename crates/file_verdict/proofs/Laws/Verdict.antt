@@ -1,26 +1,22 @@
 -- Laws of the verdict: what each check that did not refuse leaves.
 use Prim.Native.Nat.{ℕ, _+_, _*_, _<_}
 use mathlib.Core.Path.{_≡_, refl, ap, sym, _∙_}
-use mathlib.Core.List.{List, [], _∷_}
+use mathlib.Core.List.{List}
 use mathlib.Core.Bool.{Bool, true, false, not, cond}
 use mathlib.Core.Logic.{_⊎_, inl, inr}
 use native.Mathlib.Omega.{arith}
 use borrow.Author.Tests.{eqb-true, not-false}
 use lib.ListN.{length}
 use lib.Dec.{ltb, eqb}
-use types.Run.{OneOf, miss}
-use denote.Enum.Declared.{tagOf}
 use Rattle.file_verdict.specs.declared.refusal.Refusal.{Refusal}
 use Rattle.file_verdict.specs.declared.refusal.Refusal.the-variants.{Accepted, TruncatedHeader, BadHeader}
-use Rattle.file_verdict.specs.declared.refusal.Refusal.the-variants.{BadLength}
-use Rattle.file_verdict.specs.declared.refusal.Refusal.the-variants.{BadRecord, BadLinkage, ChainTooLong}
-use Rattle.file_verdict.specs.declared.refusal.Refusal.the-variants.{BadTarget}
-use Rattle.file_verdict.specs.declared.refusal.Refusal.the-variants.{LockFault}
-use Rattle.file_verdict.proofs.refusal.Refusal as T
+use Rattle.file_verdict.specs.declared.refusal.Refusal.the-variants.{BadLength, BadRecord, BadLinkage}
+use Rattle.file_verdict.specs.declared.refusal.Refusal.the-variants.{ChainTooLong, BadTarget, LockFault}
 use Rattle.file_format.specs.Fields.{recordCount}
 use Rattle.file_format.specs.Rules.{headerRule, badRecord}
 use Rattle.file_format.specs.Linkage.{badLinkage, chainTooLong}
 use Rattle.file_format.specs.Targets.{badTarget}
+use Rattle.file_format.specs.Structured.{Structured}
 use Rattle.file_format.specs.Accepted.{Program, programOf}
 use Rattle.file_format.specs.Held.{lockFault}
 use Rattle.file_verdict.specs.Verdict.{unless, structureThen, refusalOf, numberOf, accepted}
@@ -58,15 +54,6 @@ structure-check s =
     (check-then (unless (chainTooLong s) ChainTooLong) _ (check-unless (chainTooLong s) ChainTooLong (omega arith))
     (check-unless (badTarget s) BadTarget (omega arith)))))))
 
--- what each of checks 1 to 7 leaves where it does not refuse
-pub record Structured (s : List ℕ) : Type 0 where
-  pub header : headerRule s ≡ true
-  pub size : length s ≡ 16 + 12 * recordCount s
-  pub records : badRecord s ≡ 0
-  pub linkage : badLinkage s ≡ 0
-  pub chains : chainTooLong s ≡ 0
-  pub targets : badTarget s ≡ 0
-
 -- a refusal is not Accepted, so what accepts went past it
 past : (b : Bool) (r rest : Refusal) → 0 < numberOf r → cond b r rest ≡ Accepted → (b ≡ false) × (rest ≡ Accepted)
 past true r rest h e = absurd (omega (arith, ap numberOf e))
@@ -91,9 +78,11 @@ structured s e =
     let e6 = past-record (chainTooLong s) ChainTooLong _ (omega arith) (e5 .1) in
     let e7 = past-record (badTarget s) BadTarget _ (omega arith) (e6 .1) in
     record {
-      header = not-false (headerRule s) (e2 .0);
-      size = eqb-true _ _ (not-false _ (e3 .0));
-      records = e4 .0;
+      fields = record {
+        header = not-false (headerRule s) (e2 .0);
+        sized = eqb-true _ _ (not-false _ (e3 .0));
+        records = e4 .0;
+      };
       linkage = e5 .0;
       chains = e6 .0;
       targets = e7 .0;
@@ -126,15 +115,3 @@ accepted-as s k e = go (refusalOf s) refl e
     go (ChainTooLong r) h e = let z : _≡_ {A = ℕ} 0 1 = cc in absurd (omega arith)
     go (BadTarget r) h e = let z : _≡_ {A = ℕ} 0 1 = cc in absurd (omega arith)
     go (LockFault r) h e = let z : _≡_ {A = ℕ} 0 1 = cc in absurd (omega arith)
-
--- what a `match` tells the arm of the refusals
-pub refused-tag : (r : Refusal) → OneOf (1 ∷ 2 ∷ 3 ∷ 4 ∷ 5 ∷ 6 ∷ 7 ∷ 8 ∷ []) (tagOf T.the-type r) → 0 < numberOf r
-refused-tag Accepted k = absurd (miss (1 ∷ 2 ∷ 3 ∷ 4 ∷ 5 ∷ 6 ∷ 7 ∷ 8 ∷ []) 0 tt k)
-refused-tag TruncatedHeader k = omega arith
-refused-tag BadHeader k = omega arith
-refused-tag BadLength k = omega arith
-refused-tag (BadRecord r) k = omega arith
-refused-tag (BadLinkage r) k = omega arith
-refused-tag (ChainTooLong r) k = omega arith
-refused-tag (BadTarget r) k = omega arith
-refused-tag (LockFault r) k = omega arith

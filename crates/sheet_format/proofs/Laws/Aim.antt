@@ -1,14 +1,10 @@
 -- Laws of an operation whose target is renumbered.
 use Prim.Native.Nat.{ℕ}
 use mathlib.Core.Path.{_≡_, refl, ap}
-use mathlib.Core.List.{[], _∷_}
 use mathlib.Core.Option.{some}
-use types.Run.{OneOf, miss}
-use denote.Enum.Declared.{tagOf}
 use Rattle.file_format.specs.declared.accepted.Op.{Op}
 use Rattle.file_format.specs.declared.accepted.Op.the-variants.{Set, Add, Load, Store, Lock, Unlock, Skip}
 use Rattle.file_format.specs.Accepted.{jump}
-use Rattle.file_format.proofs.accepted.Op as T
 use Rattle.sheet_format.specs.Layout.{aim}
 
 -- an operation that keeps its target
@@ -30,13 +26,3 @@ aim-agrees f g (Store a x) h = refl
 aim-agrees f g (Lock l) h = refl
 aim-agrees f g (Unlock l) h = refl
 aim-agrees f g (Skip a t) h = ap (Skip a) (h t refl)
-
--- what a `match` tells its last arm: the operation is no SKIP
-pub aim-other : (f g : ℕ → ℕ) (o : Op) → OneOf (0 ∷ 1 ∷ 2 ∷ 3 ∷ 4 ∷ 5 ∷ []) (tagOf T.the-type o) → aim f o ≡ aim g o
-aim-other f g (Set a c) k = refl
-aim-other f g (Add a b) k = refl
-aim-other f g (Load a x) k = refl
-aim-other f g (Store a x) k = refl
-aim-other f g (Lock l) k = refl
-aim-other f g (Unlock l) k = refl
-aim-other f g (Skip a t) k = absurd (miss (0 ∷ 1 ∷ 2 ∷ 3 ∷ 4 ∷ 5 ∷ []) 6 tt k)

@@ -39,7 +39,7 @@ module _ (s : List ℕ) (ok : verdict s ≡ accepted (programOf s)) where
   answered-by bytes buffer = ap (λ v. answerBy bytes v buffer) (sym ok)
 
   pub header-by : headerRule s ≡ true
-  header-by = sound s (accepted-as s (programOf s) ok .0) .0 .header
+  header-by = sound s (accepted-as s (programOf s) ok .0) .0 .fields .header
 
 module _ (s : List ℕ) (header : headerRule s ≡ true) where
   -- lane t is the chain from its head

@@ -7,7 +7,7 @@ use native.Mathlib.Omega.{arith}
 use lib.ListN.{length, getD, take, drop, set, length-append}
 use lib.Dec.{leb}
 use borrow.Author.Tests.{le-leb}
-use lib.Seq.{sets, sets-eq, length-sets, take-suc}
+use lib.Seq.{sets, sets-eq, set-comm, length-sets, take-suc}
 use Rattle.sheet_format.specs.declared.Lowered.the-variants.{Wrote, Refuses}
 use Rattle.sheet_format.specs.Bytes.{over, writeInto}
 use Rattle.sheet_format.specs.Put.{Puts, laid}
@@ -18,6 +18,13 @@ sets-on l i [] y = let e : i + 0 ≡ i = omega arith in ap (λ n. sets l n y) e
 sets-on l i (a ∷ x) y =
     let e : i + suc (length x) ≡ suc i + length x = omega arith in
     ap (λ n. sets (sets (set l i a) (suc i) x) n y) e ∙ sets-on (set l i a) (suc i) x y
+
+-- a store before a run of stores
+pub before-sets : (l : List ℕ) (k i : ℕ) (x : List ℕ) (b : ℕ) → i < k → set (sets l k x) i b ≡ sets (set l i b) k x
+before-sets l k i [] b h = refl
+before-sets l k i (a ∷ x) b h =
+    before-sets (set l k a) (suc k) i x b (omega arith)
+    ∙ ap (λ m. sets m (suc k) x) (set-comm l k i a b (λ e. omega arith))
 
 -- first x, and behind it y
 pub puts-on : {l m n x y : List ℕ} {i j k : ℕ} → Puts l i x m j → Puts m j y n k → Puts l i (x ++ y) n k

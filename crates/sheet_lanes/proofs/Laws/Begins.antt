@@ -5,11 +5,11 @@ use mathlib.Core.Bool.{Bool, true, false}
 use mathlib.Core.List.{List, [], _∷_, _++_, append-nil}
 use native.Mathlib.Omega.{arith}
 use lib.ListN.{length, set, length-append}
-use lib.Seq.{sets, set-set, set-comm, length-sets}
+use lib.Seq.{sets, set-set, length-sets}
 use mir.Val.{boolByte}
 use Rattle.sheet_format.specs.Bytes.{row}
 use Rattle.sheet_format.specs.Put.{Puts, laid}
-use Rattle.sheet_format.proofs.Laws.Put.{sets-on, laid-fits}
+use Rattle.sheet_format.proofs.Laws.Put.{sets-on, before-sets, laid-fits}
 use Rattle.sheet_lanes.specs.Put.{rowIf, Begins}
 
 pub row-size : (b : Bool) (code at : ℕ) → at + 8 * boolByte b ≡ at + length (rowIf b code)
@@ -19,13 +19,6 @@ row-size false code at = refl
 pub flag-small : (b : Bool) → boolByte b ≤ 1
 flag-small true = omega arith
 flag-small false = omega arith
-
--- a store before a run of stores
-before-sets : (l : List ℕ) (k i : ℕ) (x : List ℕ) (b : ℕ) → i < k → set (sets l k x) i b ≡ sets (set l i b) k x
-before-sets l k i [] b h = refl
-before-sets l k i (a ∷ x) b h =
-    before-sets (set l k a) (suc k) i x b (omega arith)
-    ∙ ap (λ m. sets m (suc k) x) (set-comm l k i a b (λ e. omega arith))
 
 -- bytes written over fewer
 sets-over : (l : List ℕ) (i : ℕ) (x y : List ℕ) → length x ≤ length y → sets (sets l i x) i y ≡ sets l i y

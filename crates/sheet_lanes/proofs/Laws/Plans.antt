@@ -1,10 +1,11 @@
 -- Laws of a placed lane: it is the lane of the level 1 sheet, how many instructions it makes, and its plan.
-use Prim.Native.Nat.{ℕ, suc, _+_, _<_}
+use Prim.Native.Nat.{ℕ, suc, _+_, _*_, _/_, _<_}
 use mathlib.Core.Path.{_≡_, refl, sym, ap, _∙_}
 use mathlib.Core.Bool.{Bool}
 use mathlib.Core.List.{List, [], _∷_}
 use native.Mathlib.Omega.{arith}
 use lib.ListN.{length, getD, set}
+use lib.Seq.{getD-set-same}
 use Rattle.file_format.specs.declared.accepted.Op.{Op}
 use Rattle.barrier_placement.specs.declared.cookbook.Barrier.{Barrier}
 use Rattle.barrier_placement.specs.declared.cookbook.Barrier.the-variants.{LL, LS, SS, SL}
@@ -12,7 +13,7 @@ use Rattle.barrier_placement.specs.Chain.{Chain}
 use Rattle.barrier_placement.specs.Steps.{steps}
 use Rattle.barrier_placement.specs.Place.{keep, stands, before}
 use Rattle.barrier_placement.specs.Placed.{bit, bitOf}
-use Rattle.barrier_placement.specs.Plan.{standing, beginning, Counted}
+use Rattle.barrier_placement.specs.Plan.{standing, Counted}
 use Rattle.barrier_placement.specs.Sheet.{start as startBy}
 use Rattle.barrier_placement.proofs.Laws.Plan.{written-none, written-all}
 use Rattle.sheet_format.specs.Layout.{sheet}
@@ -51,15 +52,16 @@ module _
 -- a plan that has the barriers of a lane's operations, and counts them
 pub planned-by : (vol : ℕ → Bool) (ops : List Op) (plan : List ℕ) {n size : ℕ} → length ops ≡ n
     → ((b : Barrier) (p : ℕ) → p < n → bit (getD plan p 0) (bitOf b) ≡ stands (steps vol ops) b p)
-    → Counted plan n → size ≡ beginning plan n → Planned vol ops plan size
-planned-by vol ops plan {n} count bits begins counted =
+    → Counted plan n → getD plan n 0 ≡ 16 * size → Planned vol ops plan size
+planned-by vol ops plan {n} {size} count bits begins end =
     let stand : (p : ℕ) → p < length ops → standing plan p ≡ before (steps vol ops) p =
     λ p l. standing-is plan (steps vol ops) p (λ b. bits b p (omega arith)) in
+    let last : size ≡ getD plan n 0 / 16 = omega (arith, end) in
     record {
       stand = stand;
       begins = λ p l. begins p (omega arith);
       counted =
-          counted ∙ begins n (omega arith) ∙ ap (startBy (standing plan)) (sym count)
+          last ∙ begins n (omega arith) ∙ ap (startBy (standing plan)) (sym count)
           ∙ count-is vol ops plan stand;
     }
 
@@ -68,4 +70,4 @@ pub planned-none : (vol : ℕ → Bool) (ops : List Op) (plan : List ℕ) → le
     → Planned vol ops (set plan 0 0) 0
 planned-none vol ops plan none room =
     let all : Counted (set plan 0 0) 0 = written-all (written-none plan) room 0 (omega arith) in
-    planned-by vol ops (set plan 0 0) none (λ b p l. absurd (omega arith)) all (sym (all 0 (omega arith)))
+    planned-by vol ops (set plan 0 0) none (λ b p l. absurd (omega arith)) all (getD-set-same plan 0 0 0 room)

@@ -2,9 +2,9 @@
 -- The loop's invariant: the plan is written below p, where position p begins at `at`. For the operations whose rows are
 -- given and for each barrier, due is what is due after the position before p, brought has what jumps from below p bring
 -- to each position from p on, and the plan has the barrier at each position below p before which it stands.
-use Prim.Native.Nat.{ℕ, _+_, _*_, _/_, _<_, _≤_, _-_}
+use Prim.Native.Nat.{ℕ, _+_, _*_, _<_, _≤_, _-_}
 use native.Mathlib.Omega.{arith}
-use mathlib.Core.Path.{_≡_, refl, sym, ap, subst, _∙_}
+use mathlib.Core.Path.{_≡_, refl, ap, subst, _∙_}
 use mathlib.Core.List.{List}
 use mathlib.Core.Logic.{inl, inr, ⊎-elim}
 use lib.ListN.{length, getD, set, length-set}
@@ -174,13 +174,9 @@ returns c =
     let wrote : WrittenTo (l .plan) n (l .at) = subst (λ q. WrittenTo (l .plan) q (l .at)) last (l .inv .4) in
     let all = written-all wrote room 0 (omega arith) in
     let whole : 16 * l .at + 0 ≡ 16 * l .at = omega arith in
-    let tenth : 16 * l .at / 16 ≡ l .at = omega arith in
     let other : (p : ℕ) → ¬ p ≡ n → getD (set (l .plan) n (16 * l .at)) p 0 ≡ getD (l .plan) p 0 =
     λ p ne. getD-set-other (l .plan) n p (16 * l .at) 0 ne in (
-      (
-        sym tenth ∙ ap (λ x. x / 16) (sym (getD-set-same (l .plan) n (16 * l .at) 0 room)),
-        omega (arith, l .inv .3, a .pre .0),
-      ),
+      (getD-set-same (l .plan) n (16 * l .at) 0 room, omega (arith, l .inv .3, a .pre .0)),
       (
         subst (λ x. Counted (set (l .plan) n x) n) whole all,
         (

@@ -4,9 +4,9 @@ use mathlib.Core.Path.{sym, ap, _∙_}
 use mathlib.Core.Bool.{not}
 use native.Mathlib.Omega.{arith}
 use borrow.Author.Tests.{eqb-true, not-false}
+use Rattle.file_format.specs.Structured.{Fielded}
 use Rattle.file_format.specs.Accepted.{programOf}
 use Rattle.file_verdict.proofs.Laws.Verdict.{sound, accepted-as}
-use Rattle.file_accept.specs.Checks.{Fielded}
 use Rattle.file_accept.proofs.Laws.Checks.{refuses1, refuses2, refuses3, refuses4, past4, not-accepted}
 use borrow.Author.Needs.{needs}
 use Rattle.file_accept.proofs.accept.accept.Statement.{statement}
@@ -38,7 +38,7 @@ returns-3 c =
     (answer, λ v. absurd (not-accepted _ answer (omega arith) v))
 
 bad-record-requires : tie.Need-bad-record-requires
-bad-record-requires c κs = search needs
+bad-record-requires c κs = eqb-true _ _ (not-false _ (sym (c .before .bad-length .ensures) ∙ c .if3 .left))
 
 returns-4 : tie.Need-returns-4
 returns-4 c =

@@ -1,8 +1,7 @@
 -- `file_accept::accept::judge` meets its contract: each return is the first of checks 5 to 8 that refuses.
 use mathlib.Core.Path.{sym, _∙_}
-use Rattle.file_chains.proofs.Laws.Places.{end-fits}
+use Rattle.file_format.specs.Structured.{Structured}
 use Rattle.file_accept.proofs.Laws.Checks.{refuses5, refuses6, refuses7, refuses8, accepts}
-use Rattle.file_accept.proofs.Laws.Checks.{structured}
 use borrow.Author.Needs.{needs}
 use Rattle.file_accept.proofs.accept.judge.Statement.{statement}
 use Rattle.file_accept.proofs.accept.judge.Tie as tie
@@ -22,20 +21,26 @@ too-long-requires c κs =
     let first = c .before .before .before in
     let linked = first .before .link in
     let z5 = sym (linked .ensures .0) ∙ first .if1 .left in
-    end-fits (linked .ensures .1 z5)
+    (_, linked .ensures .1 z5)
 
 returns-2 : tie.Need-returns-2
 returns-2 c =
     let first = c .before .before .before .before .before in
     let linked = first .before .link in
     let z5 = sym (linked .ensures .0) ∙ first .if1 .left in
-    let long = c .before .too-long .ensures _ _ (linked .ensures .1 z5) in (
+    let long = c .before .too-long .ensures in (
       refuses6 _ z5 long (c .if2 .taken),
       λ e5 z6 z7. absurd (c .if2 .taken (long ∙ z6)),
     )
 
 bad-target-requires : tie.Need-bad-target-requires
-bad-target-requires c κs = search needs
+bad-target-requires c κs =
+    let second = c .before .before in
+    let first = second .before .before .before .before .before in
+    let linked = first .before .link in
+    let z5 = sym (linked .ensures .0) ∙ first .if1 .left in
+    let z6 = sym (second .before .too-long .ensures) ∙ second .if2 .left in
+    (first .before .before .before .before .before .before .pre .0, (z6, (_, linked .ensures .1 z5)))
 
 returns-3 : tie.Need-returns-3
 returns-3 c =
@@ -43,9 +48,8 @@ returns-3 c =
     let first = second .before .before .before .before .before in
     let linked = first .before .link in
     let z5 = sym (linked .ensures .0) ∙ first .if1 .left in
-    let o = linked .ensures .1 z5 in
-    let z6 = sym (second .before .too-long .ensures _ _ o) ∙ second .if2 .left in
-    let target = c .before .bad-target .ensures _ o z6 in (
+    let z6 = sym (second .before .too-long .ensures) ∙ second .if2 .left in
+    let target = c .before .bad-target .ensures in (
       refuses7 _ z5 z6 target (c .if3 .taken),
       λ e5 e6 z7. absurd (c .if3 .taken (target ∙ z7)),
     )
@@ -57,14 +61,27 @@ write-chains-requires c κs =
     let first = second .before .before .before .before .before in
     let linked = first .before .link in
     let z5 = sym (linked .ensures .0) ∙ first .if1 .left in
-    let o = linked .ensures .1 z5 in
-    let z6 = sym (second .before .too-long .ensures _ _ o) ∙ second .if2 .left in
-    let z7 = sym (third .before .bad-target .ensures _ o z6) ∙ third .if3 .left in
+    let z6 = sym (second .before .too-long .ensures) ∙ second .if2 .left in
+    let z7 = sym (third .before .bad-target .ensures) ∙ third .if3 .left in
     let a = first .before .before .before .before .before .before in
-    (a .pre .1, structured o (a .pre .0) z6 z7)
+    let st : Structured (a .args .file .now) =
+    record { fields = a .pre .0; linkage = z5; chains = z6; targets = z7 } in
+    (a .pre .1, (st, linked .ensures .1 z5))
 
 lock-fault-requires : tie.Need-lock-fault-requires
-lock-fault-requires c κs = search needs
+lock-fault-requires c κs =
+    let written = c .before .before .before .before .before in
+    let third = written .before .before .before .before .before in
+    let second = third .before .before .before .before in
+    let first = second .before .before .before .before .before in
+    let linked = first .before .link in
+    let z5 = sym (linked .ensures .0) ∙ first .if1 .left in
+    let z6 = sym (second .before .too-long .ensures) ∙ second .if2 .left in
+    let z7 = sym (third .before .bad-target .ensures) ∙ third .if3 .left in
+    let a = first .before .before .before .before .before .before in
+    let st : Structured (a .args .file .now) =
+    record { fields = a .pre .0; linkage = z5; chains = z6; targets = z7 } in
+    (st, ((_, linked .ensures .1 z5), (_, written .write-chains .ensures, a .pre .1)))
 
 same-length : tie.Need-same-length
 same-length c = search needs
@@ -76,15 +93,10 @@ returns-4 c =
     let second = third .before .before .before .before in
     let first = second .before .before .before .before .before in
     let linked = first .before .link in
-    let a = first .before .before .before .before .before .before in
     let z5 = sym (linked .ensures .0) ∙ first .if1 .left in
-    let o = linked .ensures .1 z5 in
-    let z6 = sym (second .before .too-long .ensures _ _ o) ∙ second .if2 .left in
-    let z7 = sym (third .before .bad-target .ensures _ o z6) ∙ third .if3 .left in
-    let st = structured o (a .pre .0) z6 z7 in
-    let rows-are = written .write-chains .ensures in
-    let fault-is = c .before .lock-fault .ensures _ _ _ st rows-are (a .pre .1) in
-    (refuses8 _ z5 z6 z7 fault-is (c .if4 .taken), λ e5 e6 e7. rows-are)
+    let z6 = sym (second .before .too-long .ensures) ∙ second .if2 .left in
+    let z7 = sym (third .before .bad-target .ensures) ∙ third .if3 .left in
+    (refuses8 _ z5 z6 z7 (c .before .lock-fault .ensures) (c .if4 .taken), λ e5 e6 e7. written .write-chains .ensures)
 
 same-length-2 : tie.Need-same-length-2
 same-length-2 c = search needs
@@ -96,15 +108,10 @@ returns-5 c =
     let second = third .before .before .before .before in
     let first = second .before .before .before .before .before in
     let linked = first .before .link in
-    let a = first .before .before .before .before .before .before in
     let z5 = sym (linked .ensures .0) ∙ first .if1 .left in
-    let o = linked .ensures .1 z5 in
-    let z6 = sym (second .before .too-long .ensures _ _ o) ∙ second .if2 .left in
-    let z7 = sym (third .before .bad-target .ensures _ o z6) ∙ third .if3 .left in
-    let st = structured o (a .pre .0) z6 z7 in
-    let rows-are = written .write-chains .ensures in
-    let fault-is = c .before .lock-fault .ensures _ _ _ st rows-are (a .pre .1) in
-    (accepts _ z5 z6 z7 fault-is (c .if4 .left), λ e5 e6 e7. rows-are)
+    let z6 = sym (second .before .too-long .ensures) ∙ second .if2 .left in
+    let z7 = sym (third .before .bad-target .ensures) ∙ third .if3 .left in
+    (accepts _ z5 z6 z7 (c .before .lock-fault .ensures) (c .if4 .left), λ e5 e6 e7. written .write-chains .ensures)
 
 pub judge-spec : {M : Type 1} → statement M
 judge-spec =

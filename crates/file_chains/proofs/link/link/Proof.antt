@@ -20,7 +20,7 @@ abbrev μ-loop : tie.MeasureT-loop
 loop-holds : tie.Need-loop-holds Inv-loop μ-loop
 loop-holds c =
     let p = c .before .pre in
-    rw (p .1 .0, p .1 .1) (linking-start _ (few-records _ (p .0 .0)))
+    rw (p .1 .0, p .1 .1) (linking-start _ (few-records _ (p .0 .header)))
 
 head-of-requires : tie.Need-head-of-requires Inv-loop μ-loop
 head-of-requires c κs = search needs
@@ -30,9 +30,9 @@ walk-requires c κs =
     let h = c .before .before in
     let l = h .before .before in
     let p = l .before .before .pre in (
-      omega (arith, h .head-of .ensures .0, head-range _ (p .0 .0) _ (h .before .loop-test .taken)),
+      omega (arith, h .head-of .ensures .0, head-range _ (p .0 .header) _ (h .before .loop-test .taken)),
       l .loop .inv .few,
-      p .0 .1,
+      p .0 .records,
       l .loop .inv .filling,
     )
 

@@ -1,24 +1,19 @@
 -- `file_chains::targets::bad_target` meets its contract.
-use Prim.Native.Nat.{ℕ, _≤_, _+_, _-_}
+use Prim.Native.Nat.{_≤_, _+_, _-_}
 use borrow.Author.Needs.{needs}
-use mathlib.Core.List.{List}
 use mathlib.Core.Path.{_≡_, _∙_, sym, ap}
 use native.Mathlib.Omega.{arith}
 use Rattle.file_format.specs.Fields.{recordCount}
 use Rattle.file_format.specs.Search.{lowest}
-use Rattle.file_format.specs.Linkage.{chainTooLong}
 use Rattle.file_format.specs.Targets.{unreachableTarget, badTarget}
 use Rattle.file_format.proofs.Laws.Rules.{few-records}
 use Rattle.file_format.proofs.Laws.Search.{search-start, search-on, search-found, search-none}
-use Rattle.file_chains.specs.Ordered.{Ordered}
 use Rattle.file_chains.proofs.targets.bad_target.Statement.{statement}
 use Rattle.file_chains.proofs.targets.bad_target.Tie as tie
 
 abbrev Inv-loop : tie.InvT-loop
 Inv-loop s place ends e i₀ i =
-    (e ≡ recordCount s + 1) × (1 ≤ i)
-    × ((order : List ℕ) → Ordered s order place ends → chainTooLong s ≡ 0
-    → lowest (unreachableTarget s) i (e - i) ≡ badTarget s)
+    (e ≡ recordCount s + 1) × (1 ≤ i) × (lowest (unreachableTarget s) i (e - i) ≡ badTarget s)
 
 abbrev μ-loop : tie.MeasureT-loop
 μ-loop s place ends e i₀ i = e - i
@@ -34,19 +29,19 @@ unfolding badTarget
 loop-holds c = (
   omega arith,
   omega arith,
-  λ order o short. search-start _ 1 (c .word-at .result) ∙ ap (lowest _ 1) (c .word-at .ensures .0),
+  search-start _ 1 (c .word-at .result) ∙ ap (lowest _ 1) (c .word-at .ensures .0),
 )
 
 strays-requires : tie.Need-strays-requires Inv-loop μ-loop
 strays-requires c κs =
     let p = c .before .before .before .before .pre in
-    (few-records _ (p .0), p .1, c .before .loop .inv .1, omega arith)
+    ((few-records _ (p .0 .header), p .0 .records, c .before .loop .inv .1, omega arith), p .1)
 
 returns : tie.Need-returns Inv-loop μ-loop
-returns c order o short =
+returns c =
     let test = c .before .before in
-    search-found _ _ _ (test .loop-test .taken) (sym (c .before .strays .ensures order o short) ∙ c .if1 .taken)
-    (test .before .loop .inv .2 order o short)
+    search-found _ _ _ (test .loop-test .taken) (sym (c .before .strays .ensures) ∙ c .if1 .taken)
+    (test .before .loop .inv .2)
 
 add-i : tie.Need-add-i Inv-loop μ-loop
 add-i c = omega arith
@@ -59,13 +54,12 @@ loop-again c =
     let test = c .before .before in (
       test .before .loop .inv .0,
       omega arith,
-      λ order o short.
-          search-on _ _ _ (test .loop-test .taken) (sym (c .before .strays .ensures order o short) ∙ c .if1 .left)
-          (test .before .loop .inv .2 order o short),
+      search-on _ _ _ (test .loop-test .taken) (sym (c .before .strays .ensures) ∙ c .if1 .left)
+          (test .before .loop .inv .2),
     )
 
 returns-2 : tie.Need-returns-2 Inv-loop μ-loop
-returns-2 c order o short = search-none _ _ _ (c .loop-test .left) (c .before .loop .inv .2 order o short)
+returns-2 c = search-none _ _ _ (c .loop-test .left) (c .before .loop .inv .2)
 
 pub bad-target-spec : {M : Type 1} → statement M
 bad-target-spec =

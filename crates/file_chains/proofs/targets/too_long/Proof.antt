@@ -1,8 +1,7 @@
 -- `file_chains::targets::too_long` meets its contract.
-use Prim.Native.Nat.{ℕ, _+_, _-_, _≤_}
+use Prim.Native.Nat.{_+_, _-_, _≤_}
 use borrow.Author.Needs.{needs}
 use lib.ListN.{getD}
-use mathlib.Core.List.{List}
 use mathlib.Core.Path.{_≡_, _∙_, refl, sym, ap}
 use native.Mathlib.Numerals.{add-one}
 use native.Mathlib.Omega.{arith}
@@ -10,24 +9,23 @@ use Rattle.file_format.specs.Fields.{head}
 use Rattle.file_format.specs.Search.{firstOf}
 use Rattle.file_format.specs.Linkage.{chain, chainTooLong}
 use Rattle.file_format.proofs.Laws.Search.{first-on, first-found, first-none}
-use Rattle.file_chains.specs.Ordered.{beginOf, Ordered}
-use Rattle.file_chains.proofs.Laws.Places.{none-over, one-over}
+use Rattle.file_chains.specs.Ordered.{beginOf}
+use Rattle.file_chains.proofs.Laws.Places.{end-fits, none-over, one-over}
 use Rattle.file_chains.proofs.targets.too_long.Statement.{statement}
 use Rattle.file_chains.proofs.targets.too_long.Tie as tie
 
 abbrev Inv-loop : tie.InvT-loop
-Inv-loop order ends from₀ t₀ from t =
+Inv-loop s order ends from₀ t₀ from t =
     (from ≤ 257)
     × (from ≡ beginOf ends t)
-    × ((s place : List ℕ) → Ordered s order place ends
-    → firstOf (λ n. getD (chain s 65 (head s n)) 64 0) t (4 - t) ≡ chainTooLong s)
+    × (firstOf (λ n. getD (chain s 65 (head s n)) 64 0) t (4 - t) ≡ chainTooLong s)
 
 abbrev μ-loop : tie.MeasureT-loop
-μ-loop order ends from₀ t₀ from t = 4 - t
+μ-loop s order ends from₀ t₀ from t = 4 - t
 
 loop-holds : tie.Need-loop-holds Inv-loop μ-loop
 unfolding chainTooLong
-loop-holds c = (omega arith, refl, λ s place o. refl)
+loop-holds c = (omega arith, refl, refl)
 
 mul-end : tie.Need-mul-end Inv-loop μ-loop
 mul-end c = search needs
@@ -47,20 +45,21 @@ mul-wide-word c = omega arith
 element-copy-out-wide-word : tie.Need-element-copy-out-wide-word Inv-loop μ-loop
 element-copy-out-wide-word c =
     let test = c .before .before in
-    omega (arith, test .before .before .pre (test .before .loop .t))
+    omega (arith, end-fits (test .before .before .before .pre .1) (test .before .loop .t))
 
 wide-word-requires : tie.Need-wide-word-requires Inv-loop μ-loop
 wide-word-requires c κs = search needs
 
 returns : tie.Need-returns Inv-loop μ-loop
-returns c s place o =
+returns c =
     let test = c .before .before .before .before in
     let l = test .before .loop in
-    let a = test .before .before .args in
-    let over = one-over o (l .t) (test .loop-test .taken) (omega arith) in
+    let start = test .before .before .before in
+    let a = start .args in
+    let over = one-over (start .pre .1) (l .t) (test .loop-test .taken) (omega arith) in
     let value : c .wide-word .result ≡ getD (a .order .now) (beginOf (a .ends .now) (l .t) + 64) 0 =
     c .wide-word .ensures .0 ∙ ap (λ n. getD (a .order .now) (n + 64) 0) (l .inv .1) in
-    first-found _ _ _ (test .loop-test .taken) (value ∙ over .0) (λ z. omega (arith, over .1)) (l .inv .2 s place o)
+    first-found _ _ _ (test .loop-test .taken) (value ∙ over .0) (λ z. omega (arith, over .1)) (l .inv .2)
 
 add-t : tie.Need-add-t Inv-loop μ-loop
 add-t c = search needs
@@ -72,15 +71,15 @@ loop-again : tie.Need-loop-again Inv-loop μ-loop
 loop-again c =
     let test = c .before .before in
     let l = test .before .loop in
-    let start = test .before .before in (
-      start .pre (l .t),
+    let start = test .before .before .before in (
+      end-fits (start .pre .1) (l .t),
       sym (ap (beginOf (start .args .ends .now)) (add-one (l .t))),
-      λ s place o. first-on _ _ _ (test .loop-test .taken) (none-over o (l .t) (test .loop-test .taken) (omega arith))
-          refl (l .inv .2 s place o),
+      first-on _ _ _ (test .loop-test .taken)
+          (none-over (start .pre .1) (l .t) (test .loop-test .taken) (omega arith)) refl (l .inv .2),
     )
 
 returns-2 : tie.Need-returns-2 Inv-loop μ-loop
-returns-2 c s place o = first-none _ _ _ (c .loop-test .left) (c .before .loop .inv .2 s place o)
+returns-2 c = first-none _ _ _ (c .loop-test .left) (c .before .loop .inv .2)
 
 pub too-long-spec : {M : Type 1} → statement M
 too-long-spec =

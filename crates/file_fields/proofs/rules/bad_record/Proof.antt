@@ -48,7 +48,7 @@ slice-aggregate-record-rule-4 c = search needs
 record-rule-requires : tie.Need-record-rule-requires Inv-loop μ-loop
 record-rule-requires c κs =
     let w = c .before .before .before .before .before .before in (
-      omega arith,
+      omega (arith, w .before .before .before .before .pre, w .word-at .ensures .0),
       record {
         counted = w .word-at .ensures .0;
         a-row = refl;

@@ -43,11 +43,12 @@ write-chain-requires c κs =
       lane = l .t;
       ends = a .args .ends .now;
       below = test .loop-test .taken;
-      structured = a .pre .1;
+      structured = a .pre .1 .0;
+      ordered = a .pre .1 .1;
       from = l .inv .1;
       to = refl;
     } in
-    let inside = end-inside (a .pre .1 .ordered) (l .t) (test .loop-test .taken) in
+    let inside = end-inside (a .pre .1 .1) (l .t) (test .loop-test .taken) in
     (omega (arith, inside, puts-length (l .inv .2), a .pre .0), lane)
 
 add-t : tie.Need-add-t Inv-loop μ-loop
@@ -67,7 +68,8 @@ loop-again c =
       lane = l .t;
       ends = ends;
       below = test .loop-test .taken;
-      structured = a .pre .1;
+      structured = a .pre .1 .0;
+      ordered = a .pre .1 .1;
       from = l .inv .1;
       to = refl;
     } in

@@ -1,12 +1,12 @@
--- `file_fields::limits::whole_rule` meets its contract.
+-- `file_fields::limits::record_rule` meets its contract.
 use borrow.Author.Needs.{needs}
 use lib.Dec.{ltb, leb}
 use mathlib.Core.Path.{refl, ap₂}
 use native.Mathlib.Omega.{arith}
 use Rattle.file_format.specs.Fields.{operation}
 use Rattle.file_format.proofs.Laws.Rules.{rows-eight, limit-a, limit-b, limit-constant, limit-target, rule-by}
-use Rattle.file_fields.proofs.limits.whole_rule.Statement.{statement}
-use Rattle.file_fields.proofs.limits.whole_rule.Tie as tie
+use Rattle.file_fields.proofs.limits.record_rule.Statement.{statement}
+use Rattle.file_fields.proofs.limits.record_rule.Tie as tie
 
 mul-at : tie.Need-mul-at
 mul-at c = search needs
@@ -140,8 +140,8 @@ returns c =
     (ap₂ ltb (c5 .before .before .before .whole-word .ensures .0) (limit-target limits op at))
     (ap₂ leb (c5 .before .whole-word2 .ensures .0) (limits .counted)))
 
-pub whole-rule-spec : {M : Type 1} → statement M
-whole-rule-spec =
+pub record-rule-spec : {M : Type 1} → statement M
+record-rule-spec =
     tie.close
     (tie.spec
     mul-at
