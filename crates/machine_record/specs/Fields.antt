@@ -71,8 +71,11 @@ pub record Same (f g : Fields) : Type 0 where
   pub register : (t r : ℕ) → t < 4 → r < 8 → f .register t r ≡ g .register t r
   pub entry : (t i : ℕ) → t < 4 → i < g .count t → f .entry t i ≡ g .entry t i
 
--- the counts and values of an answer that a record tells in full
+-- an answer that a record tells in full
 pub record Fits (a : Answer) : Type 0 where
+  pub lanes : length (a .state .lanes) ≤ 4
+  pub locations : length (a .state .memory) ≤ 16
+  pub locks : length (a .state .locks) ≤ 4
   pub done : a .done < 2 ^ 32
   pub waited : a .waited < 2 ^ 32
   pub memory : (x : ℕ) → getD (a .state .memory) x 0 < 2 ^ 32
