@@ -9,6 +9,7 @@ use Rattle.machine_spec.specs.Entries.{Entry, write, release}
 use Rattle.machine_spec.specs.State.{Lane}
 use Rattle.sheet_format.specs.Put.{inTurn}
 use Rattle.sheet_format.proofs.Laws.Turn.{turn-even}
+use Rattle.machine_record.specs.Places.{laneSize}
 use Rattle.machine_record.specs.Lanes.{placeBytes, entriesBytes, stateLane}
 
 pub place-length : (e : Option Entry) → length (placeBytes e) ≡ 8
@@ -21,6 +22,6 @@ unfolding entriesBytes
 entries-length n es =
     turn-even (λ i. placeBytes (getElem? es i)) 8 n (λ i. place-length (getElem? es i))
 
-pub lane-length : (l : Lane) → length (stateLane l) ≡ 548
+pub lane-length : (l : Lane) → length (stateLane l) ≡ laneSize
 unfolding stateLane inTurn
 lane-length l = omega (arith, entries-length 64 (l .pending))

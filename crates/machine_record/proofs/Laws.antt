@@ -1,5 +1,5 @@
 -- Laws by subject.
--- Laws by subject.
 pub mod Put
 pub mod Entries
 pub mod Lanes
+pub mod Has

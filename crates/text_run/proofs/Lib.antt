@@ -1,3 +1,3 @@
--- Laws of the fields of a run's text.
--- What is proved of the line of a move: small laws.
+-- What is proved of a run's text: it is told of the run; laws that the code's proofs cite.
 pub mod Laws
+pub mod Told

@@ -1,10 +1,9 @@
--- Words: the words of a run's text; Places: where the fields of a lane lie, and the text of an entry.
--- The line of a move, and examples.
--- The text of a state record.
+-- Words: the words of a run's text. Lanes, States: the text of a state. Places, Moves: the line of a move. Each is told
+-- of a state record's bytes and of an answer alike; examples from bytes.
 pub mod Words
-pub mod Places
-pub mod Moves
-pub mod MoveExamples
-pub mod StateExamples
 pub mod Lanes
 pub mod States
+pub mod Places
+pub mod Moves
+pub mod StateExamples
+pub mod MoveExamples

@@ -1,40 +1,57 @@
--- The line of a move, from the rows of the machine's program and the state records before and after it.
-use Prim.Native.Nat.{ℕ, _+_, _-_}
+-- The line of a move, from the instruction at which its lane stood and what was so before and after it.
+use Prim.Native.Nat.{ℕ, _-_}
 use mathlib.Core.Bool.{Bool, cond}
 use mathlib.Core.List.{List, [], _∷_, _++_}
 use lib.Dec.{eqb}
-use lib.ListN.{drop}
-use Rattle.file_format.specs.Fields.{byte, quad}
-use Rattle.sheet_format.specs.Read.{readInstr}
+use Rattle.file_format.specs.declared.accepted.Op.{Op}
+use Rattle.file_format.specs.declared.accepted.Op.the-variants.{Set, Add, Load, Store, Lock, Unlock, Skip}
+use Rattle.sheet_format.specs.Layout.{Instr, op, barrier}
+use Rattle.machine_spec.specs.Run.{Answer}
+use Rattle.machine_record.specs.Fields.{Fields, fieldsIn, fieldsOf}
 use Rattle.text_put.specs.Decimal.{decimal}
 use Rattle.text_put.specs.Words.{newline, named}
 use Rattle.text_listing.specs.Line.{instrText}
 use Rattle.text_run.specs.Words.{laneWord, choiceWord, waitedWord, doneWord, valueWord, commitsWord}
-use Rattle.text_run.specs.Places.{registerIn, nextRow, entryFrom, entryText}
+use Rattle.text_run.specs.Places.{nextInstr}
+use Rattle.text_run.specs.Lanes.{entryText}
 
--- " value V" behind a LOAD, whose code is 3
-abbrev pub loadedText : List ℕ → ℕ → List ℕ → ℕ → List ℕ
-loadedText rows from after t =
-    cond (eqb (byte rows from) 3) (named valueWord (registerIn after t (byte rows (from + 1)))) []
+-- " value V" behind a LOAD
+abbrev pub loadedText : Instr → Fields → ℕ → List ℕ
+loadedText (op (Set a c)) after t = []
+loadedText (op (Add a b)) after t = []
+loadedText (op (Load a x)) after t = named valueWord (after .register t a)
+loadedText (op (Store a x)) after t = []
+loadedText (op (Lock l)) after t = []
+loadedText (op (Unlock l)) after t = []
+loadedText (op (Skip a u)) after t = []
+loadedText (barrier b) after t = []
 
 -- the instruction that lane t carried out
-abbrev pub carriedText : List ℕ → List ℕ → List ℕ → ℕ → List ℕ
-carriedText rows before after t =
-    instrText (readInstr (drop (nextRow rows before t) rows)) ++ loadedText rows (nextRow rows before t) after t
+abbrev pub carriedText : Instr → Fields → ℕ → List ℕ
+carriedText i after t = instrText i ++ loadedText i after t
 
 -- choice 0 carries out, k commits the k-th oldest entry
-abbrev pub doneText : List ℕ → List ℕ → List ℕ → ℕ → ℕ → List ℕ
-doneText rows before after t c =
-    doneWord
-    ++ cond (eqb c 0) (carriedText rows before after t) (commitsWord ++ entryText before (entryFrom t (c - 1)))
+abbrev pub doneText : Instr → Fields → Fields → ℕ → ℕ → List ℕ
+doneText i before after t c =
+    doneWord ++ cond (eqb c 0) (carriedText i after t) (commitsWord ++ entryText (before .entry t (c - 1)))
 
--- a move that waited leaves the count of moves done, bytes 8 to 15 of the record, as it was: the low half tells
-abbrev pub hasWaited : List ℕ → List ℕ → Bool
-hasWaited before after = eqb (quad before 8) (quad after 8)
+-- a move that waited leaves the count of moves done as it was
+abbrev pub hasWaited : Fields → Fields → Bool
+hasWaited before after = eqb (before .done) (after .done)
+
+abbrev pub outcomeText : Instr → Fields → Fields → ℕ → ℕ → List ℕ
+outcomeText i before after t c = cond (hasWaited before after) waitedWord (doneText i before after t c)
 
 -- number of the move, lane, choice, what came of it
-unfoldable pub moveLine : List ℕ → List ℕ → List ℕ → ℕ → ℕ → ℕ → List ℕ
+unfoldable pub lineBy : Instr → Fields → Fields → ℕ → ℕ → ℕ → List ℕ
+lineBy i before after n t c =
+    decimal n ++ named laneWord t ++ named choiceWord c ++ outcomeText i before after t c ++ newline ∷ []
+
+-- from the rows of the machine's program and the bytes of the state records
+abbrev pub moveLine : List ℕ → List ℕ → List ℕ → ℕ → ℕ → ℕ → List ℕ
 moveLine rows before after n t c =
-    decimal n ++ named laneWord t ++ named choiceWord c
-    ++ cond (hasWaited before after) waitedWord (doneText rows before after t c)
-    ++ newline ∷ []
+    lineBy (nextInstr rows (fieldsIn before) t) (fieldsIn before) (fieldsIn after) n t c
+
+-- of the answers of the runs before and with the move, the lane having stood at i
+abbrev pub moveText : Instr → Answer → Answer → ℕ → ℕ → ℕ → List ℕ
+moveText i before after = lineBy i (fieldsOf before) (fieldsOf after)

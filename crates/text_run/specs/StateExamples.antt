@@ -5,7 +5,7 @@ use lib.ListN.{replicate}
 use Rattle.sheet_format.specs.Put.{inTurn}
 use Rattle.text_put.specs.Decimal.{digits, decimal}
 use Rattle.text_run.specs.Lanes.{laneText}
-use Rattle.text_run.specs.States.{stateText}
+use Rattle.text_run.specs.States.{textBy, stateText}
 
 -- one lane, one location, no locks, two entries pending:
 -- "done 0 waited 0", "finished no", "memory 0", "locks", "lane 0 position 0 registers 0 0 0 0 0 0 0 0",
@@ -20,5 +20,5 @@ state-holds : stateText
     ∷ 110 ∷ 103 ∷ 32 ∷ 108 ∷ 111 ∷ 99 ∷ 97 ∷ 116 ∷ 105 ∷ 111 ∷ 110 ∷ 32 ∷ 48 ∷ 32 ∷ 118 ∷ 97 ∷ 108 ∷ 117 ∷ 101 ∷ 32
     ∷ 55 ∷ 10 ∷ 108 ∷ 97 ∷ 110 ∷ 101 ∷ 32 ∷ 48 ∷ 32 ∷ 112 ∷ 101 ∷ 110 ∷ 100 ∷ 105 ∷ 110 ∷ 103 ∷ 32 ∷ 114 ∷ 101 ∷ 108
     ∷ 101 ∷ 97 ∷ 115 ∷ 101 ∷ 32 ∷ 49 ∷ 10 ∷ []
-unfolding digits decimal inTurn laneText stateText
+unfolding digits decimal inTurn laneText textBy
 state-holds = refl

@@ -1,51 +1,34 @@
 // A lane of a state record as text: its line, and a line for each pending entry.
-ghost use Prim.Native.Nat.{_+_, _*_, _≤_, _<_, _^_};
-ghost use Rattle.file_format.specs.Fields.{quad};
+ghost use Prim.Native.Nat.{_+_, _≤_, _<_, _^_};
 ghost use Rattle.sheet_format.specs.Put.{Puts};
-ghost use Rattle.text_run.specs.Lanes.{spaced, laneLine, pendingLine, laneText};
+ghost use Rattle.machine_record.specs.Fields.{fieldsIn};
+ghost use Rattle.text_run.specs.Lanes.{laneLine, pendingLine, laneText};
 use crate::entry::put_entry;
+use crate::numbers::put_numbers_line;
 use crate::places::entry_from;
 use crate::places::lane_from;
-use sheet_rows::read::quad_at;
 use sheet_rows::read::word_at;
 use text_put::put::put;
 use text_put::put::put_text;
 use text_put::words::put_one;
 
-// n numbers of 32 bits from `base` on, each behind a space.
-pub(crate) fn put_quads(out: &mut [u8], start: usize, s: &[u8], base: usize, n: u8) -> usize
-    requires { ⌜ (start + 11 * n ≤ 2 ^ 62) × (base < 2 ^ 32) ⌝ }
-    ensures { λ r. ⌜ (r ≤ start + 11 * n)
-        × Puts (now (out .entry)) start (spaced (λ i. quad (now (s .entry)) (base + 4 * i)) n) (now (out .exit)) r ⌝ }
-{
-    let mut at = start;
-    let mut i: u8 = 0;
-    while i < n {
-        at = put_one(out, at, b" ", quad_at(s, base + 4 * (i as usize)));
-        i += 1;
-    }
-    at
-}
-
 // Position and registers of lane t.
 fn put_lane_line(out: &mut [u8], at: usize, s: &[u8], t: u8) -> usize
     requires { ⌜ at + 134 ≤ 2 ^ 62 ⌝ }
     ensures { λ r. ⌜ (r ≤ at + 134)
-        × Puts (now (out .entry)) at (laneLine (now (s .entry)) t) (now (out .exit)) r ⌝ }
+        × Puts (now (out .entry)) at (laneLine (fieldsIn (now (s .entry))) t) (now (out .exit)) r ⌝ }
 {
     let i = put_one(out, at, b"lane ", t as u32);
     let from = lane_from(t);
     let j = put_one(out, i, b" position ", word_at(s, from));
-    let k = put_text(out, j, b" registers");
-    let m = put_quads(out, k, s, from + 4, 8);
-    put(out, m, b'\n')
+    put_numbers_line(out, j, b" registers", s, from + 4, true, 8)
 }
 
 // The entry in place i of its pending list.
 fn put_pending(out: &mut [u8], at: usize, s: &[u8], t: u8, i: u32) -> usize
     requires { ⌜ (at + 61 ≤ 2 ^ 62) × (i < 2 ^ 16) ⌝ }
     ensures { λ r. ⌜ (r ≤ at + 61)
-        × Puts (now (out .entry)) at (pendingLine (now (s .entry)) t i) (now (out .exit)) r ⌝ }
+        × Puts (now (out .entry)) at (pendingLine (fieldsIn (now (s .entry))) t i) (now (out .exit)) r ⌝ }
 {
     let j = put_one(out, at, b"lane ", t as u32);
     let k = put_text(out, j, b" pending ");
@@ -58,7 +41,7 @@ fn put_pending(out: &mut [u8], at: usize, s: &[u8], t: u8, i: u32) -> usize
 pub(crate) fn put_lane(out: &mut [u8], start: usize, s: &[u8], t: u8) -> usize
     requires { ⌜ start + 2 ^ 22 ≤ 2 ^ 62 ⌝ }
     ensures { λ r. ⌜ (r ≤ start + 2 ^ 22)
-        × Puts (now (out .entry)) start (laneText (now (s .entry)) t) (now (out .exit)) r ⌝ }
+        × Puts (now (out .entry)) start (laneText (fieldsIn (now (s .entry))) t) (now (out .exit)) r ⌝ }
 {
     let count = word_at(s, lane_from(t) + 2);
     let mut at = put_lane_line(out, start, s, t);

@@ -2,5 +2,6 @@
 pub mod entry;
 mod lane;
 pub mod moves;
+mod numbers;
 pub mod places;
 pub mod states;

@@ -1,14 +1,15 @@
 // The line of a move.
-ghost use Prim.Native.Nat.{_+_, _≤_, _<_, _^_};
-ghost use mathlib.Core.Bool.{cond};
+ghost use Prim.Native.Nat.{_+_, _≤_, _^_};
 ghost use Rattle.sheet_format.specs.Put.{Puts};
-ghost use Rattle.text_run.specs.Words.{waitedWord};
-ghost use Rattle.text_run.specs.Moves.{loadedText, carriedText, doneText, hasWaited, moveLine};
+ghost use Rattle.sheet_format.specs.Read.{instrBy};
+ghost use Rattle.machine_record.specs.Fields.{fieldsIn};
+ghost use Rattle.text_run.specs.Places.{nextInstr};
+ghost use Rattle.text_run.specs.Moves.{loadedText, carriedText, doneText, outcomeText, moveLine};
 use crate::entry::put_entry;
 use crate::places::entry_from;
 use crate::places::next_row;
 use crate::places::register_at;
-use sheet_rows::read::byte_at;
+use sheet_rows::read::Row;
 use sheet_rows::read::quad_at;
 use sheet_rows::read::row_at;
 use text_listing::line::put_instr;
@@ -18,15 +19,15 @@ use text_put::words::put_decimal;
 use text_put::words::put_one;
 
 // Behind a LOAD, whose code is 3, the value that its register took.
-fn put_loaded(out: &mut [u8], at: usize, rows: &[u8], from: usize, after: &[u8], t: u8) -> usize
-    requires { ⌜ (at + 17 ≤ 2 ^ 62) × (from < 2 ^ 32) ⌝ }
+fn put_loaded(out: &mut [u8], at: usize, row: Row, after: &[u8], t: u8) -> usize
+    requires { ⌜ at + 17 ≤ 2 ^ 62 ⌝ }
     ensures { λ r. ⌜ (r ≤ at + 17)
-        × Puts (now (out .entry)) at (loadedText (now (rows .entry)) from (now (after .entry)) t)
+        × Puts (now (out .entry)) at
+        (loadedText (instrBy (row .code) (row .a) (row .b) (row .word)) (fieldsIn (now (after .entry))) t)
         (now (out .exit)) r ⌝ }
 {
-    if byte_at(rows, from) == 3 {
-        let n = byte_at(rows, from + 1);
-        return put_one(out, at, b" value ", register_at(after, t, n));
+    if row.code == 3 {
+        return put_one(out, at, b" value ", register_at(after, t, row.a));
     }
     at
 }
@@ -35,11 +36,11 @@ fn put_loaded(out: &mut [u8], at: usize, rows: &[u8], from: usize, after: &[u8],
 fn put_carried(out: &mut [u8], at: usize, rows: &[u8], before: &[u8], after: &[u8], t: u8) -> usize
     requires { ⌜ at + 45 ≤ 2 ^ 62 ⌝ }
     ensures { λ r. ⌜ (r ≤ at + 45)
-        × Puts (now (out .entry)) at (carriedText (now (rows .entry)) (now (before .entry)) (now (after .entry)) t)
-        (now (out .exit)) r ⌝ }
+        × Puts (now (out .entry)) at
+        (carriedText (nextInstr (now (rows .entry)) (fieldsIn (now (before .entry))) t)
+        (fieldsIn (now (after .entry))) t) (now (out .exit)) r ⌝ }
 {
-    let from = next_row(rows, before, t);
-    let row = row_at(rows, from);
+    let row = row_at(rows, next_row(rows, before, t));
     let i = put_instr(
         out,
         at,
@@ -48,7 +49,7 @@ fn put_carried(out: &mut [u8], at: usize, rows: &[u8], before: &[u8], after: &[u
         row.b as u32,
         row.word,
     );
-    put_loaded(out, i, rows, from, after, t)
+    put_loaded(out, i, row, after, t)
 }
 
 // What was carried out, or which entry was committed.
@@ -63,8 +64,9 @@ fn put_done(
 ) -> usize
     requires { ⌜ at + 51 ≤ 2 ^ 62 ⌝ }
     ensures { λ r. ⌜ (r ≤ at + 51)
-        × Puts (now (out .entry)) at (doneText (now (rows .entry)) (now (before .entry)) (now (after .entry)) t c)
-        (now (out .exit)) r ⌝ }
+        × Puts (now (out .entry)) at
+        (doneText (nextInstr (now (rows .entry)) (fieldsIn (now (before .entry))) t)
+        (fieldsIn (now (before .entry))) (fieldsIn (now (after .entry))) t c) (now (out .exit)) r ⌝ }
 {
     let i = put_text(out, at, b" done ");
     if c == 0 {
@@ -88,9 +90,8 @@ fn put_outcome(
     requires { ⌜ at + 51 ≤ 2 ^ 62 ⌝ }
     ensures { λ r. ⌜ (r ≤ at + 51)
         × Puts (now (out .entry)) at
-        (cond (hasWaited (now (before .entry)) (now (after .entry))) waitedWord
-        (doneText (now (rows .entry)) (now (before .entry)) (now (after .entry)) t c))
-        (now (out .exit)) r ⌝ }
+        (outcomeText (nextInstr (now (rows .entry)) (fieldsIn (now (before .entry))) t)
+        (fieldsIn (now (before .entry))) (fieldsIn (now (after .entry))) t c) (now (out .exit)) r ⌝ }
 {
     if quad_at(before, 8) == quad_at(after, 8) {
         return put_text(out, at, b" waited");

@@ -3,7 +3,9 @@ ghost use mathlib.Core.Path.{_≡_};
 ghost use Prim.Native.Nat.{_<_, _^_};
 ghost use lib.ListN.{getD};
 ghost use Rattle.sheet_rows.specs.Rows.{partsIn};
-ghost use Rattle.text_run.specs.Places.{laneFrom, registerIn, entryFrom, nextRow};
+ghost use Rattle.machine_record.specs.Places.{laneFrom, entryFrom};
+ghost use Rattle.machine_record.specs.Fields.{fieldsIn};
+ghost use Rattle.text_run.specs.Places.{nextRow};
 use sheet_rows::parts::parts_of;
 use sheet_rows::read::quad_at;
 use sheet_rows::read::word_at;
@@ -25,7 +27,7 @@ pub fn entry_from(t: u8, i: usize) -> usize
 
 // Its register n.
 pub fn register_at(s: &[u8], t: u8, n: u8) -> u32
-    ensures { λ r. ⌜ r ≡ registerIn (now (s .entry)) t n ⌝ }
+    ensures { λ r. ⌜ r ≡ fieldsIn (now (s .entry)) .register t n ⌝ }
 {
     quad_at(s, lane_from(t) + 4 + 4 * (n as usize))
 }
@@ -42,7 +44,7 @@ fn first_row(rows: &[u8], t: u8) -> usize
 
 // The byte at which its next instruction begins.
 pub fn next_row(rows: &[u8], before: &[u8], t: u8) -> usize
-    ensures { λ r. ⌜ (r ≡ nextRow (now (rows .entry)) (now (before .entry)) t) × (r < 2 ^ 32) ⌝ }
+    ensures { λ r. ⌜ (r ≡ nextRow (now (rows .entry)) (fieldsIn (now (before .entry))) t) × (r < 2 ^ 32) ⌝ }
 {
     first_row(rows, t) + 8 * (word_at(before, lane_from(t)) as usize)
 }

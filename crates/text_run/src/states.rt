@@ -1,36 +1,21 @@
 // The state at the end of a run.
-ghost use Prim.Native.Nat.{_+_, _*_, _≤_, _<_, _^_};
+ghost use Prim.Native.Nat.{_+_, _≤_, _^_};
 ghost use mathlib.Core.List.{_++_};
 ghost use Rattle.file_format.specs.Fields.{byte};
 ghost use Rattle.sheet_format.specs.Put.{Puts};
-ghost use Rattle.text_run.specs.Lanes.{spaced};
+ghost use Rattle.machine_record.specs.Fields.{fieldsIn};
 ghost use Rattle.text_run.specs.States.{countsLine, finishedLine, memoryLine, locksLine, stateText};
 use crate::lane::put_lane;
-use crate::lane::put_quads;
+use crate::numbers::put_numbers_line;
 use sheet_rows::read::byte_at;
 use sheet_rows::read::quad_at;
 use text_put::put::put;
 use text_put::put::put_text;
 use text_put::words::put_one;
 
-// n bytes from `base` on, each behind a space.
-fn put_bytes(out: &mut [u8], start: usize, s: &[u8], base: usize, n: u8) -> usize
-    requires { ⌜ (start + 11 * n ≤ 2 ^ 62) × (base < 2 ^ 32) ⌝ }
-    ensures { λ r. ⌜ (r ≤ start + 11 * n)
-        × Puts (now (out .entry)) start (spaced (λ i. byte (now (s .entry)) (base + i)) n) (now (out .exit)) r ⌝ }
-{
-    let mut at = start;
-    let mut i: u8 = 0;
-    while i < n {
-        at = put_one(out, at, b" ", byte_at(s, base + (i as usize)) as u32);
-        i += 1;
-    }
-    at
-}
-
 // How many moves were done, and how many waited.
 fn put_counts(out: &mut [u8], s: &[u8]) -> usize
-    ensures { λ r. ⌜ (r ≤ 34) × Puts (now (out .entry)) 0 (countsLine (now (s .entry))) (now (out .exit)) r ⌝ }
+    ensures { λ r. ⌜ (r ≤ 34) × Puts (now (out .entry)) 0 (countsLine (fieldsIn (now (s .entry)))) (now (out .exit)) r ⌝ }
 {
     let i = put_one(out, 0, b"done ", quad_at(s, 8));
     let j = put_one(out, i, b" waited ", quad_at(s, 16));
@@ -39,7 +24,7 @@ fn put_counts(out: &mut [u8], s: &[u8]) -> usize
 
 fn put_finished(out: &mut [u8], at: usize, s: &[u8]) -> usize
     requires { ⌜ at + 13 ≤ 2 ^ 62 ⌝ }
-    ensures { λ r. ⌜ (r ≤ at + 13) × Puts (now (out .entry)) at (finishedLine (now (s .entry))) (now (out .exit)) r ⌝ }
+    ensures { λ r. ⌜ (r ≤ at + 13) × Puts (now (out .entry)) at (finishedLine (fieldsIn (now (s .entry)))) (now (out .exit)) r ⌝ }
 {
     if byte_at(s, 0) == 1 {
         let i = put_text(out, at, b"finished yes");
@@ -49,39 +34,19 @@ fn put_finished(out: &mut [u8], at: usize, s: &[u8]) -> usize
     put(out, i, b'\n')
 }
 
-fn put_memory(out: &mut [u8], at: usize, s: &[u8], locations: u8) -> usize
-    requires { ⌜ at + 2812 ≤ 2 ^ 62 ⌝ }
-    ensures { λ r. ⌜ (r ≤ at + 2812)
-        × Puts (now (out .entry)) at (memoryLine (now (s .entry)) locations) (now (out .exit)) r ⌝ }
-{
-    let i = put_text(out, at, b"memory");
-    let j = put_quads(out, i, s, 24, locations);
-    put(out, j, b'\n')
-}
-
-fn put_locks(out: &mut [u8], at: usize, s: &[u8], locks: u8) -> usize
-    requires { ⌜ at + 2811 ≤ 2 ^ 62 ⌝ }
-    ensures { λ r. ⌜ (r ≤ at + 2811)
-        × Puts (now (out .entry)) at (locksLine (now (s .entry)) locks) (now (out .exit)) r ⌝ }
-{
-    let i = put_text(out, at, b"locks");
-    let j = put_bytes(out, i, s, 4, locks);
-    put(out, j, b'\n')
-}
-
 // What comes before the lanes; the rows tell how many locations and locks there are.
 fn put_head(out: &mut [u8], s: &[u8], rows: &[u8]) -> usize
     ensures { λ r. ⌜ (r ≤ 5670)
         × Puts (now (out .entry)) 0
-        (countsLine (now (s .entry)) ++ finishedLine (now (s .entry))
-        ++ memoryLine (now (s .entry)) (byte (now (rows .entry)) 1)
-        ++ locksLine (now (s .entry)) (byte (now (rows .entry)) 2))
+        (countsLine (fieldsIn (now (s .entry))) ++ finishedLine (fieldsIn (now (s .entry)))
+        ++ memoryLine (fieldsIn (now (s .entry))) (byte (now (rows .entry)) 1)
+        ++ locksLine (fieldsIn (now (s .entry))) (byte (now (rows .entry)) 2))
         (now (out .exit)) r ⌝ }
 {
     let i = put_counts(out, s);
     let j = put_finished(out, i, s);
-    let k = put_memory(out, j, s, byte_at(rows, 1));
-    put_locks(out, k, s, byte_at(rows, 2))
+    let k = put_numbers_line(out, j, b"memory", s, 24, true, byte_at(rows, 1));
+    put_numbers_line(out, k, b"locks", s, 4, false, byte_at(rows, 2))
 }
 
 // The text of a state record, as far as the buffer reaches; the rows tell how many lanes there are, too.

@@ -1,4 +1,4 @@
--- Laws of texts by what a test finds: one of two, and that of an entry.
+-- Laws of what a test finds: one of two, and the text of an entry.
 use Prim.Native.Nat.{ℕ, _+_}
 use mathlib.Core.Path.{_≡_, refl}
 use mathlib.Core.Bool.{Bool, true, false, cond}
@@ -7,19 +7,20 @@ use borrow.Author.Tests.{eq-eqb, ne-eqb}
 use Rattle.file_format.specs.Fields.{byte, quad}
 use Rattle.text_put.specs.Words.{named}
 use Rattle.text_run.specs.Words.{locationWord, valueWord, releaseWord}
-use Rattle.text_run.specs.Places.{entryText}
+use Rattle.machine_record.specs.Fields.{entryIn}
+use Rattle.text_run.specs.Lanes.{entryText}
 
--- one of two texts, by a test
-pub first-text : {t : Bool} (x y : List ℕ) → t ≡ true → x ≡ cond t x y
-first-text x y e = rw e refl
+-- one of two, by a test
+pub first-of : {A : Type 0} {t : Bool} (x y : A) → t ≡ true → x ≡ cond t x y
+first-of x y e = rw e refl
 
-pub second-text : {t : Bool} (x y : List ℕ) → t ≡ false → y ≡ cond t x y
-second-text x y e = rw e refl
+pub second-of : {A : Type 0} {t : Bool} (x y : A) → t ≡ false → y ≡ cond t x y
+second-of x y e = rw e refl
 
 module _ (s : List ℕ) (from : ℕ) {place : ℕ} (p : place ≡ byte s (from + 1)) where
   pub entry-store : {value : ℕ} → byte s from ≡ 1 → value ≡ quad s (from + 4)
-      → named locationWord place ++ named valueWord value ≡ entryText s from
+      → named locationWord place ++ named valueWord value ≡ entryText (entryIn s from)
   entry-store e v = rw (eq-eqb (byte s from) 1 e, p, v) refl
 
-  pub entry-release : (byte s from ≡ 1 → ⊥) → named releaseWord place ≡ entryText s from
+  pub entry-release : (byte s from ≡ 1 → ⊥) → named releaseWord place ≡ entryText (entryIn s from)
   entry-release e = rw (ne-eqb (byte s from) 1 e, p) refl

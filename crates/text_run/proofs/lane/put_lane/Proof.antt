@@ -6,6 +6,7 @@ use Rattle.file_format.specs.Fields.{word}
 use Rattle.sheet_format.specs.Put.{Puts, inTurn}
 use Rattle.sheet_format.proofs.Laws.Put.{puts-as, puts-on, puts-length}
 use Rattle.sheet_format.proofs.Laws.Turn.{turn-none, turn-on}
+use Rattle.machine_record.specs.Fields.{fieldsIn}
 use Rattle.text_run.specs.Lanes.{pendingLine, laneText}
 use borrow.Author.Needs.{needs}
 use Rattle.text_run.proofs.lane.put_lane.Statement.{statement}
@@ -13,7 +14,7 @@ use Rattle.text_run.proofs.lane.put_lane.Tie as tie
 
 abbrev Inv-loop : tie.InvT-loop
 Inv-loop out₀ start s t count at₀ i₀ out at i =
-    (i ≤ count) × (at ≤ at₀ + 61 * i) × Puts out₀ at₀ (inTurn (pendingLine s t) i) out at
+    (i ≤ count) × (at ≤ at₀ + 61 * i) × Puts out₀ at₀ (inTurn (pendingLine (fieldsIn s) t) i) out at
 
 abbrev μ-loop : tie.MeasureT-loop
 μ-loop out₀ start s t count at₀ i₀ out at i = count - i
@@ -66,7 +67,7 @@ loop-again c =
     let c14 = c5 .before .before .before .before .before .before .before .before .before in (
       omega (arith, c4 .loop-test .taken),
       omega (arith, c2 .put-pending .ensures .0, c5 .loop .inv .1),
-      turn-on (pendingLine (c14 .args .s .now) (c14 .args .t)) (c5 .loop .i) (c5 .loop .inv .2)
+      turn-on (pendingLine (fieldsIn (c14 .args .s .now)) (c14 .args .t)) (c5 .loop .i) (c5 .loop .inv .2)
           (c2 .put-pending .ensures .1),
     )
 
@@ -88,7 +89,7 @@ returns c =
     let last = all ∙ c6 .word-at .ensures .0 ∙ ap (λ k. word s (k + 2)) (c7 .lane-from .ensures .0) in (
       omega (arith, c4 .put-lane-line .ensures .0, c1 .loop .inv .1, all, c6 .word-at .ensures .1),
       puts-on (c4 .put-lane-line .ensures .1)
-          (puts-as (ap (inTurn (pendingLine s (c10 .args .t))) last) (c1 .loop .inv .2)),
+          (puts-as (ap (inTurn (pendingLine (fieldsIn s) (c10 .args .t))) last) (c1 .loop .inv .2)),
     )
 
 pub put-lane-spec : {M : Type 1} → statement M

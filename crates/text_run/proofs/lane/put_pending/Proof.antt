@@ -2,7 +2,8 @@
 use mathlib.Core.Path.{ap}
 use native.Mathlib.Omega.{arith}
 use Rattle.sheet_format.proofs.Laws.Put.{puts-as, puts-on}
-use Rattle.text_run.specs.Places.{entryText}
+use Rattle.machine_record.specs.Fields.{entryIn}
+use Rattle.text_run.specs.Lanes.{entryText}
 use borrow.Author.Needs.{needs}
 use Rattle.text_run.proofs.lane.put_pending.Statement.{statement}
 use Rattle.text_run.proofs.lane.put_pending.Tie as tie
@@ -39,7 +40,7 @@ returns c =
     let c11 = c8 .before .before .before in
     let c16 = c11 .before .before .before .before .before in
     let c21 = c16 .before .before .before .before .before in
-    let entry = ap (entryText (c21 .args .s .now)) (c8 .entry-from .ensures .0) in (
+    let entry = ap (λ k. entryText (entryIn (c21 .args .s .now) k)) (c8 .entry-from .ensures .0) in (
       omega (
         arith,
         c16 .put-one .ensures .0,

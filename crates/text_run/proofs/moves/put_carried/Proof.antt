@@ -2,6 +2,7 @@
 use native.Mathlib.Omega.{arith}
 use Rattle.sheet_format.proofs.Laws.Put.{puts-as, puts-on}
 use Rattle.text_listing.proofs.Laws.Line.{instr-few}
+use Rattle.machine_record.specs.Fields.{fieldsIn}
 use Rattle.text_run.proofs.Laws.Moves.{carried-row}
 use borrow.Author.Needs.{needs}
 use Rattle.text_run.proofs.moves.put_carried.Statement.{statement}
@@ -30,12 +31,11 @@ put-loaded-requires c κs =
     let c3 = c .before .before .before in
     let c4 = c3 .before in
     let c8 = c4 .before .before .before .before in
-    let c9 = c8 .before in
-    let c14 = c9 .before .before .before .before .before in
+    let c14 = c8 .before .before .before .before .before .before in
     let w = c8 .row-at .result in
     let k = c4 .struct-known3 .given in
     let few = instr-few (w .code) (w .a) (w .b) (w .word) (omega (arith, k)) (omega (arith, k)) (omega (arith, k)) in
-    (omega (arith, few, c3 .put-instr .ensures .behind, c14 .pre), c9 .next-row .ensures .1)
+    omega (arith, few, c3 .put-instr .ensures .behind, c14 .pre)
 
 same-length : tie.Need-same-length
 same-length c = search needs
@@ -52,7 +52,7 @@ returns c =
     let k = c7 .struct-known3 .given in
     let few = instr-few (w .code) (w .a) (w .b) (w .word) (omega (arith, k)) (omega (arith, k)) (omega (arith, k)) in
     let text =
-    carried-row (c17 .args .rows .now) (c17 .args .before .now) (c17 .args .after .now) (c17 .args .t)
+    carried-row (c17 .args .rows .now) (fieldsIn (c17 .args .before .now)) (fieldsIn (c17 .args .after .now)) (c17 .args .t)
     (c12 .next-row .ensures .0) (c11 .row-at .ensures) in (
       omega (arith, few, c6 .put-instr .ensures .behind, c2 .put-loaded .ensures .0),
       puts-as text (puts-on (c6 .put-instr .ensures) (c2 .put-loaded .ensures .1)),

@@ -3,8 +3,9 @@ use mathlib.Core.Path.{ap}
 use native.Mathlib.Omega.{arith}
 use borrow.Author.Tests.{eq-eqb, ne-eqb}
 use Rattle.sheet_format.proofs.Laws.Put.{puts-as, puts-on}
-use Rattle.text_run.specs.Places.{entryText}
-use Rattle.text_run.proofs.Laws.Entry.{first-text, second-text}
+use Rattle.machine_record.specs.Fields.{entryIn}
+use Rattle.text_run.specs.Lanes.{entryText}
+use Rattle.text_run.proofs.Laws.Entry.{first-of, second-of}
 use borrow.Author.Needs.{needs}
 use Rattle.text_run.proofs.moves.put_done.Statement.{statement}
 use Rattle.text_run.proofs.moves.put_done.Tie as tie
@@ -26,7 +27,7 @@ returns c =
     let c2 = c .before .before in
     let c4 = c2 .before .before in
     let c7 = c4 .before .before .before in
-    let text = first-text _ _ (eq-eqb _ _ (c4 .if1 .taken)) in (
+    let text = first-of _ _ (eq-eqb _ _ (c4 .if1 .taken)) in (
       omega (arith, c7 .put-text .ensures .behind, c2 .put-carried .ensures .0),
       puts-on (c7 .put-text .ensures) (puts-as text (c2 .put-carried .ensures .1)),
     )
@@ -60,8 +61,8 @@ returns-2 c =
     let c10 = c7 .before .before .before in
     let c13 = c10 .before .before .before in
     let c20 = c13 .before .before .before .before .before .before .before in
-    let entry = ap (entryText (c20 .args .before .now)) (c4 .entry-from .ensures .0) in
-    let text = second-text _ _ (ne-eqb _ _ (c10 .if1 .left)) in (
+    let entry = ap (λ k. entryText (entryIn (c20 .args .before .now) k)) (c4 .entry-from .ensures .0) in
+    let text = second-of _ _ (ne-eqb _ _ (c10 .if1 .left)) in (
       omega (arith, c13 .put-text .ensures .behind, c7 .put-text2 .ensures .behind, c2 .put-entry .ensures .0),
       puts-on (c13 .put-text .ensures)
           (puts-as text (puts-on (c7 .put-text2 .ensures) (puts-as entry (c2 .put-entry .ensures .1)))),

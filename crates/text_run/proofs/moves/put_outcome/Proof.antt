@@ -3,7 +3,7 @@ use mathlib.Core.Path.{sym, _∙_}
 use native.Mathlib.Omega.{arith}
 use borrow.Author.Tests.{eq-eqb, ne-eqb}
 use Rattle.sheet_format.proofs.Laws.Put.{puts-as}
-use Rattle.text_run.proofs.Laws.Entry.{first-text, second-text}
+use Rattle.text_run.proofs.Laws.Entry.{first-of, second-of}
 use borrow.Author.Needs.{needs}
 use Rattle.text_run.proofs.moves.put_outcome.Statement.{statement}
 use Rattle.text_run.proofs.moves.put_outcome.Tie as tie
@@ -30,7 +30,7 @@ returns c =
     let c6 = c5 .before in
     let c7 = c6 .before in
     let same = sym (c7 .quad-at .ensures) ∙ c5 .if1 .taken ∙ c6 .quad-at2 .ensures in
-    (omega (arith, c2 .put-text .ensures .behind), puts-as (first-text _ _ (eq-eqb _ _ same)) (c2 .put-text .ensures))
+    (omega (arith, c2 .put-text .ensures .behind), puts-as (first-of _ _ (eq-eqb _ _ same)) (c2 .put-text .ensures))
 
 put-done-requires : tie.Need-put-done-requires
 put-done-requires c κs = search needs
@@ -45,7 +45,7 @@ returns-2 c =
     let c5 = c4 .before in
     let c6 = c5 .before in
     let other = ne-eqb _ _ (λ e. c4 .if1 .left (c6 .quad-at .ensures ∙ e ∙ sym (c5 .quad-at2 .ensures))) in
-    (c2 .put-done .ensures .0, puts-as (second-text _ _ other) (c2 .put-done .ensures .1))
+    (c2 .put-done .ensures .0, puts-as (second-of _ _ other) (c2 .put-done .ensures .1))
 
 pub put-outcome-spec : {M : Type 1} → statement M
 put-outcome-spec =

@@ -2,7 +2,7 @@
 use native.Mathlib.Omega.{arith}
 use Rattle.text_put.proofs.Laws.Decimal.{decimal-few}
 use Rattle.sheet_format.proofs.Laws.Put.{puts-on}
-use Rattle.text_run.specs.Moves.{moveLine}
+use Rattle.text_run.specs.Moves.{lineBy}
 use borrow.Author.Needs.{needs}
 use Rattle.text_run.proofs.moves.tell_move.Statement.{statement}
 use Rattle.text_run.proofs.moves.tell_move.Tie as tie
@@ -63,7 +63,7 @@ same-length : tie.Need-same-length
 same-length c = search needs
 
 returns : tie.Need-returns
-unfolding moveLine
+unfolding lineBy
 returns c =
     let c2 = c .before .before in
     let c6 = c2 .before .before .before .before in

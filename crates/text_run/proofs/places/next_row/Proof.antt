@@ -2,7 +2,7 @@
 use mathlib.Core.Path.{_≡_, ap, _∙_}
 use native.Mathlib.Omega.{arith}
 use Rattle.file_format.specs.Fields.{word}
-use Rattle.text_run.specs.Places.{positionIn}
+use Rattle.machine_record.specs.Fields.{fieldsIn}
 use borrow.Author.Needs.{needs}
 use Rattle.text_run.proofs.places.next_row.Statement.{statement}
 use Rattle.text_run.proofs.places.next_row.Tie as tie
@@ -29,7 +29,7 @@ returns : tie.Need-returns
 returns c =
     let c2 = c .before .before in
     let c5 = c2 .before .before .before in
-    let e : c .word-at .result ≡ positionIn (c5 .args .before .now) (c5 .args .t) =
+    let e : c .word-at .result ≡ fieldsIn (c5 .args .before .now) .position (c5 .args .t) =
     c .word-at .ensures .0 ∙ ap (word (c5 .args .before .now)) (c .before .lane-from .ensures .0) in
     (omega (arith, e, c2 .first-row .ensures .0), omega (arith, c2 .first-row .ensures .1, c .word-at .ensures .1))
 

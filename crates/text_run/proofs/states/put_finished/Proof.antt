@@ -3,7 +3,7 @@ use mathlib.Core.Path.{sym, _∙_}
 use native.Mathlib.Omega.{arith}
 use borrow.Author.Tests.{eq-eqb, ne-eqb}
 use Rattle.sheet_format.proofs.Laws.Put.{puts-as, puts-on}
-use Rattle.text_run.proofs.Laws.Entry.{first-text, second-text}
+use Rattle.text_run.proofs.Laws.Entry.{first-of, second-of}
 use borrow.Author.Needs.{needs}
 use Rattle.text_run.proofs.states.put_finished.Statement.{statement}
 use Rattle.text_run.proofs.states.put_finished.Tie as tie
@@ -29,7 +29,7 @@ returns c =
     let c6 = c2 .before .before .before .before in
     let c9 = c6 .before .before .before in
     let c10 = c9 .before in
-    let text = first-text _ _ (eq-eqb _ _ (sym (c10 .byte-at .ensures) ∙ c9 .if1 .taken)) in (
+    let text = first-of _ _ (eq-eqb _ _ (sym (c10 .byte-at .ensures) ∙ c9 .if1 .taken)) in (
       omega (arith, c6 .put-text .ensures .behind, c2 .put .ensures .behind),
       puts-on (puts-as text (c6 .put-text .ensures)) (c2 .put .ensures),
     )
@@ -52,7 +52,7 @@ returns-2 c =
     let c6 = c2 .before .before .before .before in
     let c9 = c6 .before .before .before in
     let c10 = c9 .before in
-    let text = second-text _ _ (ne-eqb _ _ (λ e. c9 .if1 .left (c10 .byte-at .ensures ∙ e))) in (
+    let text = second-of _ _ (ne-eqb _ _ (λ e. c9 .if1 .left (c10 .byte-at .ensures ∙ e))) in (
       omega (arith, c6 .put-text2 .ensures .behind, c2 .put2 .ensures .behind),
       puts-on (puts-as text (c6 .put-text2 .ensures)) (c2 .put2 .ensures),
     )

@@ -5,15 +5,16 @@ use native.Mathlib.Omega.{arith}
 use Rattle.sheet_format.specs.Put.{Puts, inTurn}
 use Rattle.sheet_format.proofs.Laws.Put.{puts-as, puts-on, puts-length}
 use Rattle.sheet_format.proofs.Laws.Turn.{turn-none, turn-on}
+use Rattle.machine_record.specs.Fields.{fieldsIn}
 use Rattle.text_run.specs.Lanes.{laneText}
-use Rattle.text_run.specs.States.{stateText}
+use Rattle.text_run.specs.States.{textBy}
 use borrow.Author.Needs.{needs}
 use Rattle.text_run.proofs.states.tell_state.Statement.{statement}
 use Rattle.text_run.proofs.states.tell_state.Tie as tie
 
 abbrev Inv-loop : tie.InvT-loop
 Inv-loop out₀ «record» rows lanes at₀ t₀ out at t =
-    (t ≤ lanes) × (at ≤ at₀ + 2 ^ 22 * t) × Puts out₀ at₀ (inTurn (laneText «record») t) out at
+    (t ≤ lanes) × (at ≤ at₀ + 2 ^ 22 * t) × Puts out₀ at₀ (inTurn (laneText (fieldsIn «record»)) t) out at
 
 abbrev μ-loop : tie.MeasureT-loop
 μ-loop out₀ «record» rows lanes at₀ t₀ out at t = lanes - t
@@ -51,7 +52,7 @@ loop-again c =
     let c14 = c5 .before .before .before .before .before .before .before .before .before in (
       omega (arith, c4 .loop-test .taken),
       omega (arith, c2 .put-lane .ensures .0, c5 .loop .inv .1),
-      turn-on (laneText (c14 .args .«record» .now)) (c5 .loop .t) (c5 .loop .inv .2) (c2 .put-lane .ensures .1),
+      turn-on (laneText (fieldsIn (c14 .args .«record» .now))) (c5 .loop .t) (c5 .loop .inv .2) (c2 .put-lane .ensures .1),
     )
 
 same-length : tie.Need-same-length Inv-loop μ-loop
@@ -60,7 +61,7 @@ same-length c =
     puts-length (c .before .loop .inv .2) ∙ puts-length (c4 .put-head .ensures .1)
 
 returns : tie.Need-returns Inv-loop μ-loop
-unfolding stateText
+unfolding textBy
 returns c =
     let c1 = c .before in
     let c4 = c1 .before .before .before in
@@ -68,7 +69,7 @@ returns c =
     let c10 = c6 .before .before .before .before in
     let all : c1 .loop .t ≡ c6 .byte-at .result = omega (arith, c .loop-test .left) in
     puts-on (c4 .put-head .ensures .1)
-    (puts-as (ap (inTurn (laneText (c10 .args .«record» .now))) (all ∙ c6 .byte-at .ensures)) (c1 .loop .inv .2))
+    (puts-as (ap (inTurn (laneText (fieldsIn (c10 .args .«record» .now)))) (all ∙ c6 .byte-at .ensures)) (c1 .loop .inv .2))
 
 pub tell-state-spec : {M : Type 1} → statement M
 tell-state-spec =
