@@ -2,7 +2,7 @@
 ghost use mathlib.Core.List.{List, []};
 ghost use Prim.Native.Nat.{ℕ};
 ghost use Rattle.machine_state.specs.declared.rules.Machine.{Machine};
-ghost use Rattle.machine_course.specs.Stands.{Stands, Judged};
+ghost use Rattle.machine_course.specs.Stands.{Stands};
 ghost use Rattle.machine_course.specs.Returned.{movesOf};
 ghost use Rattle.machine_moves.specs.Turns.{Fresh};
 use machine_course::course::Course;

@@ -1,8 +1,8 @@
 -- Laws of what a run returns: the state, and whether it is finished.
 use Prim.Native.Nat.{ℕ, _≤_}
-use mathlib.Core.Path.{_≡_, refl, sym, ap, ap₂, subst, _∙_}
+use mathlib.Core.Path.{_≡_, refl, sym, ap, subst, _∙_}
 use mathlib.Core.Bool.{Bool, true, false}
-use mathlib.Core.List.{List, [], _∷_, map}
+use mathlib.Core.List.{List, [], _∷_}
 use native.Mathlib.Omega.{arith}
 use lib.ListN.{length, getD, take, drop}
 use Rattle.file_format.specs.Accepted.{Program}
@@ -15,10 +15,9 @@ use Rattle.machine_spec.specs.State.{Outcome, ran, refused as stopped}
 use Rattle.machine_spec.specs.Run.{Answer, answerOf, startOf, programFor, runOn, runBy}
 use Rattle.machine_spec.specs.View.{finished}
 use Rattle.sheet_rows.proofs.Laws.Read.{rows-length}
-use Rattle.machine_lane.specs.declared.lane.Lane.{Lane as Stored}
 use Rattle.machine_state.specs.declared.rules.Machine.{Machine as Coded}
 use Rattle.machine_state.specs.Machines.{machineIn}
-use Rattle.machine_state.specs.States.{Held, storedIn, countOf, stateIn}
+use Rattle.machine_state.specs.States.{Held, countOf, stateIn}
 use Rattle.machine_run.specs.Counts.{Counts}
 use Rattle.machine_start.proofs.Answered.{not-refused}
 use Rattle.machine_start.proofs.Laws.Programs.{programs-many}

@@ -1,23 +1,21 @@
 -- Laws of one move more on a run so far: a run that is refused, a move that is not legal, one that a lane makes.
-use Prim.Native.Nat.{ℕ, suc, _+_, _-_, _*_, _^_, _≤_, _<_}
+use Prim.Native.Nat.{ℕ, _+_, _-_, _*_, _≤_, _<_}
 use mathlib.Core.Path.{_≡_, refl, sym, ap, ap₂, subst, _∙_}
 use mathlib.Core.Bool.{Bool, true, false, _&&_}
 use mathlib.Core.List.{List, [], _∷_, _++_}
-use mathlib.Core.Logic.{_⊎_, inl, inr}
+use mathlib.Core.Logic.{inl, inr}
 use mathlib.Core.Option.{some}
 use native.Mathlib.Omega.{arith}
 use lib.ListN.{length, getD, getElem?, take, drop, replicate, length-append}
 use lib.Seq.{take-at, take-all}
-use Rattle.file_format.proofs.Laws.Lists.{at-some}
 use Rattle.file_format.specs.Accepted.{Program}
 use Rattle.file_format.specs.Lawful.{Lawful}
 use Rattle.file_verdict.specs.Verdict.{accepted, verdict}
 use Rattle.file_wellformed.proofs.Lawful.{accepted-lawful}
 use Rattle.sheet_format.specs.Layout.{Instr}
 use Rattle.sheet_format.specs.Read.{readRows}
-use Rattle.sheet_format.specs.Levels.{volatileIn}
 use Rattle.machine_spec.specs.Schedule.{Move, move, limit, legal}
-use Rattle.machine_spec.specs.State.{State, startState, Loaded, Run, Outcome, ran, refused, run, begin}
+use Rattle.machine_spec.specs.State.{State, startState, Outcome, ran, refused, run, begin}
 use Rattle.machine_spec.specs.Run.{Answer, refusal, answerOf, startOf, programFor, runOn, runBy}
 use Rattle.machine_state.specs.declared.rules.Machine.{Machine as Coded}
 use Rattle.machine_state.specs.Machines.{machineIn}
@@ -25,10 +23,9 @@ use Rattle.machine_lane.specs.Lanes.{flags}
 use Rattle.machine_state.specs.declared.state.Moved.{Moved}
 use Rattle.machine_state.specs.declared.state.Moved.the-variants.{Waited, Done, ReleaseNotHeld}
 use Rattle.machine_state.specs.Ready.{Movable}
-use Rattle.machine_state.specs.States.{Held, laneOf, countOf, stateIn, Sized}
+use Rattle.machine_state.specs.States.{Held, stateIn}
 use Rattle.machine_step.specs.Turns.{turns, Took}
-use Rattle.machine_run.specs.declared.run.Ended.{Ended}
-use Rattle.machine_run.specs.declared.run.Ended.the-variants.{Ran, Refused}
+use Rattle.machine_run.specs.declared.run.Ended.the-variants.{Ran}
 use Rattle.machine_run.specs.Runs.{Runs, Ends, course}
 use Rattle.machine_run.proofs.Laws.Runs.{Counted, lane-moves, inside, run-refused, run-counted}
 use Rattle.machine_start.proofs.Answered.{not-refused}

@@ -1,6 +1,6 @@
 -- Laws of schedules with one move more: whether they are legal, and what the definition answers to one that is not.
-use Prim.Native.Nat.{ℕ, _≤_, _<_}
-use mathlib.Core.Path.{_≡_, refl, sym, ap, ap₂, _∙_}
+use Prim.Native.Nat.{ℕ, _<_}
+use mathlib.Core.Path.{_≡_, refl, sym, ap, _∙_}
 use mathlib.Core.Bool.{Bool, true, false, _&&_}
 use mathlib.Core.List.{List, [], _∷_, _++_}
 use native.Mathlib.Omega.{arith}
@@ -14,7 +14,7 @@ use Rattle.file_verdict.specs.declared.refusal.Refusal.the-variants.{LockFault}
 use Rattle.file_verdict.specs.Verdict.{Verdict, refused, accepted, verdict, verdictFrom, refusalOf}
 use Rattle.file_format.specs.Accepted.{programOf}
 use Rattle.machine_spec.specs.Schedule.{Move, limit, legal}
-use Rattle.machine_spec.specs.Run.{Answer, runBy}
+use Rattle.machine_spec.specs.Run.{runBy}
 use Rattle.machine_state.specs.declared.rules.Machine.{Machine as Coded}
 use Rattle.machine_state.specs.Machines.{machineIn}
 use Rattle.machine_start.proofs.Laws.Files.{ran-number}

@@ -1,10 +1,10 @@
 -- Laws of sizes: the first words of a row, and the state of every answer, which fits what is returned and written.
 use Prim.Native.Nat.{ℕ, zero, suc, _+_, _≤_, _<_}
-use mathlib.Core.Path.{_≡_, refl, sym, ap, ap₂, subst, _∙_}
+use mathlib.Core.Path.{_≡_, refl, sym, ap, subst, _∙_}
 use mathlib.Core.Bool.{Bool, true, false}
 use mathlib.Core.List.{List, [], _∷_}
 use native.Mathlib.Omega.{arith}
-use borrow.Author.Tests.{ltb-true, ltb-false}
+use borrow.Author.Tests.{ltb-false}
 use lib.Dec.{ltb}
 use lib.ListN.{length, getD, take, drop, replicate, length-replicate}
 use lib.Seq.{drop-cons}
@@ -16,11 +16,10 @@ use Rattle.file_verdict.specs.Verdict.{Verdict, refused, accepted, verdict}
 use Rattle.file_wellformed.proofs.Lawful.{accepted-lawful}
 use Rattle.machine_spec.specs.Schedule.{Move, limit, legal}
 use Rattle.machine_spec.specs.Shape.{AllSmall}
-use Rattle.machine_spec.specs.State.{State, Lane, Outcome, ran, refused as stopped, startState, laneAt, idle}
-use Rattle.machine_spec.specs.Run.{Answer, answerOf, startOf, programFor, runOn, runBy, runProgram, refusedStart}
+use Rattle.machine_spec.specs.State.{State, Outcome, ran, refused as stopped, startState, laneAt}
+use Rattle.machine_spec.specs.Run.{answerOf, startOf, programFor, runOn, runBy, runProgram, refusedStart}
 use Rattle.machine_state.specs.declared.rules.Machine.{Machine as Coded}
 use Rattle.machine_state.specs.Machines.{machineIn}
-use Rattle.machine_record.specs.SmallStates.{Small}
 use Rattle.machine_start.proofs.Answered.{not-refused, shape}
 use Rattle.machine_start.proofs.Laws.Runs.{shaped-small}
 use Rattle.machine_state.specs.States.{Held, stateIn}

@@ -1,17 +1,17 @@
 -- Laws of the start: what is written over the store, and the header of a refused file.
 use Prim.Native.Nat.{ℕ, _≤_, _<_}
-use mathlib.Core.Path.{_≡_, refl, sym, ap, subst, _∙_}
+use mathlib.Core.Path.{_≡_, refl, sym, subst, _∙_}
 use mathlib.Core.Bool.{Bool, true, false}
 use mathlib.Core.List.{List, [], _∷_}
 use native.Mathlib.Omega.{arith}
 use borrow.Author.Tests.{lt-ltb, le-ltb}
 use lib.Dec.{ltb}
-use lib.ListN.{length, getD, set, replicate}
+use lib.ListN.{length, getD, set}
 use Rattle.file_format.specs.Fields.{laneCount, locations, locks}
 use Rattle.file_format.specs.Rules.{headerRule}
 use Rattle.file_format.proofs.Laws.Rules.{four-lanes, few-locations, few-locks}
 use Rattle.file_verdict.specs.Verdict.{refused, verdict, refusalOf, structureThen}
-use Rattle.machine_state.specs.States.{Held, stateIn, Sized}
+use Rattle.machine_state.specs.States.{Held}
 use Rattle.machine_start.proofs.Laws.Start.{zeroed, zeroed-sized, zeroed-state}
 use Rattle.machine_course.specs.Stands.{Started, RefusedStart}
 
