@@ -58,7 +58,8 @@ module _ (vol : ℕ → Bool) where
 
   -- only a SKIP lands elsewhere than at 0
   pub landing-by : (o : Op)
-      → landing (stepOf vol o) ≡ cond (eqb (fieldsOf o .code) 7) (cond (leb (fieldsOf o .word) 64) (fieldsOf o .word) 0) 0
+      → landing (stepOf vol o)
+      ≡ cond (eqb (fieldsOf o .code) 7) (cond (leb (fieldsOf o .word) 64) (fieldsOf o .word) 0) 0
   landing-by (Set a c) = refl
   landing-by (Add a b) = refl
   landing-by (Load a x) = refl

@@ -23,7 +23,7 @@ use Rattle.file_format.proofs.Laws.Lists.{some-at, below-four}
 use Rattle.file_format.proofs.Laws.Rules.{four-lanes, head-range, head-none}
 use Rattle.file_format.proofs.Laws.Stored.{opsFrom-length, lane-count}
 use Rattle.file_verdict.specs.Verdict.{verdict, accepted}
-use Rattle.file_format.specs.Structured.{Structured}
+use Rattle.file_format.specs.Structured.{Fielded}
 use Rattle.file_verdict.proofs.Laws.Verdict.{sound, accepted-as}
 use Rattle.sheet_format.specs.Layout.{op}
 use Rattle.sheet_format.specs.Levels.{level1}
@@ -198,9 +198,9 @@ module _ (s : List ℕ) (header : headerRule s ≡ true) where
 -- the same of an accepted file
 module _ (s : List ℕ) (ok : verdict s ≡ accepted (programOf s)) (rows own : List ℕ)
     (front : rows ≡ over (chainBytes (programOf s)) own) (t : ℕ) (below : t < 4) where
-  structure : Structured s
-  structure = sound s (accepted-as s (programOf s) ok .0) .0
+  fields : Fielded s
+  fields = sound s (accepted-as s (programOf s) ok .0) .0 .fields
 
   pub accepted-parts-hold : Holds (drop (getD (partsIn rows .from) t 0) rows) (getD (partsIn rows .count) t 0)
       (opsAt s (head s t))
-  accepted-parts-hold = parts-hold s (structure .fields .header) rows own front (structure .fields .records) t below
+  accepted-parts-hold = parts-hold s (fields .header) rows own front (fields .records) t below

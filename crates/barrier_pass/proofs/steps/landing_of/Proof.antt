@@ -11,13 +11,15 @@ returns c = (λ o vol ec et. rw (landing-by vol o, sym ec, ne-eqb _ _ (c .if1 .t
 
 returns-2 : tie.Need-returns-2
 returns-2 c = (
-  λ o vol ec et. rw (landing-by vol o, sym ec, eq-eqb _ _ (c .before .if1 .left), sym et, le-leb _ _ (c .if2 .taken)) refl,
+  λ o vol ec et.
+      rw (landing-by vol o, sym ec, eq-eqb _ _ (c .before .if1 .left), sym et, le-leb _ _ (c .if2 .taken)) refl,
   omega arith,
 )
 
 returns-3 : tie.Need-returns-3
 returns-3 c = (
-  λ o vol ec et. rw (landing-by vol o, sym ec, eq-eqb _ _ (c .before .if1 .left), sym et, lt-leb _ _ (c .if2 .left)) refl,
+  λ o vol ec et.
+      rw (landing-by vol o, sym ec, eq-eqb _ _ (c .before .if1 .left), sym et, lt-leb _ _ (c .if2 .left)) refl,
   omega arith,
 )
 
