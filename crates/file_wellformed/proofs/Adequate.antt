@@ -2,14 +2,14 @@
 use Prim.Native.Nat.{ℕ, zero, suc, _+_, _-_, _≤_, _<_}
 use mathlib.Core.Path.{_≡_, refl, sym, ap, _∙_}
 use mathlib.Core.List.{List, [], _∷_}
-use mathlib.Core.Bool.{Bool, true, false, not, cond, true≢false, false≢true}
+use mathlib.Core.Bool.{Bool, true, false, not, cond, true≢false}
 use mathlib.Core.Logic.{_⊎_, inl, inr}
 use lib.ListN.{getD, set, length, take, drop, length-set, length-drop, List·getD-eq-default}
 use lib.Seq.{getD-set-other, getD-drop, take-all}
 use lib.Dec.{eqb}
 use native.Mathlib.Omega.{arith}
 use native.Mathlib.Decide.{decLe}
-use borrow.Author.Tests.{eqb-true, eqb-false, not-false}
+use borrow.Author.Tests.{eqb-true, not-false}
 use Rattle.file_format.specs.Fields.{recordCount, head, target, next}
 use Rattle.file_format.specs.Linkage.{chain, walkOf, chainTooLong}
 use Rattle.file_format.specs.Targets.{member, unreachableTarget, badTarget, position}

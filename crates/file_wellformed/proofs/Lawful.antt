@@ -22,7 +22,7 @@ use Rattle.file_format.proofs.Laws.Rules.{few-records, head-range}
 use Rattle.file_format.proofs.Laws.Linkage.{chain-length}
 use Rattle.file_format.proofs.Laws.Lanes.{lane-records, lane-ops}
 use Rattle.file_format.proofs.Laws.Stored.{opsFrom-length, lane-count, lanes-paired, lane-paired}
-use Rattle.file_format.specs.Structured.{Structured}
+use Rattle.file_format.specs.Structured.{Fielded}
 use Rattle.file_verdict.proofs.Laws.Verdict.{sound, accepted-as}
 use Rattle.file_format.proofs.Bounded.{chain-range, lane-bounded}
 use Rattle.file_format.proofs.Disciplined.{keeps, released}
@@ -37,8 +37,8 @@ no-lane ls ks = record {
 }
 
 module _ (s : List ℕ) (e : refusalOf s ≡ Accepted) where
-  structure : Structured s
-  structure = sound s e .0
+  fields : Fielded s
+  fields = sound s e .0 .fields
 
   -- the lane whose first record is h, where it breaks no rule
   lane-lawful : (h : ℕ) → h ≤ recordCount s → laneFault (recordsAt s h) (opsAt s h) ≡ 0
@@ -56,16 +56,16 @@ module _ (s : List ℕ) (e : refusalOf s ≡ Accepted) where
       len = opsFrom-length s 0 (recordsAt s h)
 
       nonzero : (p : ℕ) → p < length (recordsAt s h) → 1 ≤ getD (recordsAt s h) p 0
-      nonzero p l = chain-range s (structure .fields .records) 64 h p hr l .0
+      nonzero p l = chain-range s (fields .records) 64 h p hr l .0
 
       bounds : (p : ℕ) (o : Op) → getElem? (opsAt s h) p ≡ some o
           → Bounded (locations s) (locks s) (length (opsAt s h)) p o
       bounds p o g =
           let x = some-at (opsAt s h) p o (Set 0 0) g in
-          rw (len, ← (x .1)) (lane-bounded s (structure .fields .records) h hr p (Set 0 0) (omega (arith, x .0, len)))
+          rw (len, ← (x .1)) (lane-bounded s (fields .records) h hr p (Set 0 0) (omega (arith, x .0, len)))
 
   few : laneCount s ≤ 4
-  few = four-lanes s (structure .fields .header)
+  few = four-lanes s (fields .header)
 
   -- there is no lane from 4 up
   past : {A : Type 0} (f : ℕ → List A) (t : ℕ) → 4 ≤ t → getD (map f (take (laneCount s) (heads s))) t [] ≡ []
@@ -82,10 +82,10 @@ module _ (s : List ℕ) (e : refusalOf s ≡ Accepted) where
           let named =
           nothing-named (λ t. laneFault (getD (programOf s .records) t []) (getD (programOf s .lanes) t [])) 0 4 t
           (sound s e .1) (omega arith) (omega arith) in
-          let ops-are = lane-ops s (structure .fields .header) t h in
+          let ops-are = lane-ops s (fields .header) t h in
           rw ops-are
-          (lane-lawful (head s t) (head-range s (structure .fields .header) t h)
-          (rw (ops-are, lane-records s (structure .fields .header) t h) at named))
+          (lane-lawful (head s t) (head-range s (fields .header) t h)
+          (rw (ops-are, lane-records s (fields .header) t h) at named))
       go (no h) = rw (past (opsAt s) t (omega arith)) (no-lane (locations s) (locks s))
 
   records-small : (t p : ℕ) → getD (getD (programOf s .records) t []) p 0 ≤ 256
@@ -93,23 +93,23 @@ module _ (s : List ℕ) (e : refusalOf s ≡ Accepted) where
     where
       inside : (h : ℕ) → h ≤ recordCount s → Dec (p < length (recordsAt s h)) → getD (recordsAt s h) p 0 ≤ 256
       inside h hr (yes l) =
-          omega (arith, chain-range s (structure .fields .records) 64 h p hr l .1, few-records s (structure .fields .header))
+          omega (arith, chain-range s (fields .records) 64 h p hr l .1, few-records s (fields .header))
       inside h hr (no l) = omega (arith, List·getD-eq-default (recordsAt s h) 0 {n = p} (omega arith))
 
       go : Dec (t < 4) → getD (getD (programOf s .records) t []) p 0 ≤ 256
       go (yes h) =
-          rw (lane-records s (structure .fields .header) t h)
-          (inside (head s t) (head-range s (structure .fields .header) t h) (decLt p (length (recordsAt s (head s t)))))
+          rw (lane-records s (fields .header) t h)
+          (inside (head s t) (head-range s (fields .header) t h) (decLt p (length (recordsAt s (head s t)))))
       go (no h) = rw (past (recordsAt s) t (omega arith)) (omega arith)
 
   pub lawful : Lawful (programOf s)
   lawful = record {
-    some-lanes = omega (arith, lane-count s few, some-lanes s (structure .fields .header));
+    some-lanes = omega (arith, lane-count s few, some-lanes s (fields .header));
     few-lanes = omega (arith, lane-count s few, few);
-    some-locations = some-locations s (structure .fields .header);
-    few-locations = few-locations s (structure .fields .header);
-    few-locks = few-locks s (structure .fields .header);
-    small-mask = small-mask s (structure .fields .header);
+    some-locations = some-locations s (fields .header);
+    few-locations = few-locations s (fields .header);
+    few-locks = few-locks s (fields .header);
+    small-mask = small-mask s (fields .header);
     same-lanes = sym (lanes-paired s);
     same-length = λ t. sym (lane-paired s t);
     records-small = records-small;

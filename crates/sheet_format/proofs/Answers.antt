@@ -31,6 +31,11 @@ abbrev pub kindOf : Lowered → ℕ
 kindOf (Wrote n) = 0
 kindOf (Refuses n r) = 1
 
+apart : {m n r : ℕ} {x y : List ℕ} → _≡_ {A = Lowered × List ℕ} (Wrote m, x) (Refuses n r, y) → ⊥
+apart p =
+    let clash : _≡_ {A = ℕ} 0 1 = ap (λ (z : Lowered × List ℕ). kindOf (z .0)) p in
+    absurd (omega arith)
+
 -- the file is accepted, and its kernel's bytes stand at the front of the buffer
 pub record BytesIn (bytes : Program → List ℕ) (s own after : List ℕ) : Type 0 where
   pub kernel : Program
@@ -49,35 +54,35 @@ module _ (bytes : Program → List ℕ) (s own : List ℕ) where
     where
       by : (k : Program) (b : Bool) → _≡_ {A = Lowered × List ℕ} (Wrote n, after) (outcome k b)
           → after ≡ over (bytes k) own
-      by k true x =
-          let clash : _≡_ {A = ℕ} 0 1 = ap (λ (z : Lowered × List ℕ). kindOf (z .0)) x in
-          absurd (omega arith)
+      by k true x = absurd (apart x)
       by k false x = ap (λ (z : Lowered × List ℕ). z .1) x
 
       go : (v : Verdict) → verdict s ≡ v → (Wrote n, after) ≡ answerBy bytes v own → BytesIn bytes s own after
-      go (refused m q) e x =
-          let clash : _≡_ {A = ℕ} 0 1 = ap (λ (z : Lowered × List ℕ). kindOf (z .0)) x in
-          absurd (omega arith)
+      go (refused m q) e x = absurd (apart x)
       go (accepted k) e x =
           record { kernel = k; accepts = e; front = by k (ltb (length own) (length (bytes k))) x }
 
-  pub refuses-any : {n r : ℕ} {after : List ℕ} → (n ≡ 9 → ⊥) → (Refuses n r, after) ≡ answerBy bytes (verdict s) own
-      → verdict s ≡ refused n r
-  refuses-any {n} {r} {after} other p = go (verdict s) refl p
+  -- a refusal that no accepted file is answered with
+  refuses-but : {n r : ℕ} {after : List ℕ}
+      → ((k : Program) → verdict s ≡ accepted k → (Refuses n r, after) ≡ answerBy bytes (accepted k) own → ⊥)
+      → (Refuses n r, after) ≡ answerBy bytes (verdict s) own → verdict s ≡ refused n r
+  refuses-but {n} {r} {after} never = go (verdict s) refl
     where
-      by : (k : Program) (b : Bool)
-          → _≡_ {A = Lowered × List ℕ} (Refuses n r, after) (outcome k b) → ⊥
-      by k true x = other (ap (λ (z : Lowered × List ℕ). numberIn (z .0)) x)
-      by k false x =
-          let clash : _≡_ {A = ℕ} 1 0 = ap (λ (z : Lowered × List ℕ). kindOf (z .0)) x in
-          absurd (omega arith)
-
       go : (v : Verdict) → verdict s ≡ v → (Refuses n r, after) ≡ answerBy bytes v own → verdict s ≡ refused n r
       go (refused m q) e x =
           e
           ∙ ap₂ refused (ap (λ (z : Lowered × List ℕ). numberIn (z .0)) (sym x))
           (ap (λ (z : Lowered × List ℕ). recordIn (z .0)) (sym x))
-      go (accepted k) e x = absurd (by k (ltb (length own) (length (bytes k))) x)
+      go (accepted k) e x = absurd (never k e x)
+
+  pub refuses-any : {n r : ℕ} {after : List ℕ} → (n ≡ 9 → ⊥) → (Refuses n r, after) ≡ answerBy bytes (verdict s) own
+      → verdict s ≡ refused n r
+  refuses-any {n} {r} {after} other = refuses-but (λ k e. by k (ltb (length own) (length (bytes k))))
+    where
+      by : (k : Program) (b : Bool)
+          → _≡_ {A = Lowered × List ℕ} (Refuses n r, after) (outcome k b) → ⊥
+      by k true x = other (ap (λ (z : Lowered × List ℕ). numberIn (z .0)) x)
+      by k false x = apart (sym x)
 
   -- a refusal leaves the buffer
   pub refuses-left : {n r : ℕ} {after : List ℕ} → (Refuses n r, after) ≡ answerBy bytes (verdict s) own → after ≡ own
@@ -85,9 +90,7 @@ module _ (bytes : Program → List ℕ) (s own : List ℕ) where
     where
       by : (k : Program) (b : Bool) → _≡_ {A = Lowered × List ℕ} (Refuses n r, after) (outcome k b) → after ≡ own
       by k true x = ap (λ (z : Lowered × List ℕ). z .1) x
-      by k false x =
-          let clash : _≡_ {A = ℕ} 1 0 = ap (λ (z : Lowered × List ℕ). kindOf (z .0)) x in
-          absurd (omega arith)
+      by k false x = absurd (apart (sym x))
 
       go : (v : Verdict) → (Refuses n r, after) ≡ answerBy bytes v own → after ≡ own
       go (refused m q) x = ap (λ (z : Lowered × List ℕ). z .1) x
@@ -103,16 +106,7 @@ module _
 
   pub refuses-by : {n r : ℕ} {after : List ℕ} → (Refuses n r, after) ≡ answerBy bytes (verdict s) own
       → verdict s ≡ refused n r
-  refuses-by {n} {r} {after} p = go (verdict s) refl p
-    where
-      go : (v : Verdict) → verdict s ≡ v → (Refuses n r, after) ≡ answerBy bytes v own → verdict s ≡ refused n r
-      go (refused m q) e x =
-          e
-          ∙ ap₂ refused (ap (λ (z : Lowered × List ℕ). numberIn (z .0)) (sym x))
-          (ap (λ (z : Lowered × List ℕ). recordIn (z .0)) (sym x))
-      go (accepted k) e x =
-          let clash : _≡_ {A = ℕ} 1 0 = ap (λ (z : Lowered × List ℕ). kindOf (z .0)) (x ∙ written-by k e) in
-          absurd (omega arith)
+  refuses-by = refuses-but bytes s own (λ k e x. apart (sym (x ∙ written-by k e)))
 
   pub wrote-by : {n : ℕ} {after : List ℕ} → (Wrote n, after) ≡ answerBy bytes (verdict s) own
       → BytesIn bytes s own after

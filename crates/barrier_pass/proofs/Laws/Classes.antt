@@ -5,7 +5,7 @@ use native.Mathlib.Omega.{arith}
 use mathlib.Core.Path.{_≡_, refl, sym, ap, _∙_}
 use mathlib.Core.Bool.{Bool, true, false, cond}
 use mathlib.Core.List.{List}
-use lib.Dec.{leb}
+use lib.Dec.{leb, eqb}
 use lib.ListN.{getD}
 use borrow.Author.Tests.{leb-true}
 use mir.Val.{boolByte}
@@ -57,24 +57,16 @@ module _ (vol : ℕ → Bool) where
   class-of (SkipOp a t) = by-test (entry 7) (λ u. 4) refl refl (vol 0)
 
   -- only a SKIP lands elsewhere than at 0
-  pub landing-none : (o : Op) → (fieldsOf o .code ≡ 7 → ⊥) → 0 ≡ landing (stepOf vol o)
-  landing-none (Set a c) h = refl
-  landing-none (Add a b) h = refl
-  landing-none (Load a x) h = refl
-  landing-none (Store a x) h = refl
-  landing-none (Lock l) h = refl
-  landing-none (Unlock l) h = refl
-  landing-none (SkipOp a t) h = absurd (h refl)
-
-  pub landing-skip : (o : Op) → fieldsOf o .code ≡ 7
-      → cond (leb (fieldsOf o .word) 64) (fieldsOf o .word) 0 ≡ landing (stepOf vol o)
-  landing-skip (Set a c) h = absurd (omega (arith, h))
-  landing-skip (Add a b) h = absurd (omega (arith, h))
-  landing-skip (Load a x) h = absurd (omega (arith, h))
-  landing-skip (Store a x) h = absurd (omega (arith, h))
-  landing-skip (Lock l) h = absurd (omega (arith, h))
-  landing-skip (Unlock l) h = absurd (omega (arith, h))
-  landing-skip (SkipOp a t) h = refl
+  pub landing-by : (o : Op)
+      → landing (stepOf vol o)
+      ≡ cond (eqb (fieldsOf o .code) 7) (cond (leb (fieldsOf o .word) 64) (fieldsOf o .word) 0) 0
+  landing-by (Set a c) = refl
+  landing-by (Add a b) = refl
+  landing-by (Load a x) = refl
+  landing-by (Store a x) = refl
+  landing-by (Lock l) = refl
+  landing-by (Unlock l) = refl
+  landing-by (SkipOp a t) = refl
 
 -- four bits of what is due, none past the last class
 pub class-stands : (s : Step) (n : ℕ) (b : Barrier) → n < 65536

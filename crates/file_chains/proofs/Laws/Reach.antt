@@ -1,13 +1,13 @@
 -- Which targets a record reaches, told by its place and theirs.
-use Prim.Native.Nat.{ℕ, zero, suc, _+_, _-_, _≤_, _<_}
+use Prim.Native.Nat.{ℕ, _+_, _-_, _≤_, _<_}
 use mathlib.Core.Path.{_≡_, refl, sym, ap, _∙_}
 use mathlib.Core.Bool.{Bool, true, false, not, false≢true}
 use mathlib.Core.List.{List}
 use native.Mathlib.Omega.{arith}
 use native.Mathlib.Decide.{decLe}
-use borrow.Author.Tests.{ltb-true, le-leb, lt-leb, ne-eqb}
+use borrow.Author.Tests.{le-leb, lt-leb, ne-eqb}
 use lib.ListN.{length, getD}
-use Rattle.file_format.specs.Fields.{recordCount, operation, target, next}
+use Rattle.file_format.specs.Fields.{recordCount, target, next}
 use Rattle.file_format.specs.Linkage.{chain, chainTooLong}
 use Rattle.file_format.specs.Targets.{member, unreachableTarget}
 use Rattle.file_format.proofs.Laws.Targets.{member-position, at-member}

@@ -8,6 +8,7 @@ use lib.ListN.{length, getD, take}
 use Rattle.file_format.specs.Fields.{laneCount, head, heads}
 use Rattle.file_format.specs.Rules.{headerRule}
 use Rattle.file_format.specs.Accepted.{opsFrom, opsOf, recordsAt, opsAt, programOf}
+use Rattle.file_format.proofs.Laws.Lists.{below-four}
 use Rattle.file_format.proofs.Laws.Linkage.{chain-stop}
 use Rattle.file_format.proofs.Laws.Rules.{head-none}
 
@@ -19,12 +20,8 @@ module _ {A : Type 0} (f : ℕ → List A) where
   lane-by (x ∷ hs) (suc n) zero h none = refl
   lane-by (x ∷ hs) (suc n) (suc t) h none = lane-by hs n t (omega arith) (λ g. none (omega arith))
 
-head-at : (s : List ℕ) (t : ℕ) → t < 4 → getD (heads s) t 0 ≡ head s t
-head-at s zero h = refl
-head-at s (suc zero) h = refl
-head-at s (suc (suc zero)) h = refl
-head-at s (suc (suc (suc zero))) h = refl
-head-at s (suc (suc (suc (suc t)))) h = absurd (omega arith)
+pub head-at : (s : List ℕ) (t : ℕ) → t < 4 → getD (heads s) t 0 ≡ head s t
+head-at s = below-four (λ t. getD (heads s) t 0 ≡ head s t) refl refl refl refl
 
 module _ (s : List ℕ) (ok : headerRule s ≡ true) (t : ℕ) (h : t < 4) where
   no-head : laneCount s ≤ t → getD (heads s) t 0 ≡ 0

@@ -48,6 +48,14 @@ replicate-at zero j a = refl
 replicate-at (suc n) zero a = refl
 replicate-at (suc n) (suc j) a = replicate-at n j a
 
+-- what holds of each number below 4
+pub below-four : (P : ℕ → Type 0) → P 0 → P 1 → P 2 → P 3 → (t : ℕ) → t < 4 → P t
+below-four P a b c d zero h = a
+below-four P a b c d (suc zero) h = b
+below-four P a b c d (suc (suc zero)) h = c
+below-four P a b c d (suc (suc (suc zero))) h = d
+below-four P a b c d (suc (suc (suc (suc t)))) h = absurd (omega arith)
+
 -- the values of f below n, the last first; two functions with the same values agree below n
 abbrev pub values : {A : Type 0} → (ℕ → A) → ℕ → List A
 values f zero = []

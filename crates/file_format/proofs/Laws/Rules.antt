@@ -13,6 +13,7 @@ use Rattle.file_format.specs.Rules.{headRule, headerTests, headerRule, r
 use Rattle.file_format.specs.Rules.{rowA, rowB, rowConstant, rowTarget, limitA, limitB, limitConstant}
 use Rattle.file_format.specs.Rules.{limitTarget, Limits}
 use Rattle.file_format.specs.Search.{all}
+use Rattle.file_format.proofs.Laws.Lists.{below-four}
 use Rattle.file_format.proofs.Laws.Search.{all-at, nothing-found}
 
 module _ (s : List ℕ) (ok : headerRule s ≡ true) where
@@ -46,11 +47,9 @@ module _ (s : List ℕ) (ok : headerRule s ≡ true) where
 
   head-tested : (t : ℕ) → t < 4 → headRule s t ≡ true
   unfolding headerRule
-  head-tested zero h = all-at (headerTests s) 8 ok
-  head-tested (suc zero) h = all-at (headerTests s) 9 ok
-  head-tested (suc (suc zero)) h = all-at (headerTests s) 10 ok
-  head-tested (suc (suc (suc zero))) h = all-at (headerTests s) 11 ok
-  head-tested (suc (suc (suc (suc t)))) h = absurd (omega arith)
+  head-tested =
+      below-four (λ t. headRule s t ≡ true) (all-at (headerTests s) 8 ok) (all-at (headerTests s) 9 ok)
+      (all-at (headerTests s) 10 ok) (all-at (headerTests s) 11 ok)
 
   head-limit : (t : ℕ) → t < 4 → head s t ≤ cond (ltb t (laneCount s)) (recordCount s) 0
   unfolding headRule

@@ -3,7 +3,7 @@
 use Prim.Native.Nat.{ℕ, zero, suc, _+_, _-_, _*_, _≤_, _<_, min}
 use mathlib.Core.Path.{_≡_, refl, ap, sym, subst, _∙_}
 use mathlib.Core.List.{List, [], _∷_}
-use mathlib.Core.Bool.{Bool, false}
+use mathlib.Core.Bool.{Bool, false, cond}
 use mathlib.Core.Option.{some}
 use native.Mathlib.Omega.{arith}
 use borrow.Author.Tests.{le-ltb}
@@ -48,23 +48,14 @@ module _ {rows : List ℕ} {n : ℕ} {ops : List Op} (lane : LaneIn rows n ops) 
 -- ## operations by their codes
 
 -- where an operation leads: a SKIP to its target
-pub jump-target : (o : Op) → 7 ≡ fieldsOf o .code → fieldsOf o .word ≡ jumpOr noJump (some o)
-jump-target (Set a c) e = absurd (omega arith)
-jump-target (Add a b) e = absurd (omega arith)
-jump-target (Load a b) e = absurd (omega arith)
-jump-target (Store a b) e = absurd (omega arith)
-jump-target (Lock b) e = absurd (omega arith)
-jump-target (Unlock b) e = absurd (omega arith)
-jump-target (Skip a q) e = refl
-
-pub jump-none : (o : Op) → ¬ fieldsOf o .code ≡ 7 → noJump ≡ jumpOr noJump (some o)
-jump-none (Set a c) n = refl
-jump-none (Add a b) n = refl
-jump-none (Load a b) n = refl
-jump-none (Store a b) n = refl
-jump-none (Lock b) n = refl
-jump-none (Unlock b) n = refl
-jump-none (Skip a q) n = absurd (n refl)
+pub jump-by : (o : Op) → cond (eqb (fieldsOf o .code) 7) (fieldsOf o .word) noJump ≡ jumpOr noJump (some o)
+jump-by (Set a c) = refl
+jump-by (Add a b) = refl
+jump-by (Load a b) = refl
+jump-by (Store a b) = refl
+jump-by (Lock b) = refl
+jump-by (Unlock b) = refl
+jump-by (Skip a q) = refl
 
 -- ## the set after an operation
 

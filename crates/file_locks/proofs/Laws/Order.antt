@@ -88,7 +88,8 @@ module _ (s order place ends : List ℕ) (st : Structured s) (ordered : Ordered 
               let len = opsFrom-length s 0 (recordsAt s (head s t)) in
               leads (locations s) (locks s) (many s t) p (getD (opsAt s (head s t)) p noOp) (many-small s t) l
               (rw len
-              (lane-bounded s (st .fields .records) (head s t) (head-range s (st .fields .header) t below) p noOp (omega (arith, len))))
+              (lane-bounded s (st .fields .records) (head s t) (head-range s (st .fields .header) t below) p noOp
+              (omega (arith, len))))
 
       -- lane t of the order fits the check
       pub lane-fits : {from : ℕ} → from ≡ beginOf ends t

@@ -4,7 +4,7 @@ use mathlib.Core.Path.{_≡_, refl, sym, ap, _∙_}
 use mathlib.Core.Bool.{Bool, true, false, not, cond}
 use mathlib.Core.List.{List}
 use native.Mathlib.Omega.{arith}
-use borrow.Author.Tests.{ltb-false}
+use borrow.Author.Tests.{ltb-false, eq-eqb, ne-eqb}
 use lib.Dec.{eqb, ltb}
 use lib.ListN.{length, getD, set, replicate}
 use Rattle.file_format.specs.declared.accepted.Op.{Op}
@@ -15,7 +15,7 @@ use Rattle.file_format.proofs.Laws.Search.{search-start, search-on, search-foun
 use Rattle.sheet_rows.specs.Lanes.{fieldsOf}
 use Rattle.file_locks.specs.Sets.{locksIn, bring, partsLed}
 use Rattle.file_locks.specs.Lanes.{LaneIn, Stepped}
-use Rattle.file_locks.proofs.Laws.Held.{row-code, row-b, row-target, jump-target, jump-none, held-on}
+use Rattle.file_locks.proofs.Laws.Held.{row-code, row-b, row-target, jump-by, held-on}
 use Rattle.file_locks.proofs.Laws.Sets.{LedTo, led-start, led-past, led-put, fault-inside, fault-end}
 
 -- the rule is broken at a position counted from 1
@@ -87,15 +87,17 @@ module _ {rows : List ℕ} {n : ℕ} {ops : List Op} (lane : LaneIn rows n ops) 
           let code = sym e ∙ row-code lane p below in
           let word = row-target lane p below short code in
           let near = lane .within p (omega (arith, many)) (sym code) in
+          let jump = rw (eq-eqb (fieldsOf (getD ops p noOp) .code) 7 (sym code)) at (jump-by (getD ops p noOp)) in
           rw is
-          (led-put ops p led (at .led-to) (omega (arith, many)) (word ∙ jump-target (getD ops p noOp) code)
+          (led-put ops p led (at .led-to) (omega (arith, many)) (word ∙ jump)
           (omega (arith, near, many)) (omega (arith, many)) small (at .set-is) refl)
 
       pub lead-none : ¬ getD rows (8 * p) 0 ≡ 7 → {led′ : List ℕ} → led′ ≡ led → LedTo ops (p + 1) led′
       lead-none n7 is =
+          let other = ne-eqb (fieldsOf (getD ops p noOp) .code) 7 (λ e. n7 (row-code lane p below ∙ e)) in
           rw is
-          (led-past ops p led (at .led-to) (omega (arith, many))
-          (jump-none (getD ops p noOp) (λ e. n7 (row-code lane p below ∙ e))) (omega (arith, many)))
+          (led-past ops p led (at .led-to) (omega (arith, many)) (rw other at (jump-by (getD ops p noOp)))
+          (omega (arith, many)))
 
     -- at the end
     module _

@@ -1,6 +1,5 @@
 -- `file_locks::lane_fault` meets its contract.
-use Prim.Native.Nat.{_+_, _-_, _*_, _≤_, _<_, min}
-use lib.ListN.{length}
+use Prim.Native.Nat.{_+_, _-_, _*_, min}
 use mathlib.Core.Path.{refl, sym, ap, subst, _∙_}
 use native.Mathlib.Omega.{arith}
 use Rattle.file_format.specs.Held.{faultPosition}

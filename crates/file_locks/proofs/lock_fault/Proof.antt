@@ -32,7 +32,8 @@ lane-fault-requires : tie.Need-lane-fault-requires Inv-loop μ-loop
 lane-fault-requires c κs =
     let w = c .before in
     let p = w .before .before .before .before .pre in
-    lane-fits _ _ _ _ (p .0) (p .1 .0 .1) _ _ (p .1 .1 .1) (p .1 .1 .2) _ (w .loop-test .taken) (w .before .loop .inv .0)
+    lane-fits _ _ _ _ (p .0) (p .1 .0 .1) _ _ (p .1 .1 .1) (p .1 .1 .2) _ (w .loop-test .taken)
+    (w .before .loop .inv .0)
 
 returns : tie.Need-returns Inv-loop μ-loop
 returns c =

@@ -19,11 +19,11 @@ use Rattle.file_format.specs.Stored.{noOp}
 use Rattle.file_format.proofs.Bounded.{lane-bounded}
 use Rattle.file_format.proofs.Laws.Lanes.{lane-ops}
 use Rattle.file_format.proofs.Laws.Linkage.{chain-stop, chain-length}
-use Rattle.file_format.proofs.Laws.Lists.{some-at}
+use Rattle.file_format.proofs.Laws.Lists.{some-at, below-four}
 use Rattle.file_format.proofs.Laws.Rules.{four-lanes, head-range, head-none}
 use Rattle.file_format.proofs.Laws.Stored.{opsFrom-length, lane-count}
 use Rattle.file_verdict.specs.Verdict.{verdict, accepted}
-use Rattle.file_format.specs.Structured.{Structured}
+use Rattle.file_format.specs.Structured.{Fielded}
 use Rattle.file_verdict.proofs.Laws.Verdict.{sound, accepted-as}
 use Rattle.sheet_format.specs.Layout.{op}
 use Rattle.sheet_format.specs.Levels.{level1}
@@ -34,7 +34,7 @@ use Rattle.sheet_format.proofs.Laws.Turn.{turn-same, turn-all}
 use Rattle.sheet_rows.specs.Rows.{countAt, partsIn}
 use Rattle.sheet_rows.specs.Lanes.{opRows, fieldsOf, Holds}
 use Rattle.sheet_rows.proofs.Laws.Lanes.{rows-length}
-use Rattle.sheet_rows.proofs.Laws.Parts.{count-in, count-none}
+use Rattle.sheet_rows.proofs.Laws.Parts.{count-in, count-none, many as parts-many}
 use Rattle.file_rows.specs.Chains.{chainLanes, chainBytes, chainAt}
 
 -- how many operations lane t has, and how many the lanes before it have
@@ -144,11 +144,11 @@ module _ (s : List ℕ) (header : headerRule s ≡ true) where
       where
         go : (t : ℕ) → t < 4 → length (getD (chainLanes (programOf s)) t []) < 65536
             → word (over (chainBytes (programOf s)) own) (8 + 2 * t) ≡ length (getD (chainLanes (programOf s)) t [])
-        go zero h small = word-back _ small
-        go (suc zero) h small = word-back _ small
-        go (suc (suc zero)) h small = word-back _ small
-        go (suc (suc (suc zero))) h small = word-back _ small
-        go (suc (suc (suc (suc t)))) h small = absurd (omega arith)
+        go =
+            below-four
+            (λ t. length (getD (chainLanes (programOf s)) t []) < 65536
+            → word (over (chainBytes (programOf s)) own) (8 + 2 * t) ≡ length (getD (chainLanes (programOf s)) t []))
+            (word-back _) (word-back _) (word-back _) (word-back _)
 
     lanes-byte : getD rows 0 0 ≡ laneCount s
     unfolding chainBytes
@@ -169,19 +169,14 @@ module _ (s : List ℕ) (header : headerRule s ≡ true) where
             )
 
     pub part-count : (t : ℕ) → t < 4 → getD (partsIn rows .count) t 0 ≡ many s t
-    part-count zero h = count-is 0 h
-    part-count (suc zero) h = count-is 1 h
-    part-count (suc (suc zero)) h = count-is 2 h
-    part-count (suc (suc (suc zero))) h = count-is 3 h
-    part-count (suc (suc (suc (suc t)))) h = absurd (omega arith)
+    part-count t h = parts-many rows t h ∙ count-is t h
 
     pub part-from : (t : ℕ) → t < 4 → getD (partsIn rows .from) t 0 ≡ 16 + 8 * before s t
-    part-from zero h = refl
-    part-from (suc zero) h = omega (arith, count-is 0 (omega arith))
-    part-from (suc (suc zero)) h = omega (arith, count-is 0 (omega arith), count-is 1 (omega arith))
-    part-from (suc (suc (suc zero))) h =
-        omega (arith, count-is 0 (omega arith), count-is 1 (omega arith), count-is 2 (omega arith))
-    part-from (suc (suc (suc (suc t)))) h = absurd (omega arith)
+    part-from =
+        let one = count-is 0 (omega arith) in
+        let two = count-is 1 (omega arith) in
+        below-four (λ t. getD (partsIn rows .from) t 0 ≡ 16 + 8 * before s t) refl (omega (arith, one))
+        (omega (arith, one, two)) (omega (arith, one, two, count-is 2 (omega arith)))
 
     -- ## lane t in the buffer
 
@@ -203,9 +198,9 @@ module _ (s : List ℕ) (header : headerRule s ≡ true) where
 -- the same of an accepted file
 module _ (s : List ℕ) (ok : verdict s ≡ accepted (programOf s)) (rows own : List ℕ)
     (front : rows ≡ over (chainBytes (programOf s)) own) (t : ℕ) (below : t < 4) where
-  structure : Structured s
-  structure = sound s (accepted-as s (programOf s) ok .0) .0
+  fields : Fielded s
+  fields = sound s (accepted-as s (programOf s) ok .0) .0 .fields
 
   pub accepted-parts-hold : Holds (drop (getD (partsIn rows .from) t 0) rows) (getD (partsIn rows .count) t 0)
       (opsAt s (head s t))
-  accepted-parts-hold = parts-hold s (structure .fields .header) rows own front (structure .fields .records) t below
+  accepted-parts-hold = parts-hold s (fields .header) rows own front (fields .records) t below

@@ -1,12 +1,12 @@
 -- Laws of a lane's records in the order of a structured file: how many they are, and the row of each.
-use Prim.Native.Nat.{ℕ, zero, suc, _+_, _-_, _≤_, _<_}
+use Prim.Native.Nat.{ℕ, _+_, _-_, _≤_, _<_}
 use mathlib.Core.Path.{_≡_, sym, ap, subst, _∙_}
 use mathlib.Core.Bool.{true}
 use mathlib.Core.List.{List}
 use native.Mathlib.Omega.{arith}
-use borrow.Author.Tests.{ltb-true, ne-eqb}
+use borrow.Author.Tests.{ne-eqb}
 use lib.ListN.{length, getD, take, drop, length-drop}
-use Rattle.file_format.specs.Fields.{byte, recordCount, head, operation, target}
+use Rattle.file_format.specs.Fields.{byte, recordCount, head, target}
 use Rattle.file_format.specs.Rules.{recordRule}
 use Rattle.file_format.specs.Structured.{Structured}
 use Rattle.file_format.specs.Accepted.{opOf, opsOf, opsAt}
@@ -108,7 +108,8 @@ module _ {s order place : List ℕ} {begin end : ℕ} (l : LaneIn s order place 
   in-file = omega (arith, l .to, end-inside (l .ordered) (l .lane) (l .below), few (l .structured) (l .ordered))
 
   pub counted-in : length (take (end - begin) (drop begin order)) ≡ end - begin
-  counted-in = by-lane (λ b k. length (take k (drop b order)) ≡ k) (counted (l .structured) (l .ordered) (l .lane) (l .below))
+  counted-in =
+      by-lane (λ b k. length (take k (drop b order)) ≡ k) (counted (l .structured) (l .ordered) (l .lane) (l .below))
 
   pub ops-in : opsOf s (take (end - begin) (drop begin order)) ≡ opsAt s (head s (l .lane))
   ops-in =

@@ -55,8 +55,8 @@ module _ {s order place ends : List ℕ} (st : Structured s) (o : Ordered s orde
   chains-counted =
       omega (
         arith,
-        chains-size s (st .fields .header) first-is (lane-count-is st o 1 (omega arith)) (lane-count-is st o 2 (omega arith))
-            (lane-count-is st o 3 (omega arith)),
+        chains-size s (st .fields .header) first-is (lane-count-is st o 1 (omega arith))
+            (lane-count-is st o 2 (omega arith)) (lane-count-is st o 3 (omega arith)),
         o .rising 1 (omega arith),
         o .rising 2 (omega arith),
         o .rising 3 (omega arith),
@@ -72,5 +72,5 @@ module _ {s order place ends : List ℕ} (st : Structured s) (o : Ordered s orde
       → l₃ ≡ sets l₂ 16 (inTurn (chainAt s) 4)
       → l₃ ≡ over (chainBytes (programOf s)) buffer
   chains-from en els eks em buffer room =
-      chains-put s (st .fields .header) first-is (lane-count-is st o 1 (omega arith)) (lane-count-is st o 2 (omega arith))
-      (lane-count-is st o 3 (omega arith)) en els eks em buffer (omega (arith, chains-counted))
+      chains-put s (st .fields .header) first-is (lane-count-is st o 1 (omega arith))
+      (lane-count-is st o 2 (omega arith)) (lane-count-is st o 3 (omega arith)) en els eks em buffer (omega (arith, chains-counted))

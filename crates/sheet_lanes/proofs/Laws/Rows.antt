@@ -2,6 +2,7 @@
 use Prim.Native.Nat.{ℕ, _+_, _*_, _≤_, _<_}
 use mathlib.Core.Path.{_≡_, sym, ap, subst}
 use mathlib.Core.List.{List}
+use native.Mathlib.Omega.{arith}
 use lib.ListN.{length, getD, drop}
 use Rattle.sheet_rows.specs.declared.parts.Parts.{Parts}
 use Rattle.sheet_rows.specs.Rows.{partsIn}
@@ -28,6 +29,10 @@ module _ (rows : List ℕ) (ok : Short rows) where
     pub part-inside : from + 8 * count ≤ length rows
     part-inside =
         subst (λ (q : Parts). getD (q .from) t 0 + 8 * getD (q .count) t 0 ≤ length rows) (sym e) (ok .inside t h)
+
+    -- and it takes a plan of more than 64 numbers
+    pub part-fits : {k : ℕ} → 64 < k → (count ≤ 64) × (from + 8 * count ≤ length rows) × (count < k)
+    part-fits room = (part-few, part-inside, omega (arith, part-few))
 
     pub part-plan : {m : ℕ} (plan : List ℕ) {size : ℕ} → PlanFor (drop from rows) count m plan size
         → PlanIn rows m t plan size

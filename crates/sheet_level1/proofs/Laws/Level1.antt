@@ -1,6 +1,6 @@
 -- Laws of the level 1 sheet of an accepted file, from the rows of its chains: how many bytes it takes, and header and
 -- lanes together.
-use Prim.Native.Nat.{ℕ, zero, suc, _+_, _*_, _≤_, _<_}
+use Prim.Native.Nat.{ℕ, _+_, _*_, _≤_, _<_}
 use mathlib.Core.Path.{_≡_, refl, sym, ap, subst, _∙_}
 use mathlib.Core.List.{List, [], _∷_, _++_, map, map-map}
 use native.Mathlib.Omega.{arith}
@@ -10,6 +10,7 @@ use Rattle.file_format.specs.declared.accepted.Op.{Op}
 use Rattle.file_format.specs.Fields.{laneCount, locations, locks, mask, head}
 use Rattle.file_format.specs.Linkage.{chain}
 use Rattle.file_format.specs.Accepted.{isVolatile, opsAt, programOf}
+use Rattle.file_format.proofs.Laws.Lists.{below-four}
 use Rattle.file_format.proofs.Laws.Stored.{opsFrom-length}
 use Rattle.file_verdict.specs.Verdict.{verdict, accepted}
 use Rattle.sheet_format.specs.Layout.{Instr, sheet}
@@ -58,18 +59,10 @@ module _ (s : List ℕ) (ok : verdict s ≡ accepted (programOf s)) where
 
     -- each lane ends where the next begins, and the last at the end of the chains
     lanes-end : (t : ℕ) → t < 4 → 16 + 8 * (before s t + many s t) ≤ length (chainBytes (programOf s))
-    lanes-end t h =
+    lanes-end =
         let all = chains-size s (header-by s ok) refl refl refl refl in
-        go t h all
-      where
-        go : (t : ℕ) → t < 4
-            → 16 + 8 * (many s 0 + (many s 1 + (many s 2 + many s 3))) ≡ length (chainBytes (programOf s))
-            → 16 + 8 * (before s t + many s t) ≤ length (chainBytes (programOf s))
-        go zero h e = omega arith
-        go (suc zero) h e = omega arith
-        go (suc (suc zero)) h e = omega arith
-        go (suc (suc (suc zero))) h e = omega arith
-        go (suc (suc (suc (suc t)))) h e = absurd (omega arith)
+        below-four (λ t. 16 + 8 * (before s t + many s t) ≤ length (chainBytes (programOf s))) (omega (arith, all))
+        (omega (arith, all)) (omega (arith, all)) (omega (arith, all))
 
     pub chains-short : Short rows
     chains-short = record {
@@ -124,11 +117,9 @@ module _ (s : List ℕ) (ok : verdict s ≡ accepted (programOf s)) where
         fourth = planned em 3 (omega arith) d (plans .fourth)
 
         text-at : (t : ℕ) → t < 4 → texts t ≡ lane1At s t
-        text-at zero h = text-is 0 h a first
-        text-at (suc zero) h = text-is 1 h b second
-        text-at (suc (suc zero)) h = text-is 2 h c third
-        text-at (suc (suc (suc zero))) h = text-is 3 h d fourth
-        text-at (suc (suc (suc (suc t)))) h = absurd (omega arith)
+        text-at =
+            below-four (λ t. texts t ≡ lane1At s t) (text-is 0 (omega arith) a first) (text-is 1 (omega arith) b second)
+            (text-is 2 (omega arith) c third) (text-is 3 (omega arith) d fourth)
 
         pub size-by : 16 + 8 * (size 0 + (size 1 + (size 2 + size 3))) ≡ length (sheet1 s)
         size-by =

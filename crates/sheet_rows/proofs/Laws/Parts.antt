@@ -6,21 +6,15 @@ use native.Mathlib.Omega.{arith}
 use lib.ListN.{length, getD, drop, length-take, List·getD-eq-default}
 use lib.Seq.{drop-drop, getD-take}
 use Rattle.file_format.specs.Fields.{word}
+use Rattle.file_format.proofs.Laws.Lists.{below-four}
+use Rattle.file_format.proofs.Laws.Lanes.{head-at}
 use Rattle.sheet_format.specs.Read.{readRows, pastRows, readLanes, counts, readSheet}
 use Rattle.sheet_rows.specs.Rows.{countAt, partsIn}
-
-pub four-at : (s : List ℕ) (t : ℕ) → t < 4
-    → getD (word s 8 ∷ word s 10 ∷ word s 12 ∷ word s 14 ∷ []) t 0 ≡ word s (8 + 2 * t)
-four-at s zero h = refl
-four-at s (suc zero) h = refl
-four-at s (suc (suc zero)) h = refl
-four-at s (suc (suc (suc zero))) h = refl
-four-at s (suc (suc (suc (suc t)))) h = absurd (omega arith)
 
 -- the count of one of the header's lanes, and of one that is not there
 pub count-in : (s : List ℕ) (t : ℕ) → t < 4 → t < getD s 0 0 → word s (8 + 2 * t) ≡ countAt s t
 count-in s t h l =
-    sym (getD-take (getD s 0 0) (word s 8 ∷ word s 10 ∷ word s 12 ∷ word s 14 ∷ []) t 0 l ∙ four-at s t h)
+    sym (getD-take (getD s 0 0) (word s 8 ∷ word s 10 ∷ word s 12 ∷ word s 14 ∷ []) t 0 l ∙ head-at s t h)
 
 pub count-none : (s : List ℕ) (t : ℕ) → getD s 0 0 ≤ t → 0 ≡ countAt s t
 count-none s t h =
@@ -57,19 +51,14 @@ before-suc (n ∷ ns) zero = omega arith
 before-suc (n ∷ ns) (suc t) = omega (arith, before-suc ns t)
 
 pub begins : (s : List ℕ) (t : ℕ) → t < 4 → getD (partsIn s .from) t 0 ≡ 16 + 8 * before (counts s) t
-begins s zero h = refl
-begins s (suc zero) h = omega (arith, before-suc (counts s) 0)
-begins s (suc (suc zero)) h = omega (arith, before-suc (counts s) 0, before-suc (counts s) 1)
-begins s (suc (suc (suc zero))) h =
-    omega (arith, before-suc (counts s) 0, before-suc (counts s) 1, before-suc (counts s) 2)
-begins s (suc (suc (suc (suc t)))) h = absurd (omega arith)
+begins s =
+    let one = before-suc (counts s) 0 in
+    let two = before-suc (counts s) 1 in
+    below-four (λ t. getD (partsIn s .from) t 0 ≡ 16 + 8 * before (counts s) t) refl (omega (arith, one))
+    (omega (arith, one, two)) (omega (arith, one, two, before-suc (counts s) 2))
 
 pub many : (s : List ℕ) (t : ℕ) → t < 4 → getD (partsIn s .count) t 0 ≡ countAt s t
-many s zero h = refl
-many s (suc zero) h = refl
-many s (suc (suc zero)) h = refl
-many s (suc (suc (suc zero))) h = refl
-many s (suc (suc (suc (suc t)))) h = absurd (omega arith)
+many s = below-four (λ t. getD (partsIn s .count) t 0 ≡ countAt s t) refl refl refl refl
 
 -- lane t of the sheet is read where its part lies
 pub lane-rows : (s : List ℕ) (t : ℕ) → t < 4

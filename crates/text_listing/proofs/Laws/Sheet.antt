@@ -7,7 +7,8 @@ use lib.ListN.{length, getD, take, drop, length-take}
 use lib.Seq.{drop-drop, take-suc, getD-take}
 use Rattle.file_format.specs.Fields.{word}
 use Rattle.sheet_format.specs.Read.{readInstr, readRows, pastRows, readLanes, counts}
-use Rattle.sheet_rows.proofs.Laws.Parts.{past, four-at}
+use Rattle.file_format.proofs.Laws.Lanes.{head-at}
+use Rattle.sheet_rows.proofs.Laws.Parts.{past}
 use Rattle.text_listing.specs.Line.{lineOf}
 use Rattle.text_listing.specs.Listing.{laneLines, sheetLines}
 
@@ -79,7 +80,7 @@ counts-next b t h =
     let four : List ℕ = word b 8 ∷ word b 10 ∷ word b 12 ∷ word b 14 ∷ [] in
     let size = length-take n four in
     let here : getD (counts b) t 0 ≡ word b (8 + 2 * t) =
-    getD-take n four t 0 (omega arith) ∙ four-at b t (omega arith) in
+    getD-take n four t 0 (omega arith) ∙ head-at b t (omega arith) in
     sym (ap (λ k. take k (counts b)) one ∙ take-suc (counts b) t 0 h ∙ ap (λ x. take t (counts b) ++ x ∷ []) here)
 
 -- one lane of the sheet more, of n instructions

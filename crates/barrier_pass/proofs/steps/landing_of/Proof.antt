@@ -1,23 +1,25 @@
 -- `barrier_pass::steps::landing_of` meets its contract.
 use native.Mathlib.Omega.{arith}
-use mathlib.Core.Path.{refl, sym, _∙_}
-use borrow.Author.Tests.{le-leb, lt-leb}
-use Rattle.barrier_pass.proofs.Laws.Classes.{landing-none, landing-skip}
+use mathlib.Core.Path.{refl, sym}
+use borrow.Author.Tests.{le-leb, lt-leb, eq-eqb, ne-eqb}
+use Rattle.barrier_pass.proofs.Laws.Classes.{landing-by}
 use Rattle.barrier_pass.proofs.steps.landing_of.Statement.{statement}
 use Rattle.barrier_pass.proofs.steps.landing_of.Tie as tie
 
 returns : tie.Need-returns
-returns c = (λ o vol ec et. landing-none vol o (λ e. c .if1 .taken (ec ∙ e)), omega arith)
+returns c = (λ o vol ec et. rw (landing-by vol o, sym ec, ne-eqb _ _ (c .if1 .taken)) refl, omega arith)
 
 returns-2 : tie.Need-returns-2
 returns-2 c = (
-  λ o vol ec et. rw (sym (landing-skip vol o (sym ec ∙ c .before .if1 .left)), sym et, le-leb _ _ (c .if2 .taken)) refl,
+  λ o vol ec et.
+      rw (landing-by vol o, sym ec, eq-eqb _ _ (c .before .if1 .left), sym et, le-leb _ _ (c .if2 .taken)) refl,
   omega arith,
 )
 
 returns-3 : tie.Need-returns-3
 returns-3 c = (
-  λ o vol ec et. rw (sym (landing-skip vol o (sym ec ∙ c .before .if1 .left)), sym et, lt-leb _ _ (c .if2 .left)) refl,
+  λ o vol ec et.
+      rw (landing-by vol o, sym ec, eq-eqb _ _ (c .before .if1 .left), sym et, lt-leb _ _ (c .if2 .left)) refl,
   omega arith,
 )
 

@@ -65,7 +65,8 @@ returns-2 c =
     (c .reaches .ensures
     ∙ ap₂ (reached (a .ends .now)) (first .wide-word .ensures .0)
     (c .before .wide-word2 .ensures .0 ∙ ap (λ x. getD (a .place .now) x 0) is))
-    ∙ strays-as (s .pre .1 .1 .1) (s .pre .1 .0) (a .i) (s .pre .0 .2) (s .pre .0 .3) (λ z. test .if1 .left (is ∙ z)) small
+    ∙ strays-as (s .pre .1 .1 .1) (s .pre .1 .0) (a .i) (s .pre .0 .2) (s .pre .0 .3)
+    (λ z. test .if1 .left (is ∙ z)) small
 
 pub strays-spec : {M : Type 1} → statement M
 strays-spec =

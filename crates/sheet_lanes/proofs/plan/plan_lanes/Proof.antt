@@ -1,6 +1,6 @@
 -- `sheet_lanes::plan::plan_lanes` meets its contract.
 use native.Mathlib.Omega.{arith}
-use Rattle.sheet_lanes.proofs.Laws.Rows.{part-few, part-inside, part-plan}
+use Rattle.sheet_lanes.proofs.Laws.Rows.{part-fits, part-plan}
 use borrow.Author.Needs.{needs}
 use Rattle.sheet_lanes.proofs.plan.plan_lanes.Statement.{statement}
 use Rattle.sheet_lanes.proofs.plan.plan_lanes.Tie as tie
@@ -13,15 +13,8 @@ array-read-plan-at-2 c = search needs
 
 plan-at-requires : tie.Need-plan-at-requires
 plan-at-requires c κs =
-    let s = c .before .before .before .before .before .before .before .before in (
-      part-few (s .args .rows .now) (s .pre .0 .0) (s .pre .0 .1) 0 (omega arith),
-      part-inside (s .args .rows .now) (s .pre .0 .0) (s .pre .0 .1) 0 (omega arith),
-      omega (
-        arith,
-        part-few (s .args .rows .now) (s .pre .0 .0) (s .pre .0 .1) 0 (omega arith),
-        s .pre .1 .0,
-      ),
-    )
+    let s = c .before .before .before .before .before .before .before .before in
+    part-fits (s .args .rows .now) (s .pre .0 .0) (s .pre .0 .1) 0 (omega arith) (s .pre .1 .0)
 
 array-read-plan-at-3 : tie.Need-array-read-plan-at-3
 array-read-plan-at-3 c = search needs
@@ -31,15 +24,8 @@ array-read-plan-at-4 c = search needs
 
 plan-at-requires-2 : tie.Need-plan-at-requires-2
 plan-at-requires-2 c κs =
-    let s = c .before .before .before .before .before .before .before .before .before .before .before .before in (
-      part-few (s .args .rows .now) (s .pre .0 .0) (s .pre .0 .1) 1 (omega arith),
-      part-inside (s .args .rows .now) (s .pre .0 .0) (s .pre .0 .1) 1 (omega arith),
-      omega (
-        arith,
-        part-few (s .args .rows .now) (s .pre .0 .0) (s .pre .0 .1) 1 (omega arith),
-        s .pre .1 .1,
-      ),
-    )
+    let s = c .before .before .before .before .before .before .before .before .before .before .before .before in
+    part-fits (s .args .rows .now) (s .pre .0 .0) (s .pre .0 .1) 1 (omega arith) (s .pre .1 .1)
 
 array-read-plan-at-5 : tie.Need-array-read-plan-at-5
 array-read-plan-at-5 c = search needs
@@ -50,15 +36,8 @@ array-read-plan-at-6 c = search needs
 plan-at-requires-3 : tie.Need-plan-at-requires-3
 plan-at-requires-3 c κs =
     let s = c .before .before .before .before .before .before .before .before .before .before .before .before .before
-    .before .before .before in (
-      part-few (s .args .rows .now) (s .pre .0 .0) (s .pre .0 .1) 2 (omega arith),
-      part-inside (s .args .rows .now) (s .pre .0 .0) (s .pre .0 .1) 2 (omega arith),
-      omega (
-        arith,
-        part-few (s .args .rows .now) (s .pre .0 .0) (s .pre .0 .1) 2 (omega arith),
-        s .pre .1 .2,
-      ),
-    )
+    .before .before .before in
+    part-fits (s .args .rows .now) (s .pre .0 .0) (s .pre .0 .1) 2 (omega arith) (s .pre .1 .2)
 
 array-read-plan-at-7 : tie.Need-array-read-plan-at-7
 array-read-plan-at-7 c = search needs
@@ -69,15 +48,8 @@ array-read-plan-at-8 c = search needs
 plan-at-requires-4 : tie.Need-plan-at-requires-4
 plan-at-requires-4 c κs =
     let s = c .before .before .before .before .before .before .before .before .before .before .before .before .before
-    .before .before .before .before .before .before .before in (
-      part-few (s .args .rows .now) (s .pre .0 .0) (s .pre .0 .1) 3 (omega arith),
-      part-inside (s .args .rows .now) (s .pre .0 .0) (s .pre .0 .1) 3 (omega arith),
-      omega (
-        arith,
-        part-few (s .args .rows .now) (s .pre .0 .0) (s .pre .0 .1) 3 (omega arith),
-        s .pre .1 .3,
-      ),
-    )
+    .before .before .before .before .before .before .before in
+    part-fits (s .args .rows .now) (s .pre .0 .0) (s .pre .0 .1) 3 (omega arith) (s .pre .1 .3)
 
 same-length : tie.Need-same-length
 same-length c = search needs
