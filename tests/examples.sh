@@ -9,6 +9,15 @@ for kernel in examples/*.kernel; do
     cmp "$built/listing" "${kernel%.kernel}.listing"
 done
 
+# the end of the schedule for four lanes, on both machines
+for machine in source tso; do
+    target/bin/lanerun examples/four-lanes.kernel $machine examples/four-lanes.moves | sed -n '/^done /,$p' > "$built/end"
+    { sed "1,/^four-lanes.moves $machine\$/d; /^four-lanes.moves /,\$d" crates/vectors/stdout; echo ran; } |
+        cmp "$built/end" -
+done
+
+(cd reference && cargo run --release --offline --quiet --bin listings -- ../target/bin/lanetext 1000 1)
+
 rt staticlib lanes > "$built/log" || { cat "$built/log"; exit 1; }
 cc -std=c99 -Wall -Wextra -Wpedantic -Werror -O2 examples/translate.c target/staticlib/liblanes.a -o "$built/translate"
 "$built/translate" examples/*.kernel > "$built/translated"

@@ -11,4 +11,11 @@ cargo run --release --offline --quiet --bin vectors -- "$made/vectors"
 for part in data args stdout; do
     diff -r "$made/vectors/$part" "../crates/vectors/$part"
 done
-echo "vectors: kernels, schedules and expected output as the reference has them"
+mkdir "$made/examples"
+cargo run --release --offline --quiet --bin kernels -- "$made/examples" listing
+for file in "$made"/examples/*; do
+    cmp "$file" "../examples/${file##*/}"
+done
+cargo build --release --offline --quiet --bin translated
+(cd .. && target/reference/release/translated examples/*.kernel) | cmp - ../examples/translate.expected
+echo "vectors and examples: kernels, schedules and expected output as the reference has them"

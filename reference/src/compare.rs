@@ -1,6 +1,6 @@
 //! Holds calls of the C interface to the slow implementation: answers, output buffers, and the bytes around them.
 
-use crate::random::{self, Random};
+use crate::random::{self, Case, Cases, Random};
 use crate::slow::{self, STATE, machines::Machine};
 use crate::{Lower, Run, fast};
 use std::collections::BTreeMap;
@@ -45,12 +45,11 @@ impl fmt::Display for Tally {
 /// Tries random cases from a seed and says what was compared, or the first difference.
 pub fn compare(arguments: &Arguments, calls: &Calls) -> Result<Tally, String> {
     let mut tally = Tally::default();
-    for case in 0..arguments.cases {
-        let mut random = Random::new(arguments.seed.wrapping_mul(1_000_003).wrapping_add(case));
-        let file = random::kernel(&mut random);
-        let told = |difference| format!("case {case}: {difference}\nkernel {}", hex(&file));
-        tally.try_lowering(&mut random, calls, &file).map_err(told)?;
-        tally.try_runs(&mut random, calls, &file).map_err(told)?;
+    let cases = Cases::new(arguments.seed);
+    for number in 0..arguments.cases {
+        let mut case = cases.case(number);
+        let tried = tally.try_lowering(&mut case, calls).and_then(|()| tally.try_runs(&mut case, calls));
+        tried.map_err(|difference| format!("case {number}: {difference}\nkernel {}", hex(&case.file)))?;
         tally.cases += 1;
     }
     Ok(tally)
@@ -87,7 +86,8 @@ pub fn report(who: &str, compared: Result<Tally, String>) -> ExitCode {
 }
 
 impl Tally {
-    fn try_lowering(&mut self, random: &mut Random, calls: &Calls, file: &[u8]) -> Result<(), String> {
+    fn try_lowering(&mut self, case: &mut Case, calls: &Calls) -> Result<(), String> {
+        let Case { file, random, .. } = case;
         let mut lent_file = Lent::holding(file);
         for (level, lower) in [(1, calls.lower1), (2, calls.lower2)] {
             let result = slow::lowered(level, file);
@@ -103,23 +103,21 @@ impl Tally {
         Ok(())
     }
 
-    fn try_runs(&mut self, random: &mut Random, calls: &Calls, file: &[u8]) -> Result<(), String> {
+    fn try_runs(&mut self, case: &mut Case, calls: &Calls) -> Result<(), String> {
+        let Case { file, random, schedules, .. } = case;
         let mut lent_file = Lent::holding(file);
-        let lanes = file.first().map_or(1, |lanes| usize::from(*lanes).clamp(1, 4));
-        let machines = [Machine::Source, Machine::Tso].into_iter().zip(calls.runs.iter().flatten());
-        // an accepted kernel gets several schedules
-        let schedules = if slow::kernel::check(file).is_ok() { 3 } else { 1 };
-        for (machine, run) in machines.flat_map(|pair| vec![pair; schedules]) {
-            let moves = random::schedule(random, lanes, file.len() / 12, machine.highest_choice());
-            let mut lent_moves = Lent::holding(&moves);
+        let Some([source, tso]) = calls.runs else { return Ok(()) };
+        for (machine, moves) in schedules {
+            let (machine, run) = (*machine, if *machine == Machine::Source { source } else { tso });
+            let mut lent_moves = Lent::holding(moves);
             for room in [0, STATE - 1, STATE, STATE + 1 + random.below(100)] {
-                let expected = |out: &mut [u8]| slow::run(machine, file, &moves, out);
+                let expected = |out: &mut [u8]| slow::run(machine, file, moves, out);
                 let given = |out: &mut [u8]| run(lent_file.buffer(), lent_moves.buffer(), out);
                 self.alike(random.byte(), room, expected, given)
                     .and_then(|()| lent_file.still(file))
-                    .and_then(|()| lent_moves.still(&moves))
+                    .and_then(|()| lent_moves.still(moves))
                     .map_err(|difference| {
-                        format!("run {machine:?}, {room} bytes of room: {difference}\nmoves {}", hex(&moves))
+                        format!("run {machine:?}, {room} bytes of room: {difference}\nmoves {}", hex(moves))
                     })?;
             }
         }

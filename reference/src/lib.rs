@@ -1,6 +1,7 @@
 //! Reference for paper 01: a slow and a fast implementation, and what tests and measures them and the library.
 
 pub mod compare;
+pub mod examples;
 pub mod fast;
 #[cfg(feature = "library")]
 pub mod library;

@@ -1,12 +1,15 @@
 //! Deterministic random numbers (splitmix64) for random kernels and schedules: the same seed gives the same cases.
 
+mod cases;
+mod edges;
 mod faults;
 mod kernels;
 mod schedules;
 
-pub use faults::kernel;
+pub use cases::{Case, Cases};
+pub use edges::Edge;
 pub use kernels::{draft_of, numbered};
-pub use schedules::{long_schedule, schedule};
+pub use schedules::long_schedule;
 
 pub struct Random(u64);
 

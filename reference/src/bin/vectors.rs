@@ -1,11 +1,17 @@
 //! Program: writes the data, arguments and expected output of the program `vectors`, by slow. Argument: its folder.
 
+use reference::examples;
 use reference::litmus::assembler::assemble;
 use reference::litmus::rows::rows;
 use reference::slow::machines::Machine;
 use reference::slow::{self, STATE};
+use std::collections::BTreeMap;
 use std::path::Path;
 use std::{env, fs};
+
+/// The example of four lanes and the schedule that is shipped with it.
+const FOUR_LANES: &str = "four-lanes";
+const FOUR_LANES_MOVES: &str = include_str!("../../../examples/four-lanes.moves");
 
 /// Rows of the litmus tables, under their first set of volatile locations and under their last.
 const LITMUS: [&str; 12] = ["SB", "MP", "LB", "S", "R", "2+2W", "CoRR", "n5", "WRC", "IRIW", "lock-SB", "SB+mfences"];
@@ -20,15 +26,16 @@ fn main() -> Result<(), String> {
         expected.push_str(&format!("{name} {}\n", lowered(&file)));
         arguments.extend([name, "-".to_string()]);
     }
-    for lanes in 2..=4 {
-        write(&format!("data/{lanes}-lanes.moves"), moves_text(lanes).as_bytes())?;
+    for (schedule, text) in schedules() {
+        write(&format!("data/{schedule}"), text.as_bytes())?;
     }
-    for (name, file) in litmus()? {
-        let schedule = format!("{}-lanes.moves", file[0]);
+    for (name, file, schedule) in runs()? {
+        let text = &schedules()[&schedule];
+        let moves = examples::moves(text).ok_or_else(|| format!("{schedule} has a line that is no move"))?;
         write(&format!("data/{name}"), &file)?;
         expected.push_str(&format!("{name} {}\n", lowered(&file)));
         for (machine, word) in [(Machine::Source, "source"), (Machine::Tso, "tso")] {
-            expected.push_str(&format!("{schedule} {word}\n{}", ran(machine, &file)));
+            expected.push_str(&format!("{schedule} {word}\n{}", ran(machine, &file, &moves)));
         }
         arguments.extend([name, schedule]);
     }
@@ -59,29 +66,38 @@ fn examples() -> Result<Vec<(String, Vec<u8>)>, String> {
     Ok(files.map(|(name, file)| (format!("{name}.kernel"), file)).to_vec())
 }
 
-fn litmus() -> Result<Vec<(String, Vec<u8>)>, String> {
+/// Kernels that are run: name, file, name of the schedule.
+fn runs() -> Result<Vec<(String, Vec<u8>, String)>, String> {
     let rows = rows()?;
     let mut files = Vec::new();
+    let mut litmus = |name: String, file: Vec<u8>| {
+        let schedule = format!("{}-lanes.moves", file[0]);
+        files.push((name, file, schedule));
+    };
     for name in LITMUS {
         let row = rows.iter().find(|row| row.name == name).ok_or_else(|| format!("no row {name}"))?;
         let (first, last) = (row.masks[0], row.masks[row.masks.len() - 1]);
-        files.push((format!("{name}.kernel"), row.assembled.file(first)));
+        litmus(format!("{name}.kernel"), row.assembled.file(first));
         if last != first {
-            files.push((format!("{name}-volatile.kernel"), row.assembled.file(last)));
+            litmus(format!("{name}-volatile.kernel"), row.assembled.file(last));
         }
     }
+    let kernels = examples::kernels();
+    let (name, file) = kernels.into_iter().find(|(name, _)| *name == FOUR_LANES).ok_or("no example of four lanes")?;
+    files.push((format!("{name}.kernel"), file, format!("{name}.moves")));
     Ok(files)
 }
 
-/// Stores pile up, then go to memory, three times over: lane and choice.
-fn moves(lanes: u8) -> Vec<(u8, u8)> {
-    let round = |choice: u8, times: usize| (0..lanes).map(move |lane| (lane, choice)).collect::<Vec<_>>().repeat(times);
-    [round(0, 4), round(1, 4)].concat().repeat(3)
+/// The texts of schedules by name.
+fn schedules() -> BTreeMap<String, String> {
+    let in_turn = (2..=4).map(|lanes| (format!("{lanes}-lanes.moves"), moves_text(lanes)));
+    in_turn.chain([(format!("{FOUR_LANES}.moves"), FOUR_LANES_MOVES.to_string())]).collect()
 }
 
+/// Stores pile up, then go to memory, three times over.
 fn moves_text(lanes: u8) -> String {
-    let lines: String = moves(lanes).iter().map(|(lane, choice)| format!("{lane} {choice}\n")).collect();
-    format!("# {lanes} lanes in turn: instructions, then commits\n{lines}")
+    let round = |choice: u8| (0..lanes).map(|lane| format!("{lane} {choice}\n")).collect::<String>().repeat(4);
+    format!("# {lanes} lanes in turn: instructions, then commits\n{}", (round(0) + &round(1)).repeat(3))
 }
 
 fn lowered(file: &[u8]) -> String {
@@ -94,10 +110,9 @@ fn lowered(file: &[u8]) -> String {
 }
 
 /// The end of a run as the library's programs tell it.
-fn ran(machine: Machine, file: &[u8]) -> String {
-    let bytes: Vec<u8> = moves(file[0]).iter().flat_map(|(lane, choice)| [*lane, *choice]).collect();
+fn ran(machine: Machine, file: &[u8], moves: &[u8]) -> String {
     let mut state = [0; STATE];
-    assert_eq!(slow::run(machine, file, &bytes, &mut state), STATE as u64);
+    assert_eq!(slow::run(machine, file, moves, &mut state), STATE as u64);
     let word = |at: usize| u32::from_le_bytes([state[at], state[at + 1], state[at + 2], state[at + 3]]);
     let words = |from: usize, count: usize| (0..count).map(|i| format!(" {}", word(from + 4 * i))).collect::<String>();
     let locks: String = state[4..4 + usize::from(file[2])].iter().map(|lock| format!(" {lock}")).collect();

@@ -5,13 +5,13 @@ use super::kernels::{draft, draft_of, valid};
 use crate::slow::kernel::{LOCK, SKIP, UNLOCK};
 use crate::writer::Step;
 
-/// Half of the files are valid.
+/// Five in eight of the files are valid.
 pub fn kernel(random: &mut Random) -> Vec<u8> {
     match random.below(16) {
-        0..8 => valid(random),
-        8..11 => damaged(random),
-        11 => anywhere(random),
-        12..14 => locked(random),
+        0..10 => valid(random),
+        10..12 => damaged(random),
+        12 => anywhere(random),
+        13 => locked(random),
         14 => long(random),
         _ => garbage(random),
     }

@@ -2,19 +2,20 @@
 
 use super::Random;
 
-/// A schedule for a machine whose highest choice is `highest`; about one in four has a fault.
+/// A schedule for a machine whose highest choice is `highest`; about one in four has a fault, most of them the smallest.
 pub fn schedule(random: &mut Random, lanes: usize, records: usize, highest: u8) -> Vec<u8> {
     let mut moves = valid_schedule(random, lanes, records, highest);
-    match random.below(12) {
-        0 if !moves.is_empty() => {
-            let at = random.below(moves.len() / 2) * 2;
-            moves[at] = random.pick(&[lanes as u8, 4, 255]).max(lanes as u8);
-        }
-        1 if !moves.is_empty() => {
-            let at = random.below(moves.len() / 2) * 2 + 1;
-            moves[at] = random.pick(&[highest + 1, 65, 255]);
-        }
-        2 => moves.push(random.below(2) as u8),
+    let beyond = lanes as u8;
+    let count = moves.len() / 2;
+    let anywhere = random.below(count.max(1));
+    let at = 2 * random.pick(&[0, count.saturating_sub(1), anywhere]);
+    match random.below(16) {
+        0 if !moves.is_empty() => moves[at] = beyond,
+        1 if !moves.is_empty() => moves[at] = random.pick(&[4, 5, 255]).max(beyond),
+        2 if !moves.is_empty() => moves[at + 1] = highest + 1,
+        3 if !moves.is_empty() => moves[at + 1] = random.pick(&[65, 66, 255]),
+        4 => moves.push(random.below(2) as u8),
+        5 => moves.extend([beyond - 1, highest]),
         _ => {}
     }
     moves
@@ -28,7 +29,8 @@ pub fn long_schedule(random: &mut Random, lanes: usize, count: usize, highest: u
 fn valid_schedule(random: &mut Random, lanes: usize, records: usize, highest: u8) -> Vec<u8> {
     let count = match random.below(8) {
         0 => 0,
-        1 | 2 => random.below(20),
+        1 => random.below(20),
+        2 => return piled_schedule(random, lanes, records, highest),
         3..7 => random.below(3 * records + 8),
         _ => random.below(2000),
     };
@@ -43,6 +45,16 @@ fn valid_schedule(random: &mut Random, lanes: usize, records: usize, highest: u8
             _ => 0,
         };
         moves.extend([random.below(lanes) as u8, choice]);
+    }
+    moves
+}
+
+/// Each lane carries out all it can, so that its list is as long as it gets, then commits from the far end.
+fn piled_schedule(random: &mut Random, lanes: usize, records: usize, highest: u8) -> Vec<u8> {
+    let mut moves = Vec::new();
+    for lane in 0..lanes as u8 {
+        moves.extend([lane, 0].repeat(records.min(64) + random.below(3)));
+        moves.extend([lane, highest, lane, random.below(usize::from(highest)) as u8 + 1]);
     }
     moves
 }

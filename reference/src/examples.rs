@@ -1,0 +1,54 @@
+//! The example kernels, in the notation of the litmus tables, and the text of schedules.
+
+use crate::litmus::assembler::assemble;
+
+const STORE_BUFFERING: &str = "r0=1; x=r0; r1=y ‖ r0=1; y=r0; r1=x";
+
+const SIXTEEN: &str = "x0 x1 x2 x3 x4 x5 x6 x7 x8 x9 x10 x11 x12 x13 x14 x15";
+
+/// Locks 1 to 3, sums beyond 2^32, register 7, volatile locations from 8 up; lanes 2 and 3 skip and store.
+const FOUR_LANES: &str = "lock l1; r7=4294967295; x8=r7; r6=x15; unlock l1 \
+    ‖ r1=2147483648; r2=2147483649; r1+=r2; x9=r1; x10=r2; lock l1; r5=x8; unlock l1; skip r5 end; x0=r5 \
+    ‖ r7=4294967294; r3=x10; skip r3 D; r4=3000000000; r4+=r4; D:; lock l2; x12=r4; x13=r7; x14=r3; unlock l2; r5=x13 \
+    ‖ r7=2147483647; skip r0 A; r7=0; A:; lock l3; x15=r7; x11=r7; unlock l3; r6=x15; skip r6 end; x8=r6";
+
+/// Name, locations, volatile ones, lanes.
+const EXAMPLES: [(&str, &str, &str, &str); 7] = [
+    ("store-buffering-mask-3", "x y", "{x y}", STORE_BUFFERING),
+    ("store-buffering-mask-1", "x y", "{x}", STORE_BUFFERING),
+    ("store-buffering-mask-0", "x y", "{}", STORE_BUFFERING),
+    ("message-passing", "data flag", "{flag}", "data=5; flag=1 ‖ r0=flag; skip r0 end; r1=data"),
+    ("lock-hand-over", "x", "{}", "lock l; x=1; unlock l ‖ lock l; r0=x; unlock l"),
+    ("skip-over-volatile-load", "x y z", "{x y}", "r1=z; x=1; skip r1 D; r2=y; D:; r3=y ‖ y=1; z=1"),
+    ("four-lanes", SIXTEEN, "{x8 x10 x13 x15}", FOUR_LANES),
+];
+
+/// The examples' kernel files by name.
+pub fn kernels() -> Vec<(&'static str, Vec<u8>)> {
+    let valid = EXAMPLES.map(|(name, locations, volatile, lanes)| {
+        let assembled = assemble(locations, lanes).expect("an example keeps the notation");
+        let mask = assembled.mask(volatile).expect("an example names its own locations");
+        (name, assembled.file(mask))
+    });
+    valid.into_iter().chain([("damaged", damaged())]).collect()
+}
+
+/// Store buffering whose third record is chained to itself: the paper's `refused 5 record 3`.
+fn damaged() -> Vec<u8> {
+    let mut file = assemble("x y", STORE_BUFFERING).expect("an example keeps the notation").file(3);
+    file[16 + 12 * 2 + 10] = 3;
+    file
+}
+
+/// The moves of a schedule's text, as bytes from C: a line has lane and choice, and `#` begins a comment.
+pub fn moves(text: &str) -> Option<Vec<u8>> {
+    let mut moves = Vec::new();
+    for line in text.lines().map(|line| line.split('#').next().unwrap_or("")) {
+        match line.split_whitespace().collect::<Vec<_>>()[..] {
+            [] => {}
+            [lane, choice] => moves.extend([lane.parse::<u8>().ok()?, choice.parse().ok()?]),
+            _ => return None,
+        }
+    }
+    Some(moves)
+}

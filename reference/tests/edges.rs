@@ -1,0 +1,109 @@
+//! Tests: the first 2,000 cases of seed 1 have every edge, and each edge is answered as its rule says.
+
+use reference::random::{Case, Cases};
+use reference::slow::kernel::{Kernel, Refusal, check};
+use reference::slow::machines::{Machine, Program, Turn};
+use std::collections::BTreeMap;
+
+const CASES: u64 = 2000;
+
+fn for_each_case(cases: &Cases, tell: impl FnMut(Case)) {
+    (0..CASES).map(|number| cases.case(number)).for_each(tell);
+}
+
+#[test]
+fn every_kernel_edge() {
+    let cases = Cases::new(1);
+    let mut met: BTreeMap<&str, usize> = cases.edges().iter().map(|edge| (edge.name.as_str(), 0)).collect();
+    assert_eq!(met.len(), cases.edges().len(), "two edges have one name");
+    for number in 0..CASES {
+        let case = cases.case(number);
+        let Some((edge, record)) = case.edge else { continue };
+        let expected = (edge.refusal != 0).then_some(Refusal { number: edge.refusal, record });
+        assert_eq!(check(&case.file).err(), expected, "{} in case {number}", edge.name);
+        *met.get_mut(edge.name.as_str()).unwrap() += 1;
+    }
+    let missing: Vec<_> = met.iter().filter(|(_, count)| **count == 0).collect();
+    assert!(missing.is_empty(), "{missing:?}");
+}
+
+/// What a schedule is at the edge of, if it breaks one rule at most.
+fn schedule_edges(machine: Machine, lanes: u8, moves: &[u8]) -> Vec<&'static str> {
+    let highest = machine.highest_choice();
+    let (pairs, odd) = moves.as_chunks::<2>();
+    let broken: Vec<usize> = (0..pairs.len()).filter(|at| pairs[*at][0] >= lanes || pairs[*at][1] > highest).collect();
+    let last = pairs.len().saturating_sub(1);
+    match (&broken[..], odd) {
+        ([], []) => {
+            let lane = pairs.iter().any(|[lane, _]| *lane == lanes - 1).then_some("lane T - 1");
+            let choice = pairs.iter().any(|[_, choice]| *choice == highest).then_some("highest choice");
+            let none = pairs.is_empty().then_some("no move");
+            [lane, choice, none].into_iter().flatten().collect()
+        }
+        ([], [_]) if pairs.is_empty() => vec!["one byte"],
+        ([], [_]) => vec!["odd byte"],
+        ([at], []) => {
+            let kind = match pairs[*at] {
+                [lane, choice] if lane == lanes && choice <= highest => "lane T",
+                [lane, choice] if lane < lanes && choice == highest + 1 => "choice above the highest",
+                _ => return vec!["far beyond"],
+            };
+            let place = if *at == 0 { "fault in the first move" } else { "fault in a later move" };
+            vec![kind, place, if *at == last { "fault in the last move" } else { "fault in an earlier move" }]
+        }
+        _ => vec![],
+    }
+}
+
+#[test]
+fn every_schedule_edge() {
+    for machine in [Machine::Source, Machine::Tso] {
+        let mut met: BTreeMap<&str, usize> = BTreeMap::new();
+        for_each_case(&Cases::new(1), |case| {
+            if check(&case.file).is_err() {
+                return;
+            }
+            for (_, moves) in case.schedules.iter().filter(|(own, _)| *own == machine) {
+                for edge in schedule_edges(machine, case.file[0], moves) {
+                    *met.entry(edge).or_default() += 1;
+                }
+            }
+        });
+        let rare: Vec<_> = met.iter().filter(|(_, count)| **count < 5).collect();
+        assert!(met.len() == 12 && rare.is_empty(), "{machine:?}: {met:?}");
+    }
+}
+
+/// The highest choice of the source machine that a schedule's moves carried out, and the longest list.
+fn reached(kernel: &Kernel, moves: &[u8]) -> (u8, usize) {
+    let program = Program::new(Machine::Source, kernel);
+    let (mut state, mut choice, mut list) = (program.start(), 0, 0);
+    for [lane, chosen] in moves.as_chunks::<2>().0 {
+        if let Turn::Done(next, _) = program.turn(&state, usize::from(*lane), usize::from(*chosen)) {
+            state = next;
+            choice = choice.max(*chosen);
+            list = list.max(state.lanes[usize::from(*lane)].pending.len());
+        }
+    }
+    (choice, list)
+}
+
+#[test]
+fn a_full_list_and_its_64th_entry() {
+    let (mut full, mut committed) = (0, 0);
+    for_each_case(&Cases::new(1), |case| {
+        let Ok(kernel) = check(&case.file) else { return };
+        let lawful =
+            |moves: &[u8]| moves.as_chunks::<2>().0.iter().all(|[lane, choice]| *lane < case.file[0] && *choice <= 64);
+        if case.edge.is_none() || !kernel.chains.iter().any(|chain| chain.len() == 64) {
+            return;
+        }
+        for (_, moves) in case.schedules.iter().filter(|(machine, moves)| *machine == Machine::Source && lawful(moves))
+        {
+            let (choice, list) = reached(&kernel, moves);
+            full += usize::from(list == 64);
+            committed += usize::from(choice == 64);
+        }
+    });
+    assert!(full > 0 && committed > 0, "{full} full lists, {committed} commits of a 64th entry");
+}
