@@ -57,8 +57,9 @@ loop-less c = omega arith
 
 loop-again : tie.Need-loop-again Inv-loop μ-loop
 loop-again c =
-    let l = c .before .before .before .before .before .before .before .before .before .before .before .loop in
-    (omega arith, omega arith, one-more (l .inv .2) _ (c .before .before .before .before .before .before .fold-move .ensures))
+    let folded = c .before .before .before .before .before .before in
+    let l = folded .before .before .before .before .before .loop in
+    (omega arith, omega arith, one-more (l .inv .2) _ (folded .fold-move .ensures))
 
 returns : tie.Need-returns Inv-loop μ-loop
 returns c = tt
