@@ -35,9 +35,10 @@ use Rattle.machine_moves.specs.Turns.{Fresh}
 use Rattle.machine_moves.proofs.moves.run_moves.Key.{name as #run-moves}
 use Rattle.machine_moves.proofs.moves.run_moves as run-moves
 use Rattle.machine_moves.proofs.moves.run_moves.Statement as stated
-use Rattle.machine_moves.proofs.moves.run_moves.Proof.Call.{R₀, R, slot₀, slot, stayed, Fold}
+use Rattle.machine_moves.proofs.moves.run_moves.Proof.Call.{slot₀, slot, stayed, Fold}
 use Rattle.machine_moves.proofs.moves.run_moves.Code as code
 use Rattle.machine_moves.proofs.moves.run_moves.Proof.Walk.{walk}
+use Rattle.machine_moves.proofs.Laws.Arrays.{R₀, R}
 
 module _ {M : Type 1} (𝓤 : URA M) (H : Heap 𝓤) (A : Atoms 𝓤) (W : Given 𝓤 H A) (mem : Memory → SProp 𝓤)
     (run : Routine → Fun 𝓤) (𝓣 : Tables 𝓤 H) (known : Triple 𝓤 (𝓣 .C #fold-move) (Fold 𝓤 H A mem run)) where

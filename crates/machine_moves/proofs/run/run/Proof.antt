@@ -1,7 +1,6 @@
--- `machine_moves::run::run` meets its contract: Walk walks its MIR, by hand, with its locals, the arrays in memory, the
--- calls and the body in files of their own.
+-- `machine_moves::run::run` meets its contract: Walk walks its MIR, by hand, with its locals, its calls and its
+-- body in files of their own.
 mod Locals
-mod Arrays
 mod Calls
 mod Body
 mod Walk

@@ -53,10 +53,11 @@ use Rattle.machine_course.proofs.fold.fold_move as fold-move
 use Rattle.machine_course.proofs.fold.fold_move.Symbol.{name as #fold-move}
 use Rattle.machine_moves.specs.Turns.{Fresh}
 use Rattle.machine_moves.proofs.Laws.Schedules.{Made, Moves, made-more, made-standing}
-use Rattle.machine_moves.proofs.moves.run_moves.Proof.Call.{R₀, R, rowsTy, slice, refTy, refE, word, run′, move′}
-use Rattle.machine_moves.proofs.moves.run_moves.Proof.Call.{msOf, runOf, refTo, Own₀, Own, Ref, Fold, at, Post}
+use Rattle.machine_moves.proofs.moves.run_moves.Proof.Call.{rowsTy, slice, refTy, refE, word, run′, move′}
+use Rattle.machine_moves.proofs.moves.run_moves.Proof.Call.{runOf, Own₀, Own, Ref, Fold, Post}
 use Rattle.machine_moves.proofs.moves.run_moves.Proof.Call.{exits, to, asked}
 use Rattle.machine_moves.proofs.moves.run_moves.Code.Mir.{turn-1, t-3}
+use Rattle.machine_moves.proofs.Laws.Arrays.{R₀, R, refTo, sliceOf}
 
 abbrev none : Move
 none = record { lane = 0; choice = 0 }
@@ -104,7 +105,7 @@ module _ {M : Type 1} (𝓤 : URA M) (H : Heap 𝓤) (A : Atoms 𝓤) (W : Given
       ‵ (flft κ q) ∷ ‵ (flft κ′ q′) ∷ ‵ (Ref κ′ (st γ′ z)) ∷ ‵ (fat fullShare word l₅ 0 (vint w64 i))
       ∷ ‵ (froom move′ l₆ 0) ∷ ‵ (froom word l₇ 0) ∷ ‵ (froom tyBool l₈ 0) ∷ ‵ (froom tyPtr l₉ 0) ∷ ‵
       (froom move′ l₁₀ 0)
-      ∷ ‵ (fat fullShare run′ l₃ 0 u) ∷ ‵ (froom refE l₁₁ 0) ∷ ‵ (Own κ ms) ∷ ‵ (fat fullShare slice l₂ 0 (msOf ms))
+      ∷ ‵ (fat fullShare run′ l₃ 0 u) ∷ ‵ (froom refE l₁₁ 0) ∷ ‵ (Own κ ms) ∷ ‵ (fat fullShare slice l₂ 0 (sliceOf ms))
       ∷ ‵ (fat fullShare refTy l₄ 0 (vptr b′ o′)) ∷ ‵ (froom run′ l₀ 0) ∷ ‵ (flft κ₀ q₀) ∷ ‵ (Own₀ κ₀ rs)
       ∷ ‵ (fat fullShare rowsTy l₁ 0 (vptr b₀ o₀)) ∷ ‵ (fdies run′ l₀) ∷ ‵ (fdies rowsTy l₁) ∷ ‵ (fdies slice l₂)
       ∷ ‵ (fdies run′ l₃) ∷ ‵ (fdies refTy l₄) ∷ ‵ (fdies word l₅) ∷ ‵ (fdies move′ l₆) ∷ ‵ (fdies word l₇)
@@ -190,7 +191,7 @@ module _ {M : Type 1} (𝓤 : URA M) (H : Heap 𝓤) (A : Atoms 𝓤) (W : Given
         rewrite ! 7 (λ (p : ℕ). ‵ (fat fullShare tyPtr l₉ 0 (vptr b p))) (sym (place-is 2 o i)) refl $
         move ! (11 ∷ []) $
         use1 W (‵ (Own κ ms) ⊛ ‵ (Own κ ms))
-        (shr-slice-copy 𝓤 H A W (named 1) κ Mv.the-row .twice ms (msOf ms ∷ [])) $ split ! $
+        (shr-slice-copy 𝓤 H A W (named 1) κ Mv.the-row .twice ms (sliceOf ms ∷ [])) $ split ! $
         fsplit ! $ toss ! $ fsplit ! $ toss ! $ move ! (0 ∷ 2 ∷ []) $
         looks-slice ! tt Mv.the-row (Is Mv.the-row) (shows 𝓤 H A Mv.the-row) (LL.vals Mv.the-type Mv′.the-laws)
         (LL.tells Mv.the-type Mv′.the-laws) (LL.copy Mv.the-type Mv′.the-copy 𝓤 H A W) ys b o (λ t.

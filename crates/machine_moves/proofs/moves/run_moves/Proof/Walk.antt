@@ -37,11 +37,12 @@ use Rattle.machine_course.proofs.course.Course.Laws as T′
 use Rattle.machine_course.proofs.fold.fold_move.Symbol.{name as #fold-move}
 use Rattle.machine_moves.specs.Turns.{Fresh}
 use Rattle.machine_moves.proofs.moves.run_moves as run-moves
-use Rattle.machine_moves.proofs.moves.run_moves.Proof.Call.{R₀, R, rowsTy, slice, refTy, refE, word, run′, move′}
-use Rattle.machine_moves.proofs.moves.run_moves.Proof.Call.{msOf, runOf, refTo, Fold, at, Post}
+use Rattle.machine_moves.proofs.moves.run_moves.Proof.Call.{rowsTy, slice, refTy, refE, word, run′, move′}
+use Rattle.machine_moves.proofs.moves.run_moves.Proof.Call.{runOf, Fold, at, Post}
 use Rattle.machine_moves.proofs.moves.run_moves.Code as code
 use Rattle.machine_moves.proofs.moves.run_moves.Code.Mir.{t-1}
 use Rattle.machine_moves.proofs.moves.run_moves.Proof.Loop.{locals, loops}
+use Rattle.machine_moves.proofs.Laws.Arrays.{R₀, R, refTo, sliceOf}
 
 module _ {M : Type 1} (𝓤 : URA M) (H : Heap 𝓤) (A : Atoms 𝓤) (W : Given 𝓤 H A) (mem : Memory → SProp 𝓤)
     (run : Routine → Fun 𝓤) (κ₀ κ κ′ : Lft) (q₀ q q′ : Share) (b₀ o₀ : ℕ) (γ₀ : GName) (rows : List ℕ) (b o : ℕ)
@@ -84,7 +85,7 @@ module _ {M : Type 1} (𝓤 : URA M) (H : Heap 𝓤) (A : Atoms 𝓤) (W : Given
         ∷ ‵ (fdies tyPtr l₉) ∷ ‵ (froom tyBool l₈ 0) ∷ ‵ (fdies tyBool l₈) ∷ ‵ (froom word l₇ 0) ∷ ‵ (fdies word l₇)
         ∷ ‵ (froom move′ l₆ 0) ∷ ‵ (fdies move′ l₆) ∷ ‵ (froom word l₅ 0) ∷ ‵ (fdies word l₅)
         ∷ ‵ (fat fullShare refTy l₄ 0 (vptr b′ o′)) ∷ ‵ (fdies refTy l₄) ∷ ‵ (fat fullShare run′ l₃ 0 (runOf y))
-        ∷ ‵ (fdies run′ l₃) ∷ ‵ (fat fullShare slice l₂ 0 (msOf ms)) ∷ ‵ (fdies slice l₂)
+        ∷ ‵ (fdies run′ l₃) ∷ ‵ (fat fullShare slice l₂ 0 (sliceOf ms)) ∷ ‵ (fdies slice l₂)
         ∷ ‵ (fat fullShare rowsTy l₁ 0 (vptr b₀ o₀)) ∷ ‵ (fdies rowsTy l₁) ∷ ‵ (froom run′ l₀ 0) ∷ ‵ (fdies run′ l₀) ∷
         Handed
 
@@ -105,10 +106,10 @@ module _ {M : Type 1} (𝓤 : URA M) (H : Heap 𝓤) (A : Atoms 𝓤) (W : Given
       → Is T.the-row y (runOf y ∷ []) → Fresh rows y h
       → ent 𝓤 (onEntry 𝓤 H A run-moves.signature (κ₀, (κ, (κ′, tt))) (q₀, (q, (q′, tt)))
       (rs, (ms, (y, (st γ′ h, tt)))) passing)
-      (WpFn 𝓤 H (𝓣 .C) (𝓣 .Λ) code.function (vptr b₀ o₀ ∷ msOf ms ∷ runOf y ∷ vptr b′ o′ ∷ []) Ends)
+      (WpFn 𝓤 H (𝓣 .C) (𝓣 .Λ) code.function (vptr b₀ o₀ ∷ sliceOf ms ∷ runOf y ∷ vptr b′ o′ ∷ []) Ends)
   walk 𝓣 known g isy fresh =
       qed W Handed ∵
-      enter ! (𝓣 .C) (𝓣 .Λ) code.function (vptr b₀ o₀ ∷ msOf ms ∷ runOf y ∷ vptr b′ o′ ∷ []) _ $
+      enter ! (𝓣 .C) (𝓣 .Λ) code.function (vptr b₀ o₀ ∷ sliceOf ms ∷ runOf y ∷ vptr b′ o′ ∷ []) _ $
       alloc1 ! (λ l₀. alloc1 ! (λ l₁. alloc1 ! (λ l₂. alloc1 ! (λ l₃. alloc1 ! (λ l₄. alloc1 ! (λ l₅. alloc1 ! (λ l₆.
       alloc1 ! (λ l₇. alloc1 ! (λ l₈. alloc1 ! (λ l₉. alloc1 ! (λ l₁₀. alloc1 ! (λ l₁₁. alloc0 ! $ params1 ! $
       pass1 ! (init ! 20 refl (tt, tt)) $

@@ -54,13 +54,14 @@ use Rattle.machine_course.proofs.finish.finish as finish-it
 use Rattle.machine_moves.proofs.moves.run_moves as run-moves
 use Rattle.machine_moves.proofs.run.run.Code.Mir.{t-1, t-3, t-5, t-8, t-11}
 use Rattle.machine_course.specs.Returned.{Answers}
-use Rattle.machine_moves.proofs.run.run.Proof.Locals.{R₀, R, rowsArr, arr, machOf, refTo, sliceOf, Places}
+use Rattle.machine_moves.proofs.run.run.Proof.Locals.{machOf, Places}
 use Rattle.machine_moves.proofs.run.run.Proof.Locals.{locals, standing, Rows, State, noX, noY, hasX, hasY}
-use Rattle.machine_moves.proofs.run.run.Proof.Arrays.{rows-lawful, state-lawful, array-in, rows-out, state-out}
+use Rattle.machine_moves.proofs.Laws.Arrays.{rows-lawful, state-lawful, array-in, rows-out, state-out}
 use Rattle.machine_moves.proofs.run.run.Proof.Calls.{Bytes, Moves, NoRows, NoState, Begin, RunMoves, Finish}
 use Rattle.machine_moves.proofs.run.run.Proof.Calls.{Known, Post, exits, rows-asked, state-asked}
 use Rattle.machine_moves.proofs.run.run.Proof.Calls.{to-begin, begin-asked, to-moves, moves-asked, to-finish}
 use Rattle.machine_moves.proofs.run.run.Proof.Calls.{finish-asked}
+use Rattle.machine_moves.proofs.Laws.Arrays.{R₀, R, rowsArr, arr, refTo, sliceOf}
 
 module _ {M : Type 1} (𝓤 : URA M) (H : Heap 𝓤) (A : Atoms 𝓤) (W : Given 𝓤 H A) (mem : Memory → SProp 𝓤)
     (run : Routine → Fun 𝓤) (κf κ : Lft) (qf q : Share) (m : Machine) (fs : RefT (List ℕ)) (ms : RefT (List Move))

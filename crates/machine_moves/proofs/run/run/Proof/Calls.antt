@@ -56,7 +56,8 @@ use Rattle.machine_moves.proofs.moves.run_moves as run-moves
 use Rattle.machine_moves.proofs.moves.run_moves.Symbol.{name as #run-moves}
 use Rattle.machine_moves.proofs.run.run as run-it
 use Rattle.machine_course.specs.Returned.{Answers}
-use Rattle.machine_moves.proofs.run.run.Proof.Locals.{R₀, R, machOf, refTo, sliceOf}
+use Rattle.machine_moves.proofs.run.run.Proof.Locals.{machOf}
+use Rattle.machine_moves.proofs.Laws.Arrays.{R₀, R, refTo, sliceOf}
 
 abbrev pub stayed : Stays (run-it.ended .signature .params) (run-it.ended .kept)
 stayed = (

@@ -34,10 +34,11 @@ use Rattle.machine_course.proofs.moves.Move as Mv
 use Rattle.machine_moves.proofs.run.run as run-it
 use Rattle.machine_moves.proofs.run.run.Code as code
 use Rattle.machine_moves.proofs.run.run.Code.Mir.{t-1}
-use Rattle.machine_moves.proofs.run.run.Proof.Locals.{rowsArr, arr, machTy, ranTy, run′, bytesTy, slice, rowsM}
-use Rattle.machine_moves.proofs.run.run.Proof.Locals.{rowsI, refM, refI, machOf, sliceOf, Places, locals}
+use Rattle.machine_moves.proofs.run.run.Proof.Locals.{machTy, ranTy, run′, bytesTy, slice, rowsM}
+use Rattle.machine_moves.proofs.run.run.Proof.Locals.{rowsI, refM, refI, machOf, Places, locals}
 use Rattle.machine_moves.proofs.run.run.Proof.Calls.{passing, Known, Post}
 use Rattle.machine_moves.proofs.run.run.Proof.Body.{makes-rows}
+use Rattle.machine_moves.proofs.Laws.Arrays.{rowsArr, arr, sliceOf}
 
 module _ {M : Type 1} (𝓤 : URA M) (H : Heap 𝓤) (A : Atoms 𝓤) (W : Given 𝓤 H A) (mem : Memory → SProp 𝓤)
     (run : Routine → Fun 𝓤) (κf κ : Lft) (qf q : Share) (m : Machine) (fs : RefT (List ℕ)) (ms : RefT (List Move))
