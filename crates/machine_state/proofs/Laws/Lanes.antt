@@ -17,7 +17,8 @@ lane-there s t z h k =
     ∙ map-at (λ b. laneIn (storedIn b)) (take 4 s) t [] idle (omega (arith, length-take 4 s, z .blocks))
     ∙ ap (λ b. laneIn (storedIn b)) (getD-take 4 s t [] (omega arith))
 
-pub lane-in : (s : Held) (t : ℕ) → Sized s → t < countOf s LANES → countOf s LANES ≤ 4 → laneAt (stateIn s) t ≡ laneOf s t
+pub lane-in : (s : Held) (t : ℕ) → Sized s → t < countOf s LANES → countOf s LANES ≤ 4
+    → laneAt (stateIn s) t ≡ laneOf s t
 lane-in s t z h k = lane-there s t z h (omega arith)
 
 -- past the last one stands the idle one

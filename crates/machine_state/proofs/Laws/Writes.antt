@@ -6,13 +6,14 @@ use mathlib.Core.Option.{some}
 use native.Mathlib.Omega.{arith}
 use lib.ListN.{length, getD, take, set, length-set, length-take}
 use lib.Seq.{getD-set-same, getD-set-other, set-getD, set-out, take-set-le, take-suc-set}
-use Rattle.machine_spec.specs.Entries.{appendEntry}
+use Rattle.machine_spec.specs.Entries.{Entry, appendEntry}
 use Rattle.machine_lane.specs.Lanes.{entryOf, entriesOf, laneIn, placedAt, withPending, withRegister}
 use Rattle.machine_lane.proofs.Laws.Entries.{entries-length, entries-set}
 use Rattle.machine_lane.proofs.Laws.Lanes.{lane-eq}
 use Rattle.machine_state.specs.States.{HEAD, CELLS, VALUES, POSITION, LENGTH, firsts}
 use Rattle.machine_state.specs.States.{Held, rowAt, withWord, storedIn, laneOf, Block, Lies, Became}
-use Rattle.machine_state.proofs.Laws.States.{take-set, block-set, word-set, own, block-became, again, became, came}
+use Rattle.machine_state.proofs.Laws.States.{take-set, block-set, word-set}
+use Rattle.machine_state.proofs.Laws.States.{own, block-became, again, became, came}
 
 -- the first n words of a list
 pub first-words : (n : ℕ) (l : List ℕ) → n ≤ length l → firsts n (λ i. getD l i 0) ≡ take n l
@@ -67,23 +68,22 @@ module _ (s : Held) (t : ℕ) (h : Lies s t) where
       became (ap laneIn (head-lane (getD s t []) (set (rowAt s t HEAD) i x) (own s t h .rows)))
       (block-became s t h _ (word-set (getD s t []) HEAD i x (own s t h) (omega arith)))
 
-  entries-of : {m n : ℕ} → m ≡ n
-      → take m (entriesOf (rowAt s t CELLS) (rowAt s t VALUES)) ≡ take n (entriesOf (rowAt s t CELLS) (rowAt s t VALUES))
-  entries-of e = ap (λ n. take n (entriesOf (rowAt s t CELLS) (rowAt s t VALUES))) e
+  abbrev first : ℕ → List Entry
+  first n = take n (entriesOf (rowAt s t CELLS) (rowAt s t VALUES))
 
   pub position-set : (p : ℕ) → Became s t (placedAt (laneOf s t) p) (withWord s t HEAD POSITION p)
   position-set p =
       let w = rowAt s t HEAD in
       let long = own s t h .words HEAD (omega arith) in
       became (lane-eq (getD-set-same w POSITION p 0 (omega (arith, long))) (take-set-le 8 w POSITION p (omega arith))
-      (entries-of (getD-set-other w POSITION LENGTH p 0 (λ e. omega arith))))
+      (ap first (getD-set-other w POSITION LENGTH p 0 (λ e. omega arith))))
       (head-became POSITION p)
 
   pub register-set : (a v : ℕ) → a < 8 → Became s t (withRegister (laneOf s t) a v) (withWord s t HEAD a v)
   register-set a v k =
       let w = rowAt s t HEAD in
       became (lane-eq (getD-set-other w a POSITION v 0 (λ e. omega arith)) (take-set 8 w a v)
-      (entries-of (getD-set-other w a LENGTH v 0 (λ e. omega arith))))
+      (ap first (getD-set-other w a LENGTH v 0 (λ e. omega arith))))
       (head-became a v)
 
   -- no such register

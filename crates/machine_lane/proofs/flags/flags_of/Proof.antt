@@ -53,15 +53,5 @@ returns c =
 
 pub flags-of-spec : {M : Type 1} → statement M
 flags-of-spec =
-    tie.close
-    (tie.spec
-    Inv-loop
-    μ-loop
-    loop-holds
-    cast-flags
-    shr-flags
-    array-write-flags
-    add-x
-    loop-less
-    loop-again
-    returns)
+    tie.close (tie.spec Inv-loop μ-loop loop-holds cast-flags shr-flags array-write-flags add-x loop-less
+    loop-again returns)

@@ -48,4 +48,5 @@ returns c =
     then-became put (became (ap (λ l. placedAt l (a .next)) (put .lane)) (c .go .ensures))
 
 pub issue-spec : {M : Type 1} → statement M
-issue-spec = tie.close (tie.spec take-requires append-requires put-newest-requires go-requires returns)
+issue-spec =
+    tie.close (tie.spec take-requires append-requires put-newest-requires go-requires returns)

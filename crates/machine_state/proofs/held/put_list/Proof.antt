@@ -41,4 +41,5 @@ returns c =
     (again w (a .t) (s .pre) (set (getD w (a .t) []) CELLS (a .lane .cells)) (λ b. set b VALUES (a .lane .values))))
 
 pub put-list-spec : {M : Type 1} → statement M
-put-list-spec = tie.close (tie.spec mul-c index-1-c index-2-c mul-v index-1-v index-2-v put-word-requires returns)
+put-list-spec =
+    tie.close (tie.spec mul-c index-1-c index-2-c mul-v index-1-v index-2-v put-word-requires returns)

@@ -59,4 +59,6 @@ returns c =
     (came written (entry-set w (a .t) (s .pre .0) n _ _ _ last size low))
 
 pub put-newest-spec : {M : Type 1} → statement M
-put-newest-spec = tie.close (tie.spec cast-n sub-n mul-put-word array-read-put-word put-word-requires mul-put-word-2 array-read-put-word-2 put-word-requires-2 put-word-requires-3 returns)
+put-newest-spec =
+    tie.close (tie.spec cast-n sub-n mul-put-word array-read-put-word put-word-requires mul-put-word-2
+    array-read-put-word-2 put-word-requires-2 put-word-requires-3 returns)

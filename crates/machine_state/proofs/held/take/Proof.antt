@@ -52,4 +52,6 @@ returns c =
     }
 
 pub take-spec : {M : Type 1} → statement M
-take-spec = tie.close (tie.spec registers-requires mul-c index-1-c index-2-c mul-v index-1-v index-2-v word-at-requires word-at-requires-2 returns)
+take-spec =
+    tie.close (tie.spec registers-requires mul-c index-1-c index-2-c mul-v index-1-v index-2-v
+    word-at-requires word-at-requires-2 returns)

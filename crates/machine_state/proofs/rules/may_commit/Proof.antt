@@ -45,8 +45,8 @@ returns-2 c =
     let a = s .args in
     let w = a .state .now in
     let v = wordAt w (a .t) VALUES (a .index) in
-    let here = pending-at w (a .t) (a .index) (s .pre .1) ∙ ap (λ x. entryOf x v) (sym (c .before .before .word-at .ensures))
-    in
+    let here = pending-at w (a .t) (a .index) (s .pre .1)
+    ∙ ap (λ x. entryOf x v) (sym (c .before .before .word-at .ensures)) in
     rw (c3 .enum-told .given .1, here, sym (c .before .is-sync .ensures v) ∙ c .if2 .taken)
     (sym (some-older (laneOf w (a .t) .pending) (a .index) (c3 .before .before .if1 .left) (s .pre .1)))
 
@@ -69,4 +69,6 @@ returns-4 c =
     (sym (some-older (laneOf (a .state .now) (a .t) .pending) (a .index) (c .before .before .if1 .left) (s .pre .1)))
 
 pub may-commit-spec : {M : Type 1} → statement M
-may-commit-spec = tie.close (tie.spec returns enum-told word-at-requires is-sync-requires has-older-requires enum-told-2 returns-2 returns-3 returns-4)
+may-commit-spec =
+    tie.close (tie.spec returns enum-told word-at-requires is-sync-requires has-older-requires enum-told-2
+    returns-2 returns-3 returns-4)

@@ -35,12 +35,5 @@ returns-3 c = search needs
 
 pub may-load-spec : {M : Type 1} → statement M
 may-load-spec =
-    tie.close
-    (tie.spec
-    enum-told
-    is-volatile-requires
-    has-sync-requires
-    enum-told-2
-    returns
-    returns-2
+    tie.close (tie.spec enum-told is-volatile-requires has-sync-requires enum-told-2 returns returns-2
     returns-3)

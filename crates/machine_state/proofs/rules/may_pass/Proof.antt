@@ -48,17 +48,5 @@ returns-5 c =
 
 pub may-pass-spec : {M : Type 1} → statement M
 may-pass-spec =
-    tie.close
-    (tie.spec
-    enum-told
-    enum-told-2
-    enum-told-3
-    enum-told-4
-    enum-told-5
-    enum-told-6
-    count-requires
-    returns
-    returns-2
-    returns-3
-    returns-4
-    returns-5)
+    tie.close (tie.spec enum-told enum-told-2 enum-told-3 enum-told-4 enum-told-5 enum-told-6 count-requires
+    returns returns-2 returns-3 returns-4 returns-5)

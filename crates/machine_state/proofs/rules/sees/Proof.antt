@@ -51,15 +51,5 @@ returns-3 c =
 
 pub sees-spec : {M : Type 1} → statement M
 sees-spec =
-    tie.close
-    (tie.spec
-    enum-told
-    is-volatile-requires
-    take-requires
-    newest-requires
-    enum-told-2
-    take-requires-2
-    newest-requires-2
-    returns
-    returns-2
-    returns-3)
+    tie.close (tie.spec enum-told is-volatile-requires take-requires newest-requires enum-told-2
+    take-requires-2 newest-requires-2 returns returns-2 returns-3)

@@ -77,4 +77,6 @@ returns-2 c =
     sym (past (sameTarget e) (anySame e) refl (λ x r. refl) es (l .i) end) ∙ l .inv .1 v
 
 pub has-older-spec : {M : Type 1} → statement M
-has-older-spec = tie.close (tie.spec Inv-loop μ-loop loop-holds word-at-requires returns add-i loop-less loop-again returns-2)
+has-older-spec =
+    tie.close (tie.spec Inv-loop μ-loop loop-holds word-at-requires returns add-i loop-less loop-again
+    returns-2)

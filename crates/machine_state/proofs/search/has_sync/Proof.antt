@@ -73,4 +73,6 @@ returns-2 c =
     sym (past (isSync f) (anySync f) refl (λ e r. refl) es (l .i) end) ∙ l .inv .1
 
 pub has-sync-spec : {M : Type 1} → statement M
-has-sync-spec = tie.close (tie.spec Inv-loop μ-loop count-requires loop-holds word-at-requires is-sync-requires returns add-i loop-less loop-again returns-2)
+has-sync-spec =
+    tie.close (tie.spec Inv-loop μ-loop count-requires loop-holds word-at-requires is-sync-requires returns
+    add-i loop-less loop-again returns-2)

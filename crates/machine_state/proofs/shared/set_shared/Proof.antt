@@ -17,7 +17,8 @@ returns-2 : tie.Need-returns-2
 returns-2 c =
     let s = c .before in
     let full = s .pre .0 .each SHARED (omega arith) .words (s .args .j) (s .pre .1) in
-    sym (word-past (s .args .state .now) SHARED (s .args .j) (s .args .i) (s .args .value) (omega (arith, full, c .if1 .left)))
+    sym (word-past (s .args .state .now) SHARED (s .args .j) (s .args .i) (s .args .value)
+    (omega (arith, full, c .if1 .left)))
 
 pub set-shared-spec : {M : Type 1} → statement M
 set-shared-spec = tie.close (tie.spec put-word-requires returns returns-2)

@@ -41,4 +41,5 @@ returns-3 c =
     sym (List·getD-eq-default (take n r) 0 (omega (arith, length-take n r, full, c .if1 .left)))
 
 pub shared-at-spec : {M : Type 1} → statement M
-shared-at-spec = tie.close (tie.spec word-at-requires word-at-requires-2 returns returns-2 returns-3)
+shared-at-spec =
+    tie.close (tie.spec word-at-requires word-at-requires-2 returns returns-2 returns-3)

@@ -56,12 +56,5 @@ returns-2 c =
 
 pub load-spec : {M : Type 1} → statement M
 load-spec =
-    tie.close
-    (tie.spec
-    may-load-requires
-    returns
-    memory-at-requires
-    sees-requires
-    next-position-requires
-    write-register-requires
-    returns-2)
+    tie.close (tie.spec may-load-requires returns memory-at-requires sees-requires next-position-requires
+    write-register-requires returns-2)

@@ -32,5 +32,4 @@ returns c =
     (ap (λ e. appendEntry (laneOf w (a .t) .pending) (some e)) entry)) (c .issue .ensures)) _
 
 pub store-spec : {M : Type 1} → statement M
-store-spec =
-    tie.close (tie.spec register-requires next-position-requires issue-requires returns)
+store-spec = tie.close (tie.spec register-requires next-position-requires issue-requires returns)

@@ -105,22 +105,6 @@ returns-8 c =
 
 pub carry-spec : {M : Type 1} → statement M
 carry-spec =
-    tie.close
-    (tie.spec
-    set-requires
-    add-requires
-    load-requires
-    store-requires
-    lock-requires
-    unlock-requires
-    skip-requires
-    barrier-of-requires
-    pass-requires
-    returns
-    returns-2
-    returns-3
-    returns-4
-    returns-5
-    returns-6
-    returns-7
-    returns-8)
+    tie.close (tie.spec set-requires add-requires load-requires store-requires lock-requires unlock-requires
+    skip-requires barrier-of-requires pass-requires returns returns-2 returns-3 returns-4 returns-5
+    returns-6 returns-7 returns-8)

@@ -85,4 +85,6 @@ returns-3 c =
     settled (became (ap₂ withPending (same-lane settled (s .pre .lane)) left) (c .put-list .ensures))
 
 pub commit-spec : {M : Type 1} → statement M
-commit-spec = tie.close (tie.spec count-requires returns may-commit-requires returns-2 take-requires word-at-requires word-at-requires-2 settle-requires commit-requires put-list-requires returns-3)
+commit-spec =
+    tie.close (tie.spec count-requires returns may-commit-requires returns-2 take-requires word-at-requires
+    word-at-requires-2 settle-requires commit-requires put-list-requires returns-3)

@@ -78,15 +78,5 @@ returns-3 c =
 
 pub lock-spec : {M : Type 1} → statement M
 lock-spec =
-    tie.close
-    (tie.spec
-    lock-at-requires
-    returns
-    may-lock-requires
-    returns-2
-    next-position-requires
-    cast-set-lock
-    add-set-lock
-    set-lock-requires
-    go-requires
-    returns-3)
+    tie.close (tie.spec lock-at-requires returns may-lock-requires returns-2 next-position-requires
+    cast-set-lock add-set-lock set-lock-requires go-requires returns-3)

@@ -53,13 +53,5 @@ returns-2 c =
 
 pub unlock-spec : {M : Type 1} → statement M
 unlock-spec =
-    tie.close
-    (tie.spec
-    lock-at-requires
-    cast-if1
-    add-if1
-    returns
-    next-position-requires
-    add-issue
-    issue-requires
-    returns-2)
+    tie.close (tie.spec lock-at-requires cast-if1 add-if1 returns next-position-requires add-issue
+    issue-requires returns-2)

@@ -42,11 +42,5 @@ returns c =
 
 pub add-spec : {M : Type 1} → statement M
 add-spec =
-    tie.close
-    (tie.spec
-    register-requires
-    register-requires-2
-    wrapping-add-u32-requires
-    next-position-requires
-    write-register-requires
-    returns)
+    tie.close (tie.spec register-requires register-requires-2 wrapping-add-u32-requires
+    next-position-requires write-register-requires returns)

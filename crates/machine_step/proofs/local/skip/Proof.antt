@@ -42,11 +42,5 @@ returns-2 c =
 
 pub skip-spec : {M : Type 1} → statement M
 skip-spec =
-    tie.close
-    (tie.spec
-    register-requires
-    go-requires
-    returns
-    next-position-requires
-    go-requires-2
+    tie.close (tie.spec register-requires go-requires returns next-position-requires go-requires-2
     returns-2)

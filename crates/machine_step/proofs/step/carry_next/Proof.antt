@@ -63,13 +63,5 @@ returns-2 c =
 
 pub carry-next-spec : {M : Type 1} → statement M
 carry-next-spec =
-    tie.close
-    (tie.spec
-    position-requires
-    wide-requires
-    returns
-    mul-row-at
-    add-row-at
-    row-at-requires
-    carry-requires
-    returns-2)
+    tie.close (tie.spec position-requires wide-requires returns mul-row-at add-row-at row-at-requires
+    carry-requires returns-2)

@@ -107,25 +107,6 @@ returns c =
 
 pub commit-spec : {M : Type 1} → statement M
 commit-spec =
-    tie.close
-    (tie.spec
-    Inv-loop
-    μ-loop
-    count-requires
-    sub-last
-    loop-holds
-    add-c
-    mul-c
-    array-read-c
-    mul-c-2
-    array-write-c
-    add-v
-    mul-v
-    array-read-v
-    mul-v-2
-    array-write-v
-    add-i
-    loop-less
-    loop-again
-    cast-self
+    tie.close (tie.spec Inv-loop μ-loop count-requires sub-last loop-holds add-c mul-c array-read-c mul-c-2
+    array-write-c add-v mul-v array-read-v mul-v-2 array-write-v add-i loop-less loop-again cast-self
     returns)

@@ -91,18 +91,5 @@ returns-2 c =
 
 pub newest-spec : {M : Type 1} → statement M
 newest-spec =
-    tie.close
-    (tie.spec
-    Inv-loop
-    μ-loop
-    count-requires
-    loop-holds
-    sub-i
-    mul-if1
-    array-read-if1
-    mul-value
-    array-read-value
-    returns
-    loop-less
-    loop-again
-    returns-2)
+    tie.close (tie.spec Inv-loop μ-loop count-requires loop-holds sub-i mul-if1 array-read-if1 mul-value
+    array-read-value returns loop-less loop-again returns-2)
