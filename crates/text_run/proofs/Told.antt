@@ -1,6 +1,6 @@
 -- What is told of a state record is told of the run: theorem `state-told`.
 use Prim.Native.Nat.{ℕ, _≤_, _<_}
-use mathlib.Core.Path.{_≡_, refl, ap, ap₂, _∙_}
+use mathlib.Core.Path.{_≡_, ap, ap₂, _∙_}
 use mathlib.Core.Bool.{cond}
 use mathlib.Core.List.{List, [], _∷_, _++_}
 use native.Mathlib.Omega.{arith}
@@ -9,19 +9,21 @@ use Rattle.sheet_format.specs.Put.{inTurn}
 use Rattle.sheet_format.proofs.Laws.Turn.{turn-same}
 use Rattle.machine_spec.specs.Run.{Answer}
 use Rattle.machine_record.specs.Record.{stateBytes}
-use Rattle.machine_record.specs.Fields.{Fields, fieldsIn, fieldsOf, Same, Fits}
+use Rattle.machine_record.specs.Fields.{Fields, Same, Fits}
 use Rattle.machine_record.proofs.ReadBack.{read-back}
 use Rattle.text_put.specs.Decimal.{decimal}
 use Rattle.text_put.specs.Words.{space, newline, named}
 use Rattle.text_run.specs.Words.{laneStart, positionWord, registersWord, pendingWord}
 use Rattle.text_run.specs.Words.{doneCount, waitedCount, finishedYes, finishedNo, memoryWord, locksWord}
-use Rattle.text_run.specs.Lanes.{spaced, numbersLine, entryText, laneLine, pendingLine, laneText}
-use Rattle.text_run.specs.States.{countsLine, finishedLine, memoryLine, locksLine, textBy, stateText, answerText}
+use Rattle.text_run.specs.Lanes.{numbersLine, entryText, pendingLine, laneText}
+use Rattle.text_run.specs.States.{textBy, stateText, answerText}
 
-numbers-same : (w : List ℕ) (f g : ℕ → ℕ) (n : ℕ) → ((i : ℕ) → i < n → f i ≡ g i) → numbersLine w f n ≡ numbersLine w g n
+numbers-same : (w : List ℕ) (f g : ℕ → ℕ) (n : ℕ) → ((i : ℕ) → i < n → f i ≡ g i)
+    → numbersLine w f n ≡ numbersLine w g n
 numbers-same w f g n h =
     ap (λ x. w ++ x ++ newline ∷ [])
-    (turn-same (λ i. space ∷ decimal (f i)) (λ i. space ∷ decimal (g i)) n (λ i l. ap (λ v. space ∷ decimal v) (h i l)))
+    (turn-same (λ i. space ∷ decimal (f i)) (λ i. space ∷ decimal (g i)) n
+    (λ i l. ap (λ v. space ∷ decimal v) (h i l)))
 
 -- the same text wherever a record has room
 module _ {f g : Fields} (same : Same f g) where

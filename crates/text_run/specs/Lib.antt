@@ -1,9 +1,10 @@
--- Words: the words of a run's text. Lanes, States: the text of a state. Places, Moves: the line of a move. Each is told
--- of a state record's bytes and of an answer alike; examples from bytes.
+-- Words: the words of a run's text. Lanes, States: the text of a state, from a record's bytes and from the answer of a
+-- run. Places, Moves: the line of a move, from records' bytes; Turns: from what the machine does. Examples from bytes.
 pub mod Words
 pub mod Lanes
 pub mod States
 pub mod Places
 pub mod Moves
+pub mod Turns
 pub mod StateExamples
 pub mod MoveExamples

@@ -3,11 +3,9 @@ use Prim.Native.Nat.{ℕ, _-_}
 use mathlib.Core.Bool.{Bool, cond}
 use mathlib.Core.List.{List, [], _∷_, _++_}
 use lib.Dec.{eqb}
-use Rattle.file_format.specs.declared.accepted.Op.{Op}
 use Rattle.file_format.specs.declared.accepted.Op.the-variants.{Set, Add, Load, Store, Lock, Unlock, Skip}
 use Rattle.sheet_format.specs.Layout.{Instr, op, barrier}
-use Rattle.machine_spec.specs.Run.{Answer}
-use Rattle.machine_record.specs.Fields.{Fields, fieldsIn, fieldsOf}
+use Rattle.machine_record.specs.Fields.{Fields, fieldsIn}
 use Rattle.text_put.specs.Decimal.{decimal}
 use Rattle.text_put.specs.Words.{newline, named}
 use Rattle.text_listing.specs.Line.{instrText}
@@ -51,7 +49,3 @@ lineBy i before after n t c =
 abbrev pub moveLine : List ℕ → List ℕ → List ℕ → ℕ → ℕ → ℕ → List ℕ
 moveLine rows before after n t c =
     lineBy (nextInstr rows (fieldsIn before) t) (fieldsIn before) (fieldsIn after) n t c
-
--- of the answers of the runs before and with the move, the lane having stood at i
-abbrev pub moveText : Instr → Answer → Answer → ℕ → ℕ → ℕ → List ℕ
-moveText i before after = lineBy i (fieldsOf before) (fieldsOf after)

@@ -15,7 +15,8 @@ use text_put::words::put_one;
 
 // How many moves were done, and how many waited.
 fn put_counts(out: &mut [u8], s: &[u8]) -> usize
-    ensures { λ r. ⌜ (r ≤ 34) × Puts (now (out .entry)) 0 (countsLine (fieldsIn (now (s .entry)))) (now (out .exit)) r ⌝ }
+    ensures { λ r. ⌜ (r ≤ 34)
+        × Puts (now (out .entry)) 0 (countsLine (fieldsIn (now (s .entry)))) (now (out .exit)) r ⌝ }
 {
     let i = put_one(out, 0, b"done ", quad_at(s, 8));
     let j = put_one(out, i, b" waited ", quad_at(s, 16));
@@ -24,7 +25,8 @@ fn put_counts(out: &mut [u8], s: &[u8]) -> usize
 
 fn put_finished(out: &mut [u8], at: usize, s: &[u8]) -> usize
     requires { ⌜ at + 13 ≤ 2 ^ 62 ⌝ }
-    ensures { λ r. ⌜ (r ≤ at + 13) × Puts (now (out .entry)) at (finishedLine (fieldsIn (now (s .entry)))) (now (out .exit)) r ⌝ }
+    ensures { λ r. ⌜ (r ≤ at + 13)
+        × Puts (now (out .entry)) at (finishedLine (fieldsIn (now (s .entry)))) (now (out .exit)) r ⌝ }
 {
     if byte_at(s, 0) == 1 {
         let i = put_text(out, at, b"finished yes");

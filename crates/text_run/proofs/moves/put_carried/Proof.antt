@@ -52,7 +52,8 @@ returns c =
     let k = c7 .struct-known3 .given in
     let few = instr-few (w .code) (w .a) (w .b) (w .word) (omega (arith, k)) (omega (arith, k)) (omega (arith, k)) in
     let text =
-    carried-row (c17 .args .rows .now) (fieldsIn (c17 .args .before .now)) (fieldsIn (c17 .args .after .now)) (c17 .args .t)
+    carried-row (c17 .args .rows .now) (fieldsIn (c17 .args .before .now)) (fieldsIn (c17 .args .after .now))
+    (c17 .args .t)
     (c12 .next-row .ensures .0) (c11 .row-at .ensures) in (
       omega (arith, few, c6 .put-instr .ensures .behind, c2 .put-loaded .ensures .0),
       puts-as text (puts-on (c6 .put-instr .ensures) (c2 .put-loaded .ensures .1)),

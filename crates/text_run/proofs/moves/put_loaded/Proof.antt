@@ -34,7 +34,8 @@ returns-2 : tie.Need-returns-2
 returns-2 c =
     let a = c .before .before .before .before .args in
     let text =
-    loaded-none (a .row .a) (a .row .b) (a .row .word) (fieldsIn (a .after .now)) (a .t) (a .row .code) (c .if1 .left) in
+    loaded-none (a .row .a) (a .row .b) (a .row .word) (fieldsIn (a .after .now)) (a .t) (a .row .code)
+    (c .if1 .left) in
     (omega arith, puts-as text puts-none)
 
 pub put-loaded-spec : {M : Type 1} → statement M

@@ -52,7 +52,8 @@ loop-again c =
     let c14 = c5 .before .before .before .before .before .before .before .before .before in (
       omega (arith, c4 .loop-test .taken),
       omega (arith, c2 .put-lane .ensures .0, c5 .loop .inv .1),
-      turn-on (laneText (fieldsIn (c14 .args .«record» .now))) (c5 .loop .t) (c5 .loop .inv .2) (c2 .put-lane .ensures .1),
+      turn-on (laneText (fieldsIn (c14 .args .«record» .now))) (c5 .loop .t) (c5 .loop .inv .2)
+          (c2 .put-lane .ensures .1),
     )
 
 same-length : tie.Need-same-length Inv-loop μ-loop
@@ -69,7 +70,8 @@ returns c =
     let c10 = c6 .before .before .before .before in
     let all : c1 .loop .t ≡ c6 .byte-at .result = omega (arith, c .loop-test .left) in
     puts-on (c4 .put-head .ensures .1)
-    (puts-as (ap (inTurn (laneText (fieldsIn (c10 .args .«record» .now)))) (all ∙ c6 .byte-at .ensures)) (c1 .loop .inv .2))
+    (puts-as (ap (inTurn (laneText (fieldsIn (c10 .args .«record» .now)))) (all ∙ c6 .byte-at .ensures))
+    (c1 .loop .inv .2))
 
 pub tell-state-spec : {M : Type 1} → statement M
 tell-state-spec =
