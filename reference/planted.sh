@@ -1,5 +1,6 @@
-# Tries the tester: plants one fault at a time in a copy of the fast implementation and expects `differ` to find it.
-# Run with bash. Argument: number of random cases for each fault.
+# Tries the tester: plants one fault at a time in a copy of the reference, which stands in for the library (fast) and
+# for `lanetext` (slow), and expects `differ`, `listings` or `counts` to find it. Prints the rows of the table in
+# docs/TESTS.md. Run with bash. Argument: number of random cases for each fault.
 set -eu
 cd "$(dirname "$0")"
 cases=${1:-3000}
@@ -12,37 +13,49 @@ restore() {
     rm -rf "$copy"
     mkdir -p "$copy/src"
     cp -r planted "$copy/"
-    cp -r src/fast "$copy/src/"
+    cp -r src/fast src/slow "$copy/src/"
 }
 
+# build TESTER: the stand-ins, then the tester with them
 build() {
     cargo build --quiet --offline -j1 --release --manifest-path "$copy/planted/Cargo.toml" 2>"$out/planted.log"
-    cargo build --quiet --offline -j1 --profile planted --features runs --bin differ
+    cargo build --quiet --offline -j1 --profile planted --features runs --bin "$1"
 }
 
-# fault NAME FILE SED: the sed script has to change the file, and differ has to notice
+# fault NAME FILE SED [TESTER ARGUMENT..]: the sed script has to change the file, and the tester has to notice
 fault() {
+    local name=$1 file=$2 sed=$3
+    shift 3
+    if [ $# = 0 ]; then
+        set -- differ "$cases"
+    fi
     restore
-    sed -i "$3" "$copy/$2"
-    if cmp -s "$2" "$copy/$2"; then
-        echo "NOT PLANTED  $1"
+    sed -i "$sed" "$copy/$file"
+    if cmp -s "$file" "$copy/$file"; then
+        echo "NOT PLANTED  $name"
         missed=1
         return
     fi
-    build
-    "$out/planted/differ" "$cases" > "$out/differ.log" 2>&1 || true
-    told=$(sed -n 's/.* DIFFERENCE in //p' "$out/differ.log")
+    build "$1"
+    "$out/planted/$@" > "$out/tester.log" 2>&1 || true
+    told=$(sed -n 's/.* DIFFERENCE in //p' "$out/tester.log" |
+        sed -n '1s/^case \([0-9]*\): /\1 | /p; 1s/^[a-z]/- | &/p')
     if [ -n "$told" ]; then
-        echo "found   $1: $told"
+        echo "| $name | $told |"
     else
-        echo "MISSED  $1"
+        echo "MISSED  $name"
         missed=1
     fi
 }
 
 restore
-build
+listings="listings $LANES_LIB/lanetext"
+build differ
 "$out/planted/differ" "$cases"
+build listings
+"$out/planted/"$listings "$cases"
+build counts
+"$out/planted/counts"
 
 check=src/fast/check.rs flow=src/fast/flow.rs sheet=src/fast/sheet.rs machine=src/fast/machine.rs
 
@@ -57,7 +70,20 @@ fault 'counts of two lanes exchanged' $sheet 's/head\[8..\].chunks_exact_mut(2)/
 fault 'a bad record is named one too low' $check 's/Refusal::new(4, index + 1)/Refusal::new(4, index)/'
 fault 'a record that no lane has is accepted' $check 's/if met == self.records.len()/if met <= self.records.len()/'
 fault 'chains of 65 records pass' $check 's/> 64)/> 65)/'
+fault 'L 17 passes' $check 's/(1..=16)/(1..=17)/'
+fault 'K 5 passes' $check 's/locks <= 4/locks <= 5/'
+fault 'byte 3 of the header may be 1' $check 's/zero == 0/zero <= 1/'
+fault 'mask bit L may be set' $check 's/>> locations == 0/>> locations <= 1/'
+fault 'a head from lane T up may be 1' $check 's/else { 0 })/else { 1 })/'
+fault 'byte 3 of a record may be 1' $check 's/((low >> 24) as u8 == 0)/((low >> 24) as u8 <= 1)/'
+fault 'register 8 of a SET passes' $check 's/a: 7, constant/a: 8, constant/'
+fault 'register 8 added passes' $check 's/b_end: 8/b_end: 9/'
+fault 'ADD may have a constant of 1' $check 's/b_end: 8,/& constant: 1,/'
+fault 'LOCK may have a register' $check 's/(LOCK)\] = Limits {/& a: 1,/'
+fault 'operation 8 passes' $check 's/wrapping_sub(1) < 7/wrapping_sub(1) < 8/'
+fault 'refusal 7 is numbered 6' $check 's/Refusal::new(7, number)/Refusal::new(6, number)/'
 fault 'a SKIP to itself passes' $check 's/from < to \&\& to < end/from <= to \&\& to < end/'
+fault 'a SKIP into another lane passes' $check 's/from < to \&\& to < end/from < to/'
 fault 'ways with different held sets pass' $flow 's/self.held & self.lacked | self.held/self.held/'
 fault 'a byte is written on refusal 9' $sheet \
     's/let sheet = sheet.get_mut/if let Some(byte) = sheet.first_mut() { *byte = 1; }\n    &/'
@@ -75,11 +101,23 @@ fault 'MFENCE does not wait' $machine 's/_ if own.first < own.last => return Tur
 fault 'a load takes the oldest own value' $machine 's/.iter().rev().find(stored)/.iter().find(stored)/'
 fault 'only the first move is looked at for 10' $machine 's/moves.iter().fold/moves.iter().take(1).fold/'
 fault 'choice 64 of the source machine is refused' $machine 's/else { 64 }/else { 63 }/'
+fault 'choice 2 of the tso machine passes' $machine 's/if TSO { 1 }/if TSO { 2 }/'
+fault 'lane T passes' $machine 's/named\[0\] >= kernel/named[0] > kernel/'
+fault 'an odd byte passes' $machine 's/!odd.is_empty() ||//'
+fault 'the 64th entry does not commit' $machine 's/.get(index) else/.get(index).filter(|_| index < 63) else/'
 fault 'done and waited exchanged' $machine \
     's/record(done, moves.len() as u64 - done,/record(moves.len() as u64 - done, done,/'
 fault 'finished always' $machine 's/= finished.into();/= u8::from(finished) | 1;/'
 fault 'bytes of the state left as they were' $machine 's/state.fill(0);//'
 fault 'a release frees no lock' $machine 's/& 3)\] = 0,/\& 3)] \&= 255,/'
+fault 'the upper half of a count left zero' $machine \
+    's/&waited.to_le_bytes()/\&u64::from(waited as u32).to_le_bytes()/' counts
+fault 'ADD listed under another name' src/slow/listing.rs 's/"ADD {a} {b}"/"SUM {a} {b}"/' $listings "$cases"
+fault 'a SKIP beyond 63 listed as a SKIP to 0' src/slow/listing.rs \
+    's/SKIP => format/SKIP if word > 63 => format!("SKIP {a} 0"),\n        &/' $listings "$cases"
+fault 'constants from 2^31 up listed as negative' src/slow/listing.rs \
+    's/"SET {a} {word}"/"SET {a} {}", word as i32/' $listings "$cases"
+fault 'the last of 3,089 bytes is not read' src/slow/listing.rs 's/3089/3088/' $listings "$cases"
 
 # leave no faulty archive where a test could link it
 rm -rf "$copy" "$LANES_LIB"

@@ -37,14 +37,24 @@ impl Cases {
             Some(edge) => edge.make(&mut random),
             None => (faults::kernel(&mut random), 0),
         };
-        // an accepted kernel gets several schedules
-        let several = if check(&file).is_ok() { 3 } else { 1 };
-        let lanes = file.first().map_or(1, |lanes| usize::from(*lanes).clamp(1, 4));
-        let machines = [Machine::Source, Machine::Tso].into_iter().flat_map(|machine| vec![machine; several]);
-        let schedule = |machine: Machine| {
-            (machine, schedules::schedule(&mut random, lanes, file.len() / 12, machine.highest_choice()))
-        };
-        let schedules = machines.map(schedule).collect();
+        let schedules = schedules_for(&mut random, &file);
         Case { edge: edge.map(|edge| (edge, record)), file, schedules, random }
     }
+}
+
+/// An accepted kernel gets three schedules for each machine, the first of them with lists as long as they get.
+fn schedules_for(random: &mut Random, file: &[u8]) -> Vec<(Machine, Vec<u8>)> {
+    let lanes = file.first().map_or(1, |lanes| usize::from(*lanes).clamp(1, 4));
+    let (records, accepted) = (file.len() / 12, check(file).is_ok());
+    let mut schedules = Vec::new();
+    for machine in [Machine::Source, Machine::Tso] {
+        let highest = machine.highest_choice();
+        if accepted {
+            schedules.push((machine, schedules::piled_schedule(random, lanes, records, highest)));
+        }
+        for _ in 0..if accepted { 2 } else { 1 } {
+            schedules.push((machine, schedules::schedule(random, lanes, records, highest)));
+        }
+    }
+    schedules
 }

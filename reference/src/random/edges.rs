@@ -120,3 +120,16 @@ impl Numbered {
         self.file[8 + 2 * lane..10 + 2 * lane].copy_from_slice(&(value as u16).to_le_bytes());
     }
 }
+
+/// Steps in a lane of a valid kernel; the refusal names one of them.
+fn steps(name: &str, refusal: u64, at_end: bool, named: usize, steps: &[Step]) -> Edge {
+    let steps = steps.to_vec();
+    Edge::new(name, refusal, move |random| {
+        let lanes = 1 + random.below(4);
+        let mut draft = small(random, lanes);
+        let Place { lane, position } = put(random, &mut draft, &steps, at_end);
+        let numbered = Numbered::new(random, &draft);
+        let record = if refusal == 0 { 0 } else { numbered.numbers[lane][position + named] };
+        (numbered.file, record)
+    })
+}

@@ -2,7 +2,7 @@
 
 use super::Random;
 
-/// A schedule for a machine whose highest choice is `highest`; about one in four has a fault, most of them the smallest.
+/// A schedule for a machine whose highest choice is `highest`; some have a fault, mostly the smallest.
 pub fn schedule(random: &mut Random, lanes: usize, records: usize, highest: u8) -> Vec<u8> {
     let mut moves = valid_schedule(random, lanes, records, highest);
     let beyond = lanes as u8;
@@ -29,8 +29,7 @@ pub fn long_schedule(random: &mut Random, lanes: usize, count: usize, highest: u
 fn valid_schedule(random: &mut Random, lanes: usize, records: usize, highest: u8) -> Vec<u8> {
     let count = match random.below(8) {
         0 => 0,
-        1 => random.below(20),
-        2 => return piled_schedule(random, lanes, records, highest),
+        1 | 2 => random.below(20),
         3..7 => random.below(3 * records + 8),
         _ => random.below(2000),
     };
@@ -50,7 +49,7 @@ fn valid_schedule(random: &mut Random, lanes: usize, records: usize, highest: u8
 }
 
 /// Each lane carries out all it can, so that its list is as long as it gets, then commits from the far end.
-fn piled_schedule(random: &mut Random, lanes: usize, records: usize, highest: u8) -> Vec<u8> {
+pub fn piled_schedule(random: &mut Random, lanes: usize, records: usize, highest: u8) -> Vec<u8> {
     let mut moves = Vec::new();
     for lane in 0..lanes as u8 {
         moves.extend([lane, 0].repeat(records.min(64) + random.below(3)));

@@ -95,6 +95,7 @@ fn counts() -> Vec<Edge> {
     };
     vec![
         edge("N 256", 0, 1..=1, full, |_| ()),
+        edge("N 256 and a byte more", 3, 1..=1, full, |file| file.push(0)),
         edge("N 257 with its length", 2, 1..=1, over, |_| ()),
         edge("N 0", 0, 1..=1, |_, draft| draft.lanes = vec![Vec::new(); 3], |_| ()),
     ]

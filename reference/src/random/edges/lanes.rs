@@ -1,25 +1,12 @@
 //! Edges of chains: linkage, lengths, targets of SKIPs, held sets.
 
-use super::{Edge, Numbered, Place, put, skip, small, step};
+use super::{Edge, Numbered, Place, put, skip, small, step, steps};
 use crate::random::Random;
 use crate::slow::kernel::{LOCK, SET, SKIP, STORE, UNLOCK};
 use crate::writer::{Draft, Step};
 
 pub fn edges() -> Vec<Edge> {
     [linkage(), lengths(), skips(), locks(), lists()].into_iter().flatten().collect()
-}
-
-/// Steps in a lane of a valid kernel; the refusal names one of them.
-fn steps(name: &str, refusal: u64, at_end: bool, named: usize, steps: &[Step]) -> Edge {
-    let steps = steps.to_vec();
-    Edge::new(name, refusal, move |random| {
-        let lanes = 1 + random.below(4);
-        let mut draft = small(random, lanes);
-        let Place { lane, position } = put(random, &mut draft, &steps, at_end);
-        let numbered = Numbered::new(random, &draft);
-        let record = if refusal == 0 { 0 } else { numbered.numbers[lane][position + named] };
-        (numbered.file, record)
-    })
 }
 
 /// Two SETs in one lane, and a lane beside it.
@@ -85,24 +72,29 @@ fn lengths() -> Vec<Edge> {
 
 fn skips() -> Vec<Edge> {
     let set = step(SET, 2, 0);
-    let mut edges = vec![
+    vec![
         steps("SKIP to itself", 7, false, 0, &[skip(0)]),
         steps("SKIP to the record before", 7, false, 1, &[set, skip(0)]),
         steps("SKIP to the next record", 0, false, 0, &[skip(1), set]),
         steps("SKIP to the end", 0, false, 0, &[step(SKIP, 1, 0), set]),
-    ];
-    edges.push(Edge::new("SKIP into another lane", 7, |random| {
+        skip_into("SKIP into the next lane", 0, 1),
+        skip_into("SKIP into the lane before", 1, 0),
+    ]
+}
+
+/// A SKIP in lane `from` of two or more to some record of lane `to`.
+fn skip_into(name: &str, from: usize, to: usize) -> Edge {
+    Edge::new(name, 7, move |random| {
         let lanes = 2 + random.below(3);
         let mut draft = small(random, lanes);
-        let place = put(random, &mut draft, &[skip(1)], false);
-        let other = (place.lane + 1 + random.below(lanes - 1)) % lanes;
+        let place = Place { lane: from, position: draft.lanes[from].len() };
+        draft.lanes[from].push(skip(place.position + 1));
         let mut numbered = Numbered::new(random, &draft);
-        let target = random.pick(&numbered.numbers[other]);
+        let target = random.pick(&numbered.numbers[to]);
         numbered.link(place, 8, target);
         let record = numbered.number(place);
         (numbered.file, record)
-    }));
-    edges
+    })
 }
 
 fn locks() -> Vec<Edge> {

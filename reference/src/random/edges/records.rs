@@ -1,6 +1,6 @@
 //! Edges of a record's fields: an unused field that is 1, an operand at its limit, a link to record N + 1.
 
-use super::{Edge, Numbered, Place, put, skip, small, step};
+use super::{Edge, Numbered, Place, put, skip, small, step, steps};
 use crate::random::Random;
 use crate::slow::kernel::{ADD, LOAD, LOCK, SET, SKIP, STORE, UNLOCK};
 use crate::writer::{Draft, Step};
@@ -39,6 +39,9 @@ pub fn edges() -> Vec<Edge> {
     for (operation, name) in [(LOAD, "LOAD"), (STORE, "STORE")] {
         edges.push(field(&format!("{name} b L"), operation, B, 4, |draft| draft.locations));
         edges.push(field(&format!("{name} b L - 1"), operation, B, 0, |draft| draft.locations - 1));
+    }
+    for code in [0, 8, 15] {
+        edges.push(steps(&format!("operation {code}, all else zero"), 4, false, 0, &[step(code, 0, 0)]));
     }
     edges.push(field("ADD b 8", ADD, B, 4, |_| 8));
     edges.push(field("ADD b 7", ADD, B, 0, |_| 7));
