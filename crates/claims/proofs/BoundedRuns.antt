@@ -15,7 +15,7 @@ use Rattle.barrier_placement.proofs.Laws.Bools.{and-true}
 use Rattle.file_format.proofs.Laws.Lists.{replicate-at}
 use Rattle.sheet_format.specs.Layout.{Instr, op}
 use Rattle.sheet_format.specs.Levels.{volatileIn}
-use Rattle.machine_spec.specs.Rules.{source}
+use Rattle.machine_spec.specs.declared.Machine.the-variants.{Source}
 use Rattle.machine_spec.specs.Step.{Control, Core, Turn, waits, refuses, passes, does}
 use Rattle.machine_spec.specs.Schedule.{Move, legal}
 use Rattle.machine_spec.specs.State.{Lane, State, atStart, idle, laneAt, coreOf, setLane, Run, Outcome, ran, refused}
@@ -46,7 +46,7 @@ module _ (k : Program) (w : Lawful k) where
   vol = volatileIn k
 
   abbrev prog : List (List Instr)
-  prog = programFor source k
+  prog = programFor Source k
 
   abbrev laneLength : ℕ → ℕ
   laneLength t = length (getD (k .lanes) t [])
@@ -106,7 +106,7 @@ module _ (k : Program) (w : Lawful k) where
   inv-turn r t q lt i (passes j d) s = inv-put (r .state) i t lt j d s
   inv-turn r t q lt i (does j d v) s = inv-put (r .state) i t lt j d s
 
-  inv-run : (mvs : List Move) (o : Outcome) → InvOut o → legal lanes 64 mvs ≡ true → InvOut (run source vol prog o mvs)
+  inv-run : (mvs : List Move) (o : Outcome) → InvOut o → legal lanes 64 mvs ≡ true → InvOut (run Source vol prog o mvs)
   inv-run [] o i le = i
   inv-run (mv ∷ mvs) (refused t p) i le =
       inv-run mvs (refused t p) tt (and-true (ltb (mv .lane) lanes && leb (mv .choice) 64) (legal lanes 64 mvs) le .1)
@@ -114,11 +114,11 @@ module _ (k : Program) (w : Lawful k) where
       let fits = and-true (ltb (mv .lane) lanes && leb (mv .choice) 64) (legal lanes 64 mvs) le in
       let lt : mv .lane < lanes =
       ltb-true (mv .lane) lanes (and-true (ltb (mv .lane) lanes) (leb (mv .choice) 64) (fits .0) .0) in
-      inv-run mvs (advance source vol prog (ran r) mv) (step lt) (fits .1)
+      inv-run mvs (advance Source vol prog (ran r) mv) (step lt) (fits .1)
     where
-      step : mv .lane < lanes → InvOut (advance source vol prog (ran r) mv)
+      step : mv .lane < lanes → InvOut (advance Source vol prog (ran r) mv)
       step lt =
-          inv-turn r (mv .lane) _ lt i (moveTurn source vol prog (r .state) mv)
+          inv-turn r (mv .lane) _ lt i (moveTurn Source vol prog (r .state) mv)
           (rw (List·getD-map (map op) (k .lanes) (mv .lane) [])
           (turn-keeps lanes ls ks (getD (k .lanes) (mv .lane) []) (w .lane (mv .lane)) vol (mv .lane) lt
           (laneAt (r .state) (mv .lane) .control) (coreOf (r .state) (laneAt (r .state) (mv .lane)))
@@ -186,13 +186,13 @@ module _ (k : Program) (w : Lawful k) where
           rw none-there (omega arith)
 
   -- a source run that is not refused ends in a state that keeps the bounds
-  inv-of : (mvs : List Move) (r : Run) → legal lanes 64 mvs ≡ true → runOn source k mvs ≡ ran r → Inv (r .state)
+  inv-of : (mvs : List Move) (r : Run) → legal lanes 64 mvs ≡ true → runOn Source k mvs ≡ ran r → Inv (r .state)
   inv-of mvs r le e = subst InvOut e (inv-run mvs (begin (startOf k)) inv-start le)
 
-  pub source-shaped : (mvs : List Move) (r : Run) → legal lanes 64 mvs ≡ true → runOn source k mvs ≡ ran r
+  pub source-shaped : (mvs : List Move) (r : Run) → legal lanes 64 mvs ≡ true → runOn Source k mvs ≡ ran r
       → Shaped k (shown (answerOf prog (k .records) (startOf k) (ran r)))
   source-shaped mvs r le e = shaped-by r (inv-of mvs r le e)
 
-  pub source-within : (mvs : List Move) (r : Run) → legal lanes 64 mvs ≡ true → runOn source k mvs ≡ ran r
+  pub source-within : (mvs : List Move) (r : Run) → legal lanes 64 mvs ≡ true → runOn Source k mvs ≡ ran r
       → Within prog (r .state)
   source-within mvs r le e = within-by r (inv-of mvs r le e)

@@ -13,7 +13,8 @@ use Rattle.file_format.specs.Lawful.{LawfulLane}
 use Rattle.file_format.proofs.Laws.Lists.{some-at}
 use Rattle.sheet_format.specs.Layout.{op}
 use Rattle.machine_spec.specs.Entries.{Entry, write, release, newest, appendEntry, without}
-use Rattle.machine_spec.specs.Rules.{source, mayCommit}
+use Rattle.machine_spec.specs.declared.Machine.the-variants.{Source}
+use Rattle.machine_spec.specs.Rules.{mayCommit}
 use Rattle.machine_spec.specs.Step.{Control, Core, Turn, waits, refuses, passes, does, goto, reg, permits, holds}
 use Rattle.machine_spec.specs.Step.{valueOf}
 use Rattle.machine_spec.specs.Step.{loads, after, next, emit, locked, coreAfter, effect, execute, landed, freed, settle}
@@ -81,7 +82,7 @@ module _ (n ls ks : ℕ) (os : List Op) (w : LawfulLane ls ks os) (vol : ℕ →
   abbrev At : Op → Type 0
   At o = getElem? os (i .pos) ≡ some o
 
-  value-small : (x : ℕ) → valueOf source vol c x < 2 ^ 32
+  value-small : (x : ℕ) → valueOf Source vol c x < 2 ^ 32
   value-small x = go (vol x)
     where
       go : (b : Bool) → cond b (getD (c .memory) x 0) (newest x (getD (c .memory) x 0) (c .pending)) < 2 ^ 32
@@ -89,7 +90,7 @@ module _ (n ls ks : ℕ) (os : List Op) (w : LawfulLane ls ks os) (vol : ℕ →
       go false = newest-small ls ks x (getD (c .memory) x 0) (c .pending) (h .memory-small x) (h .entries)
 
   -- the registers
-  after-count : (o : Op) → length (after source vol c o) ≡ 8
+  after-count : (o : Op) → length (after Source vol c o) ≡ 8
   after-count (Set a m) = simp length-set (h .regs-count)
   after-count (Add a b) = simp length-set (h .regs-count)
   after-count (Load a x) = simp length-set (h .regs-count)
@@ -101,7 +102,7 @@ module _ (n ls ks : ℕ) (os : List Op) (w : LawfulLane ls ks os) (vol : ℕ →
   assigned : (a v : ℕ) → v < 2 ^ 32 → (x : ℕ) → getD (update (c .regs) a v) x 0 < 2 ^ 32
   assigned a v small = update-all (λ z. z < 2 ^ 32) (c .regs) a v (h .regs-small) small
 
-  after-small : (o : Op) → At o → (x : ℕ) → getD (after source vol c o) x 0 < 2 ^ 32
+  after-small : (o : Op) → At o → (x : ℕ) → getD (after Source vol c o) x 0 < 2 ^ 32
   after-small (Set a m) e = assigned a m (w .bounded (i .pos) (Set a m) e .1)
   after-small (Add a b) e = assigned a _ (omega arith)
   after-small (Load a x) e = assigned a _ (value-small x)
@@ -163,7 +164,7 @@ module _ (n ls ks : ℕ) (os : List Op) (w : LawfulLane ls ks os) (vol : ℕ →
   locked-small (Unlock l) = h .locks-small
   locked-small (Skip a u) = h .locks-small
 
-  op-fit : (o : Op) → At o → Fit n ls ks (length os) (next c o (i .pos)) (coreAfter source vol (suc t) c o)
+  op-fit : (o : Op) → At o → Fit n ls ks (length os) (next c o (i .pos)) (coreAfter Source vol (suc t) c o)
   op-fit o e = record {
     place = next-within o e .1;
     few = omega (arith, h .few, emit-few (emit c o), next-within o e .0);
@@ -206,24 +207,24 @@ module _ (n ls ks : ℕ) (os : List Op) (w : LawfulLane ls ks os) (vol : ℕ →
     locks-small = freed-fit e .1;
   }
 
-  pub turn-keeps : (k : ℕ) → Keeps n ls ks (length os) (turn source vol (suc t) (map op os) i c k)
+  pub turn-keeps : (k : ℕ) → Keeps n ls ks (length os) (turn Source vol (suc t) (map op os) i c k)
   turn-keeps zero = go (getElem? os (i .pos)) refl
     where
       done : (o : Op) → At o → (b : Bool)
           → Keeps n ls ks (length os)
-          (cond b (does (goto i (next c o (i .pos))) (coreAfter source vol (suc t) c o) (loads source vol c o)) refuses)
+          (cond b (does (goto i (next c o (i .pos))) (coreAfter Source vol (suc t) c o) (loads Source vol c o)) refuses)
       done o e true = op-fit o e
       done o e false = tt
 
       act : (o : Op) → At o → (b : Bool)
-          → Keeps n ls ks (length os) (cond b (effect source vol (suc t) i c o) waits)
+          → Keeps n ls ks (length os) (cond b (effect Source vol (suc t) i c o) waits)
       act o e true = done o e (holds (suc t) c o)
       act o e false = tt
 
       go : (o : Option Op) → getElem? os (i .pos) ≡ o
-          → Keeps n ls ks (length os) (execute source vol (suc t) i c (getElem? (map op os) (i .pos)))
+          → Keeps n ls ks (length os) (execute Source vol (suc t) i c (getElem? (map op os) (i .pos)))
       go none e = rw (map-none op os (i .pos) e) tt
-      go (some o) e = rw (map-some op os (i .pos) o e) (act o e (permits source vol c o))
+      go (some o) e = rw (map-some op os (i .pos) o e) (act o e (permits Source vol c o))
   turn-keeps (suc x) = go (getElem? (c .pending) x) refl
     where
       act : (e : Entry) → getElem? (c .pending) x ≡ some e → (b : Bool)
@@ -231,6 +232,6 @@ module _ (n ls ks : ℕ) (os : List Op) (w : LawfulLane ls ks os) (vol : ℕ →
       act e k true = settle-fit x e (all-at ls ks x (c .pending) e k (h .entries))
       act e k false = tt
 
-      go : (e : Option Entry) → getElem? (c .pending) x ≡ e → Keeps n ls ks (length os) (commit source vol i c x e)
+      go : (e : Option Entry) → getElem? (c .pending) x ≡ e → Keeps n ls ks (length os) (commit Source vol i c x e)
       go none k = tt
-      go (some e) k = act e k (mayCommit source vol (take x (c .pending)) e)
+      go (some e) k = act e k (mayCommit Source vol (take x (c .pending)) e)

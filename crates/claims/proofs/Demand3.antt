@@ -12,7 +12,9 @@ use Rattle.file_wellformed.proofs.Lawful.{accepted-lawful}
 use Rattle.sheet_format.specs.Layout.{Instr, Placed, start, sheet}
 use Rattle.sheet_format.specs.Levels.{level2, placedLanes, volatileIn}
 use Rattle.sheet_format.proofs.ReadBack.{bytes-back}
-use Rattle.machine_spec.specs.Rules.{Machine, source, target, tso}
+use Rattle.machine_spec.specs.declared.Machine.{Machine}
+use Rattle.machine_spec.specs.declared.Machine.the-variants.{Source, Target}
+use Rattle.machine_spec.specs.declared.Model.the-variants.{Tso}
 use Rattle.machine_spec.specs.Schedule.{Move, limit, legal}
 use Rattle.machine_spec.specs.State.{Run, Outcome, ran, begin, run}
 use Rattle.machine_spec.specs.View.{View, Seen, saw, refusal as seenRefusal, observe}
@@ -70,14 +72,14 @@ module _ (k : Program) (w : Lawful k) where
   ks = placedLanes level2 k
 
   abbrev P : List (List Instr)
-  P = programFor source k
+  P = programFor Source k
 
   abbrev Q : List (List Instr)
-  Q = programFor (target tso) k
+  Q = programFor (Target Tso) k
 
-  source-ran : (mvs : List Move) → legal n 64 mvs ≡ true → (r : Run) × (runOn source k mvs ≡ ran r)
+  source-ran : (mvs : List Move) → legal n 64 mvs ≡ true → (r : Run) × (runOn Source k mvs ≡ ran r)
   source-ran =
-      subst (λ p. (mvs : List Move) → legal n 64 mvs ≡ true → (r : Run) × (run source vol p begun mvs ≡ ran r))
+      subst (λ p. (mvs : List Move) → legal n 64 mvs ≡ true → (r : Run) × (run Source vol p begun mvs ≡ ran r))
       (source-program k level2)
       (source-runs n (k .locks) ks (λ t. heldAt (getD (k .lanes) t [])) (disciplined k w level2) vol zeros)
 
@@ -85,45 +87,45 @@ module _ (k : Program) (w : Lawful k) where
   target-program : sheetProgram ks ≡ Q
   target-program = sym (bytes-back level2 k w)
 
-  tso-ran : (mvs : List Move) → legal n 1 mvs ≡ true → (r : Run) × (runOn (target tso) k mvs ≡ ran r)
+  tso-ran : (mvs : List Move) → legal n 1 mvs ≡ true → (r : Run) × (runOn (Target Tso) k mvs ≡ ran r)
   tso-ran =
-      subst (λ q. (mvs : List Move) → legal n 1 mvs ≡ true → (r : Run) × (run (target tso) vol q begun mvs ≡ ran r))
+      subst (λ q. (mvs : List Move) → legal n 1 mvs ≡ true → (r : Run) × (run (Target Tso) vol q begun mvs ≡ ran r))
       target-program
-      (target-runs n (k .locks) ks (λ t. heldAt (getD (k .lanes) t [])) (disciplined k w level2) vol tso
-      (fenced k w tso) zeros)
+      (target-runs n (k .locks) ks (λ t. heldAt (getD (k .lanes) t [])) (disciplined k w level2) vol Tso
+      (fenced k w Tso) zeros)
 
-  begins : Matched tso vol ks begun begun
-  begins = begin-matched tso vol ks n zeros (k .locks)
+  begins : Matched Tso vol ks begun begun
+  begins = begin-matched Tso vol ks n zeros (k .locks)
 
   -- a run of the source program p for each of the sheet program q, and back
   abbrev Matches : List (List Instr) → List (List Instr) → Type 0
   Matches p q = (mvs : List Move)
-      → observe p (run source vol p begun (sourceSchedule tso vol q begun mvs)) ≡ observe q
-      (run (target tso) vol q begun mvs)
+      → observe p (run Source vol p begun (sourceSchedule Tso vol q begun mvs)) ≡ observe q
+      (run (Target Tso) vol q begun mvs)
 
   matched-seen : Matches P Q
   matched-seen = subst₂ Matches (source-program k level2) target-program
-      (λ mvs. observed tso vol ks _ _ (matching tso vol ks (fenced k w tso) mvs begun begun begins))
+      (λ mvs. observed Tso vol ks _ _ (matching Tso vol ks (fenced k w Tso) mvs begun begun begins))
 
   abbrev Directs : List (List Instr) → List (List Instr) → Type 0
   Directs p q = (mvs : List Move) → legal n 64 mvs ≡ true → direct vol p none begun mvs ≡ true
-      → observe p (run source vol p begun mvs) ≡ observe q
-      (run (target tso) vol q begun (targetSchedule tso vol q begun mvs))
+      → observe p (run Source vol p begun mvs) ≡ observe q
+      (run (Target Tso) vol q begun (targetSchedule Tso vol q begun mvs))
 
   direct-seen : Directs P Q
   direct-seen = subst₂ Directs (source-program k level2) target-program
-      (λ mvs le st. observed tso vol ks _ _ (direct-matching tso vol ks (fenced k w tso) n mvs none begun begun begins
+      (λ mvs le st. observed Tso vol ks _ _ (direct-matching Tso vol ks (fenced k w Tso) n mvs none begun begun begins
       (start-ready n zeros (k .locks)) le st))
 
   -- two runs that are seen the same share what is compared
   shares : (a b : List Move) → legal n 64 a ≡ true → legal n 1 b ≡ true
-      → observe P (runOn source k a) ≡ observe Q (runOn (target tso) k b)
-      → Shares (runProgram source k a) (runProgram (target tso) k b)
+      → observe P (runOn Source k a) ≡ observe Q (runOn (Target Tso) k b)
+      → Shares (runProgram Source k a) (runProgram (Target Tso) k b)
   unfolding viewSeen
   shares a b la lb e =
       let x = source-ran a la in
       let y = tso-ran b lb in
-      rw (answered source k a (x .0) la (x .1), answered (target tso) k b (y .0) lb (y .1)) (record {
+      rw (answered Source k a (x .0) la (x .1), answered (Target Tso) k b (y .0) lb (y .1)) (record {
         ran = refl;
         ran-too = refl;
         same = ap (viewSeen (shown (refusal (startOf k) 0 0)))
@@ -131,49 +133,49 @@ module _ (k : Program) (w : Lawful k) where
       })
 
   program-matched : (mvs : List Move)
-      → Shares (runProgram source k (sourceFor k mvs)) (runProgram (target tso) k (countsAs (target tso) k mvs))
+      → Shares (runProgram Source k (sourceFor k mvs)) (runProgram (Target Tso) k (countsAs (Target Tso) k mvs))
   program-matched mvs =
-      let cs = countsAs (target tso) k mvs in
-      let le = counts-legal (target tso) k mvs in
-      shares (sourceFor k mvs) cs (source-legal tso vol Q n begun cs le) le (matched-seen cs)
+      let cs = countsAs (Target Tso) k mvs in
+      let le = counts-legal (Target Tso) k mvs in
+      shares (sourceFor k mvs) cs (source-legal Tso vol Q n begun cs le) le (matched-seen cs)
 
-  program-direct : (mvs : List Move) → direct vol P none begun (countsAs source k mvs) ≡ true
-      → Shares (runProgram source k (countsAs source k mvs)) (runProgram (target tso) k (tsoFor k mvs))
+  program-direct : (mvs : List Move) → direct vol P none begun (countsAs Source k mvs) ≡ true
+      → Shares (runProgram Source k (countsAs Source k mvs)) (runProgram (Target Tso) k (tsoFor k mvs))
   program-direct mvs st =
-      let cs = countsAs source k mvs in
-      let le = counts-legal source k mvs in
-      shares cs (tsoFor k mvs) le (target-legal tso vol Q n begun cs le) (direct-seen cs le st)
+      let cs = countsAs Source k mvs in
+      let le = counts-legal Source k mvs in
+      shares cs (tsoFor k mvs) le (target-legal Tso vol Q n begun cs le) (direct-seen cs le st)
 
-  program-bounds : (mvs : List Move) → legal n 64 mvs ≡ true → Shaped k (shown (runProgram source k mvs))
+  program-bounds : (mvs : List Move) → legal n 64 mvs ≡ true → Shaped k (shown (runProgram Source k mvs))
   program-bounds mvs le =
       let x = source-ran mvs le in
-      rw (answered source k mvs (x .0) le (x .1)) (source-shaped k w mvs (x .0) le (x .1))
+      rw (answered Source k mvs (x .0) le (x .1)) (source-shaped k w mvs (x .0) le (x .1))
 
-  program-within : (mvs : List Move) → legal n 64 mvs ≡ true → Within P (runProgram source k mvs .state)
+  program-within : (mvs : List Move) → legal n 64 mvs ≡ true → Within P (runProgram Source k mvs .state)
   program-within mvs le =
       let x = source-ran mvs le in
-      rw (answered source k mvs (x .0) le (x .1)) (source-within k w mvs (x .0) le (x .1))
+      rw (answered Source k mvs (x .0) le (x .1)) (source-within k w mvs (x .0) le (x .1))
 
   -- a tso lane stands in its sheet part, since it stands at the place of a source lane
-  target-within : (o : Outcome) (r : Run) → Matched tso vol ks o (ran r) → Within (sheetProgram ks) (r .state)
+  target-within : (o : Outcome) (r : Run) → Matched Tso vol ks o (ran r) → Within (sheetProgram ks) (r .state)
   target-within o r (both-ran e h) t =
       let st = h .lanes t .stands in
       let ps = getD ks t [] in
       rw (List·getD-map sheet ks t [], st .place) (place-within (start ps) ps _ (st .passed) (st .within))
 
   abbrev Stays : List (List Instr) → Type 0
-  Stays q = (mvs : List Move) (r : Run) → run (target tso) vol q begun mvs ≡ ran r → Within q (r .state)
+  Stays q = (mvs : List Move) (r : Run) → run (Target Tso) vol q begun mvs ≡ ran r → Within q (r .state)
 
   tso-stays : Stays Q
   tso-stays =
       subst Stays target-program
       (λ mvs r e. target-within _ r
-      (subst (Matched tso vol ks _) e (matching tso vol ks (fenced k w tso) mvs begun begun begins)))
+      (subst (Matched Tso vol ks _) e (matching Tso vol ks (fenced k w Tso) mvs begun begun begins)))
 
-  program-tso-within : (mvs : List Move) → legal n 1 mvs ≡ true → Within Q (runProgram (target tso) k mvs .state)
+  program-tso-within : (mvs : List Move) → legal n 1 mvs ≡ true → Within Q (runProgram (Target Tso) k mvs .state)
   program-tso-within mvs le =
       let x = tso-ran mvs le in
-      rw (answered (target tso) k mvs (x .0) le (x .1)) (tso-stays mvs (x .0) (x .1))
+      rw (answered (Target Tso) k mvs (x .0) le (x .1)) (tso-stays mvs (x .0) (x .1))
 
 -- what an accepted file answers
 from-bytes : (m : Machine) (s : List ℕ) (k : Program) → verdict s ≡ accepted k → (mvs : List Move)
@@ -185,11 +187,11 @@ demand3 s k e =
     let w = accepted-lawful s k e in
     record {
       matched =
-          λ mvs. subst₂ Shares (from-bytes source s k e _) (from-bytes (target tso) s k e _)
+          λ mvs. subst₂ Shares (from-bytes Source s k e _) (from-bytes (Target Tso) s k e _)
           (program-matched k w mvs);
-      stuck = λ mvs. tso-stuck (volatileIn k) (programFor (target tso) k)
-          (runTso s (countsAs (target tso) k mvs) .state);
-      direct = λ mvs st. subst₂ Shares (from-bytes source s k e _) (from-bytes (target tso) s k e _)
+      stuck = λ mvs. tso-stuck (volatileIn k) (programFor (Target Tso) k)
+          (runTso s (countsAs (Target Tso) k mvs) .state);
+      direct = λ mvs st. subst₂ Shares (from-bytes Source s k e _) (from-bytes (Target Tso) s k e _)
           (program-direct k w mvs st);
     }
 
@@ -200,10 +202,10 @@ runs s k e =
     record {
       source-runs = λ mvs le. let x =
           source-ran k w mvs le in ap (λ a. a .number)
-          (sym (from-bytes source s k e mvs) ∙ answered source k mvs (x .0) le (x .1));
+          (sym (from-bytes Source s k e mvs) ∙ answered Source k mvs (x .0) le (x .1));
       tso-runs = λ mvs le. let x =
           tso-ran k w mvs le in ap (λ a. a .number)
-          (sym (from-bytes (target tso) s k e mvs) ∙ answered (target tso) k mvs (x .0) le (x .1));
+          (sym (from-bytes (Target Tso) s k e mvs) ∙ answered (Target Tso) k mvs (x .0) le (x .1));
     }
 
 -- of the tso machine, since its runs share what is bounded
@@ -212,20 +214,20 @@ bounds s k e =
     let w = accepted-lawful s k e in
     record {
       source-bounds = λ mvs.
-          subst (λ a. Shaped k (shown a)) (from-bytes source s k e (countsAs source k mvs))
-          (program-bounds k w (countsAs source k mvs) (counts-legal source k mvs));
+          subst (λ a. Shaped k (shown a)) (from-bytes Source s k e (countsAs Source k mvs))
+          (program-bounds k w (countsAs Source k mvs) (counts-legal Source k mvs));
       tso-bounds = λ mvs.
-          let cs = countsAs (target tso) k mvs in
+          let cs = countsAs (Target Tso) k mvs in
           let le =
-          source-legal tso (volatileIn k) (programFor (target tso) k) (length (k .lanes)) (begin (startOf k)) cs
-          (counts-legal (target tso) k mvs) in
-          subst (λ a. Shaped k (shown a)) (from-bytes (target tso) s k e cs)
+          source-legal Tso (volatileIn k) (programFor (Target Tso) k) (length (k .lanes)) (begin (startOf k)) cs
+          (counts-legal (Target Tso) k mvs) in
+          subst (λ a. Shaped k (shown a)) (from-bytes (Target Tso) s k e cs)
           (subst (Shaped k) (program-matched k w mvs .same) (program-bounds k w (sourceFor k mvs) le));
       source-within = λ mvs.
-          subst (λ a. Within (programFor source k) (a .state)) (from-bytes source s k e (countsAs source k mvs))
-          (program-within k w (countsAs source k mvs) (counts-legal source k mvs));
+          subst (λ a. Within (programFor Source k) (a .state)) (from-bytes Source s k e (countsAs Source k mvs))
+          (program-within k w (countsAs Source k mvs) (counts-legal Source k mvs));
       tso-within = λ mvs.
-          subst (λ a. Within (programFor (target tso) k) (a .state))
-          (from-bytes (target tso) s k e (countsAs (target tso) k mvs))
-          (program-tso-within k w (countsAs (target tso) k mvs) (counts-legal (target tso) k mvs));
+          subst (λ a. Within (programFor (Target Tso) k) (a .state))
+          (from-bytes (Target Tso) s k e (countsAs (Target Tso) k mvs))
+          (program-tso-within k w (countsAs (Target Tso) k mvs) (counts-legal (Target Tso) k mvs));
     }

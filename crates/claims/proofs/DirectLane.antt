@@ -12,7 +12,9 @@ use Rattle.barrier_placement.specs.declared.cookbook.Barrier.{Barrier}
 use Rattle.barrier_placement.specs.declared.cookbook.Barrier.the-variants.{LL, LS, SS, SL}
 use Rattle.sheet_format.specs.Layout.{Instr, op, barrier, Placed, operations, start, aim, sheet}
 use Rattle.machine_spec.specs.Entries.{Entry, isNil}
-use Rattle.machine_spec.specs.Rules.{Target, source, target, mayCommit}
+use Rattle.machine_spec.specs.declared.Machine.the-variants.{Source, Target}
+use Rattle.machine_spec.specs.declared.Model.{Model}
+use Rattle.machine_spec.specs.Rules.{mayCommit}
 use Rattle.machine_spec.specs.Step.{Control, Core, Turn, waits, refuses, passes, does, goto, permits, holds, effect}
 use Rattle.machine_spec.specs.Step.{execute, commit}
 use Rattle.claims.specs.Schedules.{leading}
@@ -32,12 +34,12 @@ halted-aim locks r (Lock l) = refl
 halted-aim locks r (Unlock l) = refl
 halted-aim locks r (Skip a t) = refl
 
-op-back : (m : Target) (vol : ℕ → Bool) (w : ℕ) (k i : Control) (c : Core) (r : ℕ → ℕ) → c .pending ≡ [] → (o : Op)
-    → execute (target m) vol w k c (some (op (aim r o))) ≡ waits → execute source vol w i c (some (op o)) ≡ waits
+op-back : (m : Model) (vol : ℕ → Bool) (w : ℕ) (k i : Control) (c : Core) (r : ℕ → ℕ) → c .pending ≡ [] → (o : Op)
+    → execute (Target m) vol w k c (some (op (aim r o))) ≡ waits → execute Source vol w i c (some (op o)) ≡ waits
 op-back m vol w k i c r nil o e =
-    let f : permits source vol c o ≡ false =
-    free-permits source vol c nil o ∙ ap not (sym (halted-aim (c .locks) r o))
-    ∙ sym (free-permits (target m) vol c nil (aim r o)) ∙ waits-permits (target m) vol w k c (aim r o) e in
+    let f : permits Source vol c o ≡ false =
+    free-permits Source vol c nil o ∙ ap not (sym (halted-aim (c .locks) r o))
+    ∙ sym (free-permits (Target m) vol c nil (aim r o)) ∙ waits-permits (Target m) vol w k c (aim r o) e in
     rw f
 
 pub fetch-barrier : (l : List Instr) (q n : ℕ) → leading (drop q l) ≡ suc n → (b : Barrier)
@@ -54,27 +56,27 @@ no-barrier (op o ∷ l) zero b e k = let z : _≡_ {A = ℕ} 0 1 = cc in omega a
 no-barrier (barrier d ∷ l) zero b e k = omega arith
 no-barrier (i ∷ l) (suc q) b e k = no-barrier l q b e k
 
-pub execute-back : (m : Target) (vol : ℕ → Bool) (ps : List Placed) (w : ℕ) (i k : Control) (c : Core)
+pub execute-back : (m : Model) (vol : ℕ → Bool) (ps : List Placed) (w : ℕ) (i k : Control) (c : Core)
     → c .pending ≡ [] → Stands m vol ps (i .pos) k (c .pending) → leading (drop (k .pos) (sheet ps)) ≡ 0
-    → execute (target m) vol w k c (getElem? (sheet ps) (k .pos)) ≡ waits
-    → execute source vol w i c (getElem? (map op (operations ps)) (i .pos)) ≡ waits
+    → execute (Target m) vol w k c (getElem? (sheet ps) (k .pos)) ≡ waits
+    → execute Source vol w i c (getElem? (map op (operations ps)) (i .pos)) ≡ waits
 execute-back m vol ps w i k c nil st e x =
     go _ _ (here ps (i .pos) (st .passed) (st .within)) (ap (getElem? (sheet ps)) (st .place)) refl
-    (subst (λ z. execute (target m) vol w k c (getElem? (sheet ps) z) ≡ waits) (st .place) x)
+    (subst (λ z. execute (Target m) vol w k c (getElem? (sheet ps) z) ≡ waits) (st .place) x)
   where
     go : (a : Option Instr) (o : Option Op) → Here (start ps) a o → getElem? (sheet ps) (k .pos) ≡ a
-        → getElem? (operations ps) (i .pos) ≡ o → execute (target m) vol w k c a ≡ waits
-        → execute source vol w i c (getElem? (map op (operations ps)) (i .pos)) ≡ waits
+        → getElem? (operations ps) (i .pos) ≡ o → execute (Target m) vol w k c a ≡ waits
+        → execute Source vol w i c (getElem? (map op (operations ps)) (i .pos)) ≡ waits
     go a o end h j x = rw (map-none op (operations ps) (i .pos) j)
     go a o ahead h j x = absurd (no-barrier (sheet ps) (k .pos) _ e h)
     go a o (meet {o = o′}) h j x =
         rw (map-some op (operations ps) (i .pos) o′ j) (op-back m vol w k i c (start ps) nil o′ x)
 
 -- the oldest entry never waits
-pub commit-back : (m : Target) (vol : ℕ → Bool) (k i : Control) (c : Core) (e : Option Entry)
-    → commit (target m) vol k c 0 e ≡ waits → commit source vol i c 0 e ≡ waits
+pub commit-back : (m : Model) (vol : ℕ → Bool) (k i : Control) (c : Core) (e : Option Entry)
+    → commit (Target m) vol k c 0 e ≡ waits → commit Source vol i c 0 e ≡ waits
 commit-back m vol k i c none x = refl
-commit-back m vol k i c (some e) x = cc (oldest-commits (target m) vol [] e refl)
+commit-back m vol k i c (some e) x = cc (oldest-commits (Target m) vol [] e refl)
 
 unfoldable pub isPass : Turn → Bool
 isPass waits = false
@@ -86,30 +88,30 @@ cond-not-pass : (b : Bool) (u u′ : Turn) → isPass u ≡ false → isPass u�
 cond-not-pass true u u′ h h′ = h
 cond-not-pass false u u′ h h′ = h′
 
-pub commit-not-pass : (m : Target) (vol : ℕ → Bool) (k : Control) (c : Core) (e : Option Entry)
-    → isPass (commit (target m) vol k c 0 e) ≡ false
+pub commit-not-pass : (m : Model) (vol : ℕ → Bool) (k : Control) (c : Core) (e : Option Entry)
+    → isPass (commit (Target m) vol k c 0 e) ≡ false
 unfolding isPass
 commit-not-pass m vol k c none = refl
-commit-not-pass m vol k c (some e) = cond-not-pass (mayCommit (target m) vol [] e) _ waits refl refl
+commit-not-pass m vol k c (some e) = cond-not-pass (mayCommit (Target m) vol [] e) _ waits refl refl
 
 -- an operation is no barrier
-effect-not-pass : (m : Target) (vol : ℕ → Bool) (w : ℕ) (k : Control) (c : Core) (o : Op)
-    → isPass (effect (target m) vol w k c o) ≡ false
+effect-not-pass : (m : Model) (vol : ℕ → Bool) (w : ℕ) (k : Control) (c : Core) (o : Op)
+    → isPass (effect (Target m) vol w k c o) ≡ false
 unfolding isPass
 effect-not-pass m vol w k c o = cond-not-pass (holds w c o) _ refuses refl refl
 
-pub passes-barrier : (m : Target) (vol : ℕ → Bool) (w : ℕ) (k : Control) (c : Core) (i : Option Instr)
-    → isPass (execute (target m) vol w k c i) ≡ true → (b : Barrier) × (i ≡ some (barrier b))
+pub passes-barrier : (m : Model) (vol : ℕ → Bool) (w : ℕ) (k : Control) (c : Core) (i : Option Instr)
+    → isPass (execute (Target m) vol w k c i) ≡ true → (b : Barrier) × (i ≡ some (barrier b))
 unfolding isPass
 passes-barrier m vol w k c none e = absurd (false≢true e)
 passes-barrier m vol w k c (some (op o)) e = let h =
-    cond-not-pass (permits (target m) vol c o) (effect (target m) vol w k c o) waits (effect-not-pass m vol w k c o)
+    cond-not-pass (permits (Target m) vol c o) (effect (Target m) vol w k c o) waits (effect-not-pass m vol w k c o)
     refl in absurd (false≢true (sym h ∙ e))
 passes-barrier m vol w k c (some (barrier b)) e = (b, refl)
 
 -- with nothing pending each barrier is passed
-pub drained-passes : (m : Target) (vol : ℕ → Bool) (w : ℕ) (k : Control) (c : Core) → c .pending ≡ [] → (b : Barrier)
-    → execute (target m) vol w k c (some (barrier b)) ≡ passes (goto k (suc (k .pos))) c
+pub drained-passes : (m : Model) (vol : ℕ → Bool) (w : ℕ) (k : Control) (c : Core) → c .pending ≡ [] → (b : Barrier)
+    → execute (Target m) vol w k c (some (barrier b)) ≡ passes (goto k (suc (k .pos))) c
 drained-passes m vol w k c nil LL = refl
 drained-passes m vol w k c nil LS = refl
 drained-passes m vol w k c nil SS = refl

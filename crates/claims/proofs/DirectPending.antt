@@ -15,7 +15,7 @@ use Rattle.file_format.specs.declared.accepted.Op.the-variants.{Set, Add, Load,
 use Rattle.barrier_placement.proofs.Laws.Bools.{and-true}
 use Rattle.sheet_format.specs.Layout.{Instr, op, barrier, rank}
 use Rattle.machine_spec.specs.Entries.{Entry, appendEntry}
-use Rattle.machine_spec.specs.Rules.{source}
+use Rattle.machine_spec.specs.declared.Machine.the-variants.{Source}
 use Rattle.machine_spec.specs.Step.{Control, Core, Turn, waits, refuses, passes, does, goto, permits, holds, loads}
 use Rattle.machine_spec.specs.Step.{next}
 use Rattle.machine_spec.specs.Step.{emit, coreAfter, effect, execute, commit}
@@ -59,11 +59,11 @@ module _ (vol : ℕ → Bool) (w : ℕ) (k : Control) (c : Core) where
   emit-length (Skip a t) = refl
 
   effect-after : c .pending ≡ [] → (o : Op)
-      → After (λ es. length es ≡ cond (appends o) 1 0) (c .pending) (effect source vol w k c o)
+      → After (λ es. length es ≡ cond (appends o) 1 0) (c .pending) (effect Source vol w k c o)
   effect-after nil o = go (holds w c o)
     where
       go : (b : Bool) → After (λ es. length es ≡ cond (appends o) 1 0) (c .pending)
-          (cond b (does (goto k (next c o (k .pos))) (coreAfter source vol w c o) (loads source vol c o)) refuses)
+          (cond b (does (goto k (next c o (k .pos))) (coreAfter Source vol w c o) (loads Source vol c o)) refuses)
       go true = ap (λ es. length (appendEntry es (emit c o))) nil ∙ emit-length o
       go false = tt
 
@@ -78,29 +78,29 @@ module _ (vol : ℕ → Bool) (w : ℕ) (k : Control) (c : Core) where
   halted-appends (Skip a t) h = refl
 
   execute-after : c .pending ≡ [] → (i : Option Instr)
-      → After (λ es. length es ≡ cond (appendsAt i) 1 0) (c .pending) (execute source vol w k c i)
+      → After (λ es. length es ≡ cond (appendsAt i) 1 0) (c .pending) (execute Source vol w k c i)
   execute-after nil none = rw nil
   execute-after nil (some (barrier b)) = rw nil
-  execute-after nil (some (op o)) = go (permits source vol c o) refl
+  execute-after nil (some (op o)) = go (permits Source vol c o) refl
     where
-      go : (b : Bool) → permits source vol c o ≡ b
-          → After (λ es. length es ≡ cond (appends o) 1 0) (c .pending) (execute source vol w k c (some (op o)))
+      go : (b : Bool) → permits Source vol c o ≡ b
+          → After (λ es. length es ≡ cond (appends o) 1 0) (c .pending) (execute Source vol w k c (some (op o)))
       go true h = rw h (effect-after nil o)
       go false h =
           let none-appended =
           halted-appends o
-          (not-false (halted (c .locks) (some (op o))) (sym (free-permits source vol c nil o) ∙ h)) in
+          (not-false (halted (c .locks) (some (op o))) (sym (free-permits Source vol c nil o) ∙ h)) in
           rw (h, none-appended, nil)
 
   -- a list of one entry after the commit of that entry
   commit-after : length (c .pending) ≡ 1
-      → After (λ es. length es ≡ 0) (c .pending) (commit source vol k c 0 (getElem? (c .pending) 0))
+      → After (λ es. length es ≡ 0) (c .pending) (commit Source vol k c 0 (getElem? (c .pending) 0))
   commit-after one = go (c .pending) refl one
     where
       go : (es : List Entry) → c .pending ≡ es → length es ≡ 1
-          → After (λ es. length es ≡ 0) (c .pending) (commit source vol k c 0 (getElem? (c .pending) 0))
+          → After (λ es. length es ≡ 0) (c .pending) (commit Source vol k c 0 (getElem? (c .pending) 0))
       go [] h e = absurd (omega arith)
-      go (x ∷ []) h e = rw (h, oldest-commits source vol [] x refl)
+      go (x ∷ []) h e = rw (h, oldest-commits Source vol [] x refl)
       go (x ∷ y ∷ es) h e = absurd (omega arith)
 
 pub nil-of-length : (es : List Entry) → length es ≡ 0 → es ≡ []
@@ -155,15 +155,15 @@ module _ (vol : ℕ → Bool) (prog : List (List Instr)) (n : ℕ) (r : Run) whe
   ready-advance : (d d′ : Option ℕ) (mv : Move) → Ready n d (r .state) → mv .lane < n
       → ((i : ℕ) → i ≢ mv .lane → due d i ≡ due d′ i)
       → After (λ es. length es ≡ due d′ (mv .lane)) (laneAt (r .state) (mv .lane) .pending)
-      (moveTurn source vol prog (r .state) mv)
-      → ReadyOut n d′ (advance source vol prog (ran r) mv)
+      (moveTurn Source vol prog (r .state) mv)
+      → ReadyOut n d′ (advance Source vol prog (ran r) mv)
   ready-advance d d′ mv h lt same a =
       ready-land n d d′ r (mv .lane) (rank (getD prog (mv .lane) []) (posAt (r .state) (mv .lane)))
-      (moveTurn source vol prog (r .state) mv) h lt same a
+      (moveTurn Source vol prog (r .state) mv) h lt same a
 
   pub ready-step : (d : Option ℕ) (t k : ℕ) → Ready n d (r .state) → t < n
-      → honours d (moveTurn source vol prog (r .state) (move t k)) (r .state) (move t k) ≡ true
-      → ReadyOut n (owes prog (r .state) (move t k)) (advance source vol prog (ran r) (move t k))
+      → honours d (moveTurn Source vol prog (r .state) (move t k)) (r .state) (move t k) ≡ true
+      → ReadyOut n (owes prog (r .state) (move t k)) (advance Source vol prog (ran r) (move t k))
   ready-step none t zero h lt e =
       let i = getElem? (getD prog t []) (posAt (r .state) t) in
       ready-advance none (cond (appendsAt i) (some t) none) (move t 0) h lt
@@ -172,17 +172,17 @@ module _ (vol : ℕ → Bool) (prog : List (List Instr)) (n : ℕ) (r : Run) whe
       (execute-after vol (suc t) (laneAt (r .state) t .control) (coreOf (r .state) (laneAt (r .state) t))
       (nil-of-length (laneAt (r .state) t .pending) (h .lists t)) i))
   ready-step (some u) t zero h lt e = let z =
-      honoured u t 0 (moveTurn source vol prog (r .state) (move t 0)) h e .1 in absurd (omega arith)
+      honoured u t 0 (moveTurn Source vol prog (r .state) (move t 0)) h e .1 in absurd (omega arith)
   ready-step none t (suc k) h lt e =
       let nil : laneAt (r .state) t .pending ≡ [] = nil-of-length (laneAt (r .state) t .pending) (h .lists t) in
       ready-advance none none (move t (suc k)) h lt (λ i ne. refl) (rw nil)
   ready-step (some u) t (suc zero) h lt e =
-      let same : t ≡ u = honoured u t 1 (moveTurn source vol prog (r .state) (move t 1)) h e .0 in
+      let same : t ≡ u = honoured u t 1 (moveTurn Source vol prog (r .state) (move t 1)) h e .0 in
       ready-advance (some u) none (move t 1) h lt (λ i ne. due-other true u i (rw same at ne))
       (commit-after vol (suc t) (laneAt (r .state) t .control) (coreOf (r .state) (laneAt (r .state) t))
       (h .lists t ∙ ap (λ j. due (some u) j) same ∙ due-own true u))
   ready-step (some u) t (suc (suc k)) h lt e =
-      let z = honoured u t (suc (suc k)) (moveTurn source vol prog (r .state) (move t (suc (suc k)))) h e .1 in
+      let z = honoured u t (suc (suc k)) (moveTurn Source vol prog (r .state) (move t (suc (suc k)))) h e .1 in
       absurd (omega arith)
 
 pub start-ready : (n : ℕ) (m : List ℕ) (k : ℕ) → Ready n none (startState n m k)

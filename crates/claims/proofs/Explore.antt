@@ -10,7 +10,7 @@ use lib.Dec.{ltb, leb}
 use borrow.Author.Tests.{ltb-true, leb-true}
 use lib.ListN.{length}
 use Rattle.sheet_format.specs.Layout.{Instr}
-use Rattle.machine_spec.specs.Rules.{Machine}
+use Rattle.machine_spec.specs.declared.Machine.{Machine}
 use Rattle.machine_spec.specs.Step.{Turn, waits, refuses, passes, does}
 use Rattle.machine_spec.specs.Schedule.{Move, move, legal}
 use Rattle.machine_spec.specs.State.{State, Run, Outcome, ran, refused, laneAt, setLane, applyTurn, moveTurn, run}

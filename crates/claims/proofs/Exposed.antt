@@ -10,7 +10,10 @@ use Rattle.barrier_placement.specs.declared.cookbook.Barrier.{Barrier}
 use Rattle.barrier_placement.specs.declared.cookbook.Barrier.the-variants.{LL, LS, SS, SL}
 use Rattle.barrier_placement.specs.Cookbook.{same}
 use Rattle.machine_spec.specs.Entries.{Entry, isSync, anySync, isNil, without}
-use Rattle.machine_spec.specs.Rules.{Target, tso, source, target, mayCommit, mayPass}
+use Rattle.machine_spec.specs.declared.Machine.the-variants.{Source, Target}
+use Rattle.machine_spec.specs.declared.Model.{Model}
+use Rattle.machine_spec.specs.declared.Model.the-variants.{Tso}
+use Rattle.machine_spec.specs.Rules.{mayCommit, mayPass}
 use Rattle.claims.specs.Direct.{appends}
 use Rattle.claims.proofs.Fenced.{publishes, opens}
 use Rattle.claims.proofs.Laws.Pending.{sync-snoc, sync-without, nil-sync, oldest-commits}
@@ -46,7 +49,7 @@ exposed-without SS vol es i e k h = h
 exposed-without SL vol es i e k h = sync-without vol i es h
 
 -- a barrier that is passed and leaves something exposed is another one
-pub exposed-pass : (m : Target) (b x : Barrier) (vol : ℕ → Bool) (es : List Entry) → mayPass (target m) x es ≡ true
+pub exposed-pass : (m : Model) (b x : Barrier) (vol : ℕ → Bool) (es : List Entry) → mayPass (Target m) x es ≡ true
     → exposed b vol es ≡ true → same b x ≡ false
 exposed-pass m LL x vol es p h = absurd (false≢true h)
 exposed-pass m LS x vol es p h = absurd (false≢true h)
@@ -57,6 +60,6 @@ exposed-pass m SL SS vol es p h = refl
 exposed-pass m SL SL vol es p h = absurd (false≢true (sym (nil-sync vol es p) ∙ h))
 
 -- what a target may commit, so may the source machine
-pub source-commits : (m : Target) (vol : ℕ → Bool) (older : List Entry) (e : Entry)
-    → mayCommit (target m) vol older e ≡ true → mayCommit source vol older e ≡ true
-source-commits tso vol older e h = oldest-commits source vol older e h
+pub source-commits : (m : Model) (vol : ℕ → Bool) (older : List Entry) (e : Entry)
+    → mayCommit (Target m) vol older e ≡ true → mayCommit Source vol older e ≡ true
+source-commits Tso vol older e h = oldest-commits Source vol older e h

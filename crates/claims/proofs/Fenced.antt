@@ -12,7 +12,8 @@ use Rattle.barrier_placement.specs.declared.cookbook.Barrier.the-variants.{LL, 
 use Rattle.file_format.specs.Accepted.{jump}
 use Rattle.sheet_format.specs.Layout.{Instr, op, Placed, operations, sheet, has}
 use Rattle.sheet_format.specs.Levels.{Level, level2, keeps}
-use Rattle.machine_spec.specs.Rules.{Target, tso}
+use Rattle.machine_spec.specs.declared.Model.{Model}
+use Rattle.machine_spec.specs.declared.Model.the-variants.{Tso}
 
 -- the programs of the source machine and of a target, of lanes with their barriers
 abbrev pub kernelProgram : List (List Placed) → List (List Instr)
@@ -85,12 +86,12 @@ Fenced b vol ps =
     → has b (s .before) ≡ true
 
 -- the level of a target's sheets
-abbrev pub levelOf : Target → Level
-levelOf tso = level2
+abbrev pub levelOf : Model → Level
+levelOf Tso = level2
 
 -- the level keeps b before every operation that does not drain
-abbrev pub KeptAt : Target → Barrier → Type 0
+abbrev pub KeptAt : Model → Barrier → Type 0
 KeptAt m b = (o : Op) → drains o ≡ false → keeps (levelOf m) o b ≡ true
 
-abbrev pub AllFenced : Target → (ℕ → Bool) → List Placed → Type 0
+abbrev pub AllFenced : Model → (ℕ → Bool) → List Placed → Type 0
 AllFenced m vol ps = (b : Barrier) → KeptAt m b → Fenced b vol ps

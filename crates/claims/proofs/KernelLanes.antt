@@ -16,7 +16,8 @@ use Rattle.barrier_placement.proofs.Laws.Paths.{forward-of}
 use Rattle.barrier_placement.specs.Steps.{stepOf, steps}
 use Rattle.sheet_format.specs.Layout.{op, operations}
 use Rattle.sheet_format.specs.Levels.{Level, placed, placedLanes, volatileIn}
-use Rattle.machine_spec.specs.Rules.{Target, source}
+use Rattle.machine_spec.specs.declared.Machine.the-variants.{Source}
+use Rattle.machine_spec.specs.declared.Model.{Model}
 use Rattle.claims.proofs.Fenced.{AllFenced, levelOf, kernelProgram}
 use Rattle.machine_spec.specs.Run.{programFor}
 use Rattle.sheet_format.proofs.LoweredLanes.{placed-operations}
@@ -53,11 +54,11 @@ module _ (k : Program) where
   pub lane-placed : (l : Level) (t : ℕ) → getD (placedLanes l k) t [] ≡ placed l (volatileIn k) (getD (k .lanes) t [])
   lane-placed l t = List·getD-map (placed l (volatileIn k)) (k .lanes) t []
 
-  pub source-program : (l : Level) → kernelProgram (placedLanes l k) ≡ programFor source k
+  pub source-program : (l : Level) → kernelProgram (placedLanes l k) ≡ programFor Source k
   source-program l = kernel-placed l (volatileIn k) (k .lanes)
 
   module _ (w : Lawful k) where
-    pub fenced : (m : Target) (t : ℕ) → AllFenced m (volatileIn k) (getD (placedLanes (levelOf m) k) t [])
+    pub fenced : (m : Model) (t : ℕ) → AllFenced m (volatileIn k) (getD (placedLanes (levelOf m) k) t [])
     fenced m t =
         rw (lane-placed (levelOf m) t)
         (placed-fenced m (volatileIn k) (getD (k .lanes) t []) (forward (w .lane t) (volatileIn k)))

@@ -12,7 +12,9 @@ use Rattle.barrier_placement.specs.declared.cookbook.Barrier.{Barrier}
 use Rattle.barrier_placement.specs.declared.cookbook.Barrier.the-variants.{LL}
 use Rattle.sheet_format.specs.Layout.{op, barrier, Placed, operations, start, aim, sheet}
 use Rattle.machine_spec.specs.Entries.{Entry, without}
-use Rattle.machine_spec.specs.Rules.{Target, source, target, mayCommit, mayPass}
+use Rattle.machine_spec.specs.declared.Machine.the-variants.{Source, Target}
+use Rattle.machine_spec.specs.declared.Model.{Model}
+use Rattle.machine_spec.specs.Rules.{mayCommit, mayPass}
 use Rattle.machine_spec.specs.Step.{Control, Core, Turn, waits, passes, goto, execute, commit, turn}
 use Rattle.claims.proofs.Fenced.{AllFenced}
 use Rattle.claims.proofs.Laws.Sheets.{beforeOf, has-snoc, at-barrier, at-op, at-end, chain-at}
@@ -20,15 +22,15 @@ use Rattle.claims.proofs.Exposed.{exposed-without, exposed-pass, source
 use Rattle.claims.proofs.Stands.{Safe, Stands}
 use Rattle.claims.proofs.OpAgrees.{Agrees, wait, passed-by, act, op-agrees}
 
-module _ (m : Target) (vol : ℕ → Bool) (ps : List Placed) where
+module _ (m : Model) (vol : ℕ → Bool) (ps : List Placed) where
   commit-agrees : (i k : Control) (c : Core) (n : ℕ) (e : Option Entry) → getElem? (c .pending) n ≡ e
       → Stands m vol ps (i .pos) k (c .pending)
-      → Agrees m vol ps (i .pos) c (commit (target m) vol k c n e) (commit source vol i c n e)
+      → Agrees m vol ps (i .pos) c (commit (Target m) vol k c n e) (commit Source vol i c n e)
   commit-agrees i k c n none at st = wait
-  commit-agrees i k c n (some e) at st = go (mayCommit (target m) vol (take n (c .pending)) e) refl
+  commit-agrees i k c n (some e) at st = go (mayCommit (Target m) vol (take n (c .pending)) e) refl
     where
-      go : (b : Bool) → mayCommit (target m) vol (take n (c .pending)) e ≡ b
-          → Agrees m vol ps (i .pos) c (commit (target m) vol k c n (some e)) (commit source vol i c n (some e))
+      go : (b : Bool) → mayCommit (Target m) vol (take n (c .pending)) e ≡ b
+          → Agrees m vol ps (i .pos) c (commit (Target m) vol k c n (some e)) (commit Source vol i c n (some e))
       go false h = rw h wait
       go true h = rw (h, source-commits m vol (take n (c .pending)) e h) (act left)
         where
@@ -42,15 +44,15 @@ module _ (m : Target) (vol : ℕ → Bool) (ps : List Placed) where
 
   module _ (f : AllFenced m vol ps) (w : ℕ) (i k : Control) (c : Core) (st : Stands m vol ps (i .pos) k (c .pending))
     where
-      execute-agrees : Agrees m vol ps (i .pos) c (execute (target m) vol w k c (getElem? (sheet ps) (k .pos)))
-          (execute source vol w i c (getElem? (map op (operations ps)) (i .pos)))
+      execute-agrees : Agrees m vol ps (i .pos) c (execute (Target m) vol w k c (getElem? (sheet ps) (k .pos)))
+          (execute Source vol w i c (getElem? (map op (operations ps)) (i .pos)))
       execute-agrees = go (getElem? ps (i .pos)) refl
         where
           u : Turn
-          u = execute source vol w i c (getElem? (map op (operations ps)) (i .pos))
+          u = execute Source vol w i c (getElem? (map op (operations ps)) (i .pos))
 
           go : (s : Option Placed) → getElem? ps (i .pos) ≡ s
-              → Agrees m vol ps (i .pos) c (execute (target m) vol w k c (getElem? (sheet ps) (k .pos))) u
+              → Agrees m vol ps (i .pos) c (execute (Target m) vol w k c (getElem? (sheet ps) (k .pos))) u
           go none here = rw (st .place, at-end (start ps) ps (i .pos) (st .passed) here) wait
           go (some s) here = reach (decLt (st .passed) (length (s .before)))
             where
@@ -61,16 +63,16 @@ module _ (m : Target) (vol : ℕ → Bool) (ps : List Placed) where
               guard = subst (λ o. Safe m vol ps (i .pos) (c .pending) (take (st .passed) (beforeOf o))) here (st .safe)
 
               reach : Dec (st .passed < length (s .before))
-                  → Agrees m vol ps (i .pos) c (execute (target m) vol w k c (getElem? (sheet ps) (k .pos))) u
+                  → Agrees m vol ps (i .pos) c (execute (Target m) vol w k c (getElem? (sheet ps) (k .pos))) u
               reach (yes h) =
                   let fetch : getElem? (sheet ps) (k .pos) ≡ some (barrier (getD (s .before) (st .passed) LL)) =
                   rw (st .place) (at-barrier (start ps) ps (i .pos) (st .passed) s here h) in
-                  rw fetch (bar (mayPass (target m) x (c .pending)) refl)
+                  rw fetch (bar (mayPass (Target m) x (c .pending)) refl)
                 where
                   x : Barrier
                   x = getD (s .before) (st .passed) LL
 
-                  past : mayPass (target m) x (c .pending) ≡ true
+                  past : mayPass (Target m) x (c .pending) ≡ true
                       → Stands m vol ps (i .pos) (goto k (suc (k .pos))) (c .pending)
                   past may = record {
                     passed = suc (st .passed);
@@ -86,9 +88,9 @@ module _ (m : Target) (vol : ℕ → Bool) (ps : List Placed) where
                         );
                   }
 
-                  bar : (b : Bool) → mayPass (target m) x (c .pending) ≡ b
+                  bar : (b : Bool) → mayPass (Target m) x (c .pending) ≡ b
                       → Agrees m vol ps (i .pos) c
-                      (cond (mayPass (target m) x (c .pending)) (passes (goto k (suc (k .pos))) c) waits) u
+                      (cond (mayPass (Target m) x (c .pending)) (passes (goto k (suc (k .pos))) c) waits) u
                   bar false e = rw e wait
                   bar true e = rw e (passed-by (past e))
               reach (no h) =
@@ -104,7 +106,7 @@ module _ (m : Target) (vol : ℕ → Bool) (ps : List Placed) where
                   }) w (s .oper) refl)
 
       pub turn-agrees : (n : ℕ)
-          → Agrees m vol ps (i .pos) c (turn (target m) vol w (sheet ps) k c n)
-          (turn source vol w (map op (operations ps)) i c n)
+          → Agrees m vol ps (i .pos) c (turn (Target m) vol w (sheet ps) k c n)
+          (turn Source vol w (map op (operations ps)) i c n)
       turn-agrees zero = execute-agrees
       turn-agrees (suc n) = commit-agrees i k c n (getElem? (c .pending) n) refl st

@@ -13,7 +13,8 @@ use Rattle.file_format.specs.declared.accepted.Op.the-variants.{Set, Add, Load,
 use Rattle.barrier_placement.proofs.Laws.Bools.{and-true}
 use Rattle.sheet_format.specs.Layout.{op}
 use Rattle.machine_spec.specs.Entries.{Entry, write, release, anySync, without}
-use Rattle.machine_spec.specs.Rules.{source, mayCommit}
+use Rattle.machine_spec.specs.declared.Machine.the-variants.{Source}
+use Rattle.machine_spec.specs.Rules.{mayCommit}
 use Rattle.machine_spec.specs.Step.{Control, Core, Turn, waits, refuses, passes, does, reg, permits, holds, next}
 use Rattle.machine_spec.specs.Step.{coreAfter, effect, execute, settle, commit, turn}
 use Rattle.claims.proofs.Laws.Lists.{map-some, map-none}
@@ -39,8 +40,8 @@ module _ (n : ℕ) (os : List Op) (held : ℕ → ℕ → Bool) (D : Disciplined
       unchanged n t (c .pending) (c .locks) len (held (i .pos)) h (held p) d (λ l. rw (e l, r l)) k
 
   -- an operation that is carried out, at the position and with the core after it
-  op-kept : (o : Op) → getElem? os (i .pos) ≡ some o → permits source vol c o ≡ true
-      → Kept n (held (next c o (i .pos))) t (c .locks) (coreAfter source vol (suc t) c o)
+  op-kept : (o : Op) → getElem? os (i .pos) ≡ some o → permits Source vol c o ≡ true
+      → Kept n (held (next c o (i .pos))) t (c .locks) (coreAfter Source vol (suc t) c o)
   op-kept (Set a m) e may = plain (suc (i .pos)) _ (D .onward (i .pos) (Set a m) e) (λ l. refl) refl
   op-kept (Add a b) e may = plain (suc (i .pos)) _ (D .onward (i .pos) (Add a b) e) (λ l. refl) refl
   op-kept (Load a x) e may = plain (suc (i .pos)) _ (D .onward (i .pos) (Load a x) e) (λ l. refl) refl
@@ -87,14 +88,14 @@ module _ (n : ℕ) (os : List Op) (held : ℕ → ℕ → Bool) (D : Disciplined
       eq-eqb (getD (c .locks) k 0) (suc t) (h .own k (rw has (omega arith)))
   op-holds (Skip a u) e = refl
 
-  effect-sound : (o : Op) → getElem? os (i .pos) ≡ some o → permits source vol c o ≡ true
-      → Sound n held t (c .locks) (effect source vol (suc t) i c o)
+  effect-sound : (o : Op) → getElem? os (i .pos) ≡ some o → permits Source vol c o ≡ true
+      → Sound n held t (c .locks) (effect Source vol (suc t) i c o)
   effect-sound o e may = rw (op-holds o e) (op-kept o e may)
 
   commit-sound : (x : ℕ) (e : Option Entry) → getElem? (c .pending) x ≡ e
-      → Sound n held t (c .locks) (commit source vol i c x e)
+      → Sound n held t (c .locks) (commit Source vol i c x e)
   commit-sound x none k = tt
-  commit-sound x (some e) k = go (mayCommit source vol (take x (c .pending)) e) e k
+  commit-sound x (some e) k = go (mayCommit Source vol (take x (c .pending)) e) e k
     where
       go : (b : Bool) (e : Entry) → getElem? (c .pending) x ≡ some e
           → Sound n held t (c .locks) (cond b (does i (settle c (without x (c .pending)) e) none) waits)
@@ -105,16 +106,16 @@ module _ (n : ℕ) (os : List Op) (held : ℕ → ℕ → Bool) (D : Disciplined
           let-go n t (c .pending) (c .locks) len (held (i .pos)) h m _
           (λ l. releases-without l x (c .pending) (release m) k) refl
 
-  pub turn-sound : (k : ℕ) → Sound n held t (c .locks) (turn source vol (suc t) (map op os) i c k)
+  pub turn-sound : (k : ℕ) → Sound n held t (c .locks) (turn Source vol (suc t) (map op os) i c k)
   turn-sound zero = go (getElem? os (i .pos)) refl
     where
-      act : (o : Op) → getElem? os (i .pos) ≡ some o → (b : Bool) → permits source vol c o ≡ b
-          → Sound n held t (c .locks) (cond (permits source vol c o) (effect source vol (suc t) i c o) waits)
+      act : (o : Op) → getElem? os (i .pos) ≡ some o → (b : Bool) → permits Source vol c o ≡ b
+          → Sound n held t (c .locks) (cond (permits Source vol c o) (effect Source vol (suc t) i c o) waits)
       act o e true may = rw may (effect-sound o e may)
       act o e false may = rw may tt
 
       go : (o : Option Op) → getElem? os (i .pos) ≡ o
-          → Sound n held t (c .locks) (execute source vol (suc t) i c (getElem? (map op os) (i .pos)))
+          → Sound n held t (c .locks) (execute Source vol (suc t) i c (getElem? (map op os) (i .pos)))
       go none e = rw (map-none op os (i .pos) e) tt
-      go (some o) e = rw (map-some op os (i .pos) o e) (act o e (permits source vol c o) refl)
+      go (some o) e = rw (map-some op os (i .pos) o e) (act o e (permits Source vol c o) refl)
   turn-sound (suc x) = commit-sound x (getElem? (c .pending) x) refl

@@ -6,7 +6,8 @@ use Prim.Native.Nat.{ℕ, suc}
 use native.Mathlib.Omega.{arith}
 use lib.ListN.{length, getD, length-map, List·getD-map}
 use Rattle.sheet_format.specs.Layout.{op, Placed, operations, start, sheet, rank}
-use Rattle.machine_spec.specs.Rules.{Target, source, target}
+use Rattle.machine_spec.specs.declared.Machine.the-variants.{Source, Target}
+use Rattle.machine_spec.specs.declared.Model.{Model}
 use Rattle.machine_spec.specs.Step.{Control, Core, Turn, turn}
 use Rattle.machine_spec.specs.Schedule.{Move}
 use Rattle.machine_spec.specs.State.{Lane, State, Run, Outcome, ran, refused, idle, laneAt, posAt, coreOf, setLane}
@@ -24,22 +25,22 @@ use Rattle.claims.proofs.LaneAgrees.{turn-agrees}
 use Rattle.claims.proofs.Exposed.{exposed-nil}
 
 -- a source lane and the target's lane that it matches
-pub record LaneFollows (m : Target) (vol : ℕ → Bool) (ps : List Placed) (a b : Lane) : Type 0 where
+pub record LaneFollows (m : Model) (vol : ℕ → Bool) (ps : List Placed) (a b : Lane) : Type 0 where
   pub regs : a .regs ≡ b .regs
   pub pending : a .pending ≡ b .pending
   pub stands : Stands m vol ps (a .control .pos) (b .control) (b .pending)
 
-pub record Follows (m : Target) (vol : ℕ → Bool) (ks : List (List Placed)) (a b : State) : Type 0 where
+pub record Follows (m : Model) (vol : ℕ → Bool) (ks : List (List Placed)) (a b : State) : Type 0 where
   pub lanes : (t : ℕ) → LaneFollows m vol (getD ks t []) (laneAt a t) (laneAt b t)
   pub count : length (a .lanes) ≡ length (b .lanes)
   pub memory : a .memory ≡ b .memory
   pub locks : a .locks ≡ b .locks
 
-pub data Matched (m : Target) (vol : ℕ → Bool) (ks : List (List Placed)) : Outcome → Outcome → Type 0 where
+pub data Matched (m : Model) (vol : ℕ → Bool) (ks : List (List Placed)) : Outcome → Outcome → Type 0 where
   both-ran : {r s : Run} → r .row ≡ s .row → Follows m vol ks (r .state) (s .state) → Matched m vol ks (ran r) (ran s)
   both-refused : {t k : ℕ} → Matched m vol ks (refused t k) (refused t k)
 
-module _ (m : Target) (vol : ℕ → Bool) (ks : List (List Placed)) where
+module _ (m : Model) (vol : ℕ → Bool) (ks : List (List Placed)) where
   follows-put : (a b : State) → Follows m vol ks a b → (t : ℕ) (i k : Control) (d : Core)
       → Stands m vol (getD ks t []) (i .pos) k (d .pending) → Follows m vol ks (setLane a t i d) (setLane b t k d)
   follows-put a b h t i k d st = record {
@@ -57,15 +58,15 @@ module _ (m : Target) (vol : ℕ → Bool) (ks : List (List Placed)) where
 
   module _ (f : (t : ℕ) → AllFenced m vol (getD ks t [])) where
     pub source-turn : (a b : State) → Follows m vol ks a b → (mv : Move)
-        → moveTurn source vol (kernelProgram ks) a mv
-        ≡ turn source vol (suc (mv .lane)) (map op (operations (getD ks (mv .lane) [])))
+        → moveTurn Source vol (kernelProgram ks) a mv
+        ≡ turn Source vol (suc (mv .lane)) (map op (operations (getD ks (mv .lane) [])))
         (laneAt a (mv .lane) .control) (coreOf b (laneAt b (mv .lane))) (mv .choice)
     source-turn a b h mv =
         rw (List·getD-map (λ ps. map op (operations ps)) ks (mv .lane) [], same-core a b h (mv .lane)) refl
 
     pub lane-agrees : (a b : State) → Follows m vol ks a b → (mv : Move)
         → Agrees m vol (getD ks (mv .lane) []) (posAt a (mv .lane)) (coreOf b (laneAt b (mv .lane)))
-        (moveTurn (target m) vol (sheetProgram ks) b mv) (moveTurn source vol (kernelProgram ks) a mv)
+        (moveTurn (Target m) vol (sheetProgram ks) b mv) (moveTurn Source vol (kernelProgram ks) a mv)
     lane-agrees a b h mv =
         rw (source-turn a b h mv, List·getD-map sheet ks (mv .lane) [])
         (turn-agrees m vol (getD ks (mv .lane) []) (f (mv .lane)) (suc (mv .lane)) _ _
@@ -79,8 +80,8 @@ module _ (m : Target) (vol : ℕ → Bool) (ks : List (List Placed)) where
         (sym (rank-cells (start (getD ks t [])) (getD ks t []) (posAt a t) (st .passed) (st .within)))
 
     pub step-matched : (r s : Run) → r .row ≡ s .row → Follows m vol ks (r .state) (s .state) → (mv : Move)
-        → Matched m vol ks (run source vol (kernelProgram ks) (ran r) (keepMove m vol (sheetProgram ks) (ran s) mv))
-        (advance (target m) vol (sheetProgram ks) (ran s) mv)
+        → Matched m vol ks (run Source vol (kernelProgram ks) (ran r) (keepMove m vol (sheetProgram ks) (ran s) mv))
+        (advance (Target m) vol (sheetProgram ks) (ran s) mv)
     step-matched r s e h mv = go _ _ (lane-agrees a b h mv) refl
       where
         a : State
@@ -98,8 +99,8 @@ module _ (m : Target) (vol : ℕ → Bool) (ks : List (List Placed)) where
         c : Core
         c = coreOf b (laneAt b t)
 
-        go : (u′ u : Turn) → Agrees m vol ps (posAt a t) c u′ u → moveTurn source vol (kernelProgram ks) a mv ≡ u
-            → Matched m vol ks (run source vol (kernelProgram ks) (ran r) (keep mv u′))
+        go : (u′ u : Turn) → Agrees m vol ps (posAt a t) c u′ u → moveTurn Source vol (kernelProgram ks) a mv ≡ u
+            → Matched m vol ks (run Source vol (kernelProgram ks) (ran r) (keep mv u′))
             (applyTurn s t (rank (getD (sheetProgram ks) t []) (posAt b t)) u′)
         go u′ u wait k = both-ran e h
         go u′ u refuse k = rw (k, same-rank a b h t) both-refused
@@ -114,14 +115,14 @@ module _ (m : Target) (vol : ℕ → Bool) (ks : List (List Placed)) where
             (follows-put a b h t j j′ d st))
 
     advance-matched : (o o′ : Outcome) → Matched m vol ks o o′ → (mv : Move)
-        → Matched m vol ks (run source vol (kernelProgram ks) o (keepMove m vol (sheetProgram ks) o′ mv))
-        (advance (target m) vol (sheetProgram ks) o′ mv)
+        → Matched m vol ks (run Source vol (kernelProgram ks) o (keepMove m vol (sheetProgram ks) o′ mv))
+        (advance (Target m) vol (sheetProgram ks) o′ mv)
     advance-matched o o′ (both-ran {r = r} {s = s} e h) mv = step-matched r s e h mv
     advance-matched o o′ both-refused mv = both-refused
 
     pub matching : (mvs : List Move) (o o′ : Outcome) → Matched m vol ks o o′
-        → Matched m vol ks (run source vol (kernelProgram ks) o (sourceSchedule m vol (sheetProgram ks) o′ mvs))
-        (run (target m) vol (sheetProgram ks) o′ mvs)
+        → Matched m vol ks (run Source vol (kernelProgram ks) o (sourceSchedule m vol (sheetProgram ks) o′ mvs))
+        (run (Target m) vol (sheetProgram ks) o′ mvs)
     matching [] o o′ h = h
     matching (mv ∷ mvs) o o′ h = rw foldl-append (matching mvs _ _ (advance-matched o o′ h mv))
 

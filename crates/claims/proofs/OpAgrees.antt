@@ -12,7 +12,9 @@ use Rattle.barrier_placement.specs.declared.cookbook.Barrier.the-variants.{SL}
 use Rattle.barrier_placement.proofs.Laws.Bools.{and-true}
 use Rattle.sheet_format.specs.Layout.{op, Placed, start, aim}
 use Rattle.machine_spec.specs.Entries.{write, release, anySync, isNil, appendEntry}
-use Rattle.machine_spec.specs.Rules.{Target, tso, source, target}
+use Rattle.machine_spec.specs.declared.Machine.the-variants.{Source, Target}
+use Rattle.machine_spec.specs.declared.Model.{Model}
+use Rattle.machine_spec.specs.declared.Model.the-variants.{Tso}
 use Rattle.machine_spec.specs.Step.{Control, Core, Turn, waits, refuses, passes, does, goto, reg, permits, holds}
 use Rattle.machine_spec.specs.Step.{valueOf}
 use Rattle.machine_spec.specs.Step.{loads, next, emit, coreAfter, effect, execute}
@@ -21,7 +23,7 @@ use Rattle.claims.proofs.Laws.Pending.{newest-sync, nil-sync}
 use Rattle.claims.proofs.Stands.{Stands, Reached, onwards, lands, locked-on, appended, parted}
 
 -- a turn of the target and the source turn for it, with the core c before
-pub data Agrees (m : Target) (vol : ℕ → Bool) (ps : List Placed) (p : ℕ) (c : Core) : Turn → Turn → Type 0 where
+pub data Agrees (m : Model) (vol : ℕ → Bool) (ps : List Placed) (p : ℕ) (c : Core) : Turn → Turn → Type 0 where
   wait : {u : Turn} → Agrees m vol ps p c waits u
   refuse : Agrees m vol ps p c refuses refuses
   passed-by : {k : Control} {u : Turn} → Stands m vol ps p k (c .pending) → Agrees m vol ps p c (passes k c) u
@@ -29,29 +31,29 @@ pub data Agrees (m : Target) (vol : ℕ → Bool) (ps : List Placed) (p : ℕ) (
       → Agrees m vol ps p c (does j′ d v) (does j d v)
 
 -- both are refused, or both act alike
-both-act : {m : Target} {vol : ℕ → Bool} {ps : List Placed} {p : ℕ} {c : Core} (b : Bool) {b′ : Bool} (j j′ : Control)
+both-act : {m : Model} {vol : ℕ → Bool} {ps : List Placed} {p : ℕ} {c : Core} (b : Bool) {b′ : Bool} (j j′ : Control)
     {d d′ : Core} {v v′ : Option ℕ} → b′ ≡ b → d′ ≡ d → v′ ≡ v → Stands m vol ps (j .pos) j′ (d .pending)
     → Agrees m vol ps p c (cond b′ (does j′ d′ v′) refuses) (cond b (does j d v) refuses)
 both-act true j j′ eb ed ev st = rw (eb, ed, ev) (act st)
 both-act false j j′ eb ed ev st = rw eb refuse
 
-keeps-SL : (m : Target) → KeptAt m SL
-keeps-SL tso o flows = refl
+keeps-SL : (m : Model) → KeptAt m SL
+keeps-SL Tso o flows = refl
 
-module _ {m : Target} {vol : ℕ → Bool} {ps : List Placed} (f : AllFenced m vol ps) {i k : Control} {c : Core}
+module _ {m : Model} {vol : ℕ → Bool} {ps : List Placed} (f : AllFenced m vol ps) {i k : Control} {c : Core}
     {s : Placed} (r : Reached m vol ps i k c s) where
   -- the LOAD of a volatile location finds nothing exposed
   load-parted : (a x : ℕ) → s .oper ≡ Load a x → vol x ≡ true → anySync vol (c .pending) ≡ false
   load-parted a x e v = parted r f SL (keeps-SL m) (rw e v)
 
   -- what the target permits, so does the source machine
-  op-permits : (o : Op) → s .oper ≡ o → permits (target m) vol c (aim (start ps) o) ≡ true
-      → permits source vol c o ≡ true
+  op-permits : (o : Op) → s .oper ≡ o → permits (Target m) vol c (aim (start ps) o) ≡ true
+      → permits Source vol c o ≡ true
   op-permits (Set a n) e h = h
   op-permits (Add a b) e h = h
   op-permits (Load a x) e h = go (vol x) refl
     where
-      go : (b : Bool) → vol x ≡ b → permits source vol c (Load a x) ≡ true
+      go : (b : Bool) → vol x ≡ b → permits Source vol c (Load a x) ≡ true
       go false v = rw v
       go true v = rw (v, load-parted a x e v)
   op-permits (Store a x) e h = h
@@ -62,14 +64,14 @@ module _ {m : Target} {vol : ℕ → Bool} {ps : List Placed} (f : AllFenced m v
   op-permits (Skip a t) e h = h
 
   -- and a LOAD takes the same value
-  same-value : (a x : ℕ) → s .oper ≡ Load a x → valueOf (target m) vol c x ≡ valueOf source vol c x
+  same-value : (a x : ℕ) → s .oper ≡ Load a x → valueOf (Target m) vol c x ≡ valueOf Source vol c x
   same-value a x e = go (vol x) refl
     where
-      go : (b : Bool) → vol x ≡ b → valueOf (target m) vol c x ≡ valueOf source vol c x
+      go : (b : Bool) → vol x ≡ b → valueOf (Target m) vol c x ≡ valueOf Source vol c x
       go false v = rw v
       go true v = rw (v, newest-sync vol x (getD (c .memory) x 0) (c .pending) v (load-parted a x e v))
 
-  same-loads : (o : Op) → s .oper ≡ o → loads (target m) vol c (aim (start ps) o) ≡ loads source vol c o
+  same-loads : (o : Op) → s .oper ≡ o → loads (Target m) vol c (aim (start ps) o) ≡ loads Source vol c o
   same-loads (Set a n) e = refl
   same-loads (Add a b) e = refl
   same-loads (Load a x) e = ap some (same-value a x e)
@@ -79,7 +81,7 @@ module _ {m : Target} {vol : ℕ → Bool} {ps : List Placed} (f : AllFenced m v
   same-loads (Skip a t) e = refl
 
   same-core : (w : ℕ) (o : Op) → s .oper ≡ o
-      → coreAfter (target m) vol w c (aim (start ps) o) ≡ coreAfter source vol w c o
+      → coreAfter (Target m) vol w c (aim (start ps) o) ≡ coreAfter Source vol w c o
   same-core w (Set a n) e = refl
   same-core w (Add a b) e = refl
   same-core w (Load a x) e =
@@ -100,7 +102,7 @@ module _ {m : Target} {vol : ℕ → Bool} {ps : List Placed} (f : AllFenced m v
   same-holds w (Skip a t) = refl
 
   -- where both lanes stand after the operation
-  after-stands : (o : Op) → s .oper ≡ o → permits (target m) vol c (aim (start ps) o) ≡ true
+  after-stands : (o : Op) → s .oper ≡ o → permits (Target m) vol c (aim (start ps) o) ≡ true
       → Stands m vol ps (next c o (i .pos)) (goto k (next c (aim (start ps) o) (k .pos)))
       (appendEntry (c .pending) (emit c o))
   after-stands (Set a n) e h = onwards r (rw e)
@@ -116,19 +118,19 @@ module _ {m : Target} {vol : ℕ → Bool} {ps : List Placed} (f : AllFenced m v
       go true = lands r a t e
       go false = onwards r (rw e)
 
-  op-effect : (w : ℕ) (o : Op) → s .oper ≡ o → permits (target m) vol c (aim (start ps) o) ≡ true
-      → Agrees m vol ps (i .pos) c (effect (target m) vol w k c (aim (start ps) o)) (effect source vol w i c o)
+  op-effect : (w : ℕ) (o : Op) → s .oper ≡ o → permits (Target m) vol c (aim (start ps) o) ≡ true
+      → Agrees m vol ps (i .pos) c (effect (Target m) vol w k c (aim (start ps) o)) (effect Source vol w i c o)
   op-effect w o e h =
       both-act (holds w c o) (goto i (next c o (i .pos))) (goto k (next c (aim (start ps) o) (k .pos)))
       (same-holds w o) (same-core w o e) (same-loads o e) (after-stands o e h)
 
   pub op-agrees : (w : ℕ) (o : Op) → s .oper ≡ o
-      → Agrees m vol ps (i .pos) c (execute (target m) vol w k c (some (op (aim (start ps) o))))
-      (execute source vol w i c (some (op o)))
-  op-agrees w o e = go (permits (target m) vol c (aim (start ps) o)) refl
+      → Agrees m vol ps (i .pos) c (execute (Target m) vol w k c (some (op (aim (start ps) o))))
+      (execute Source vol w i c (some (op o)))
+  op-agrees w o e = go (permits (Target m) vol c (aim (start ps) o)) refl
     where
-      go : (b : Bool) → permits (target m) vol c (aim (start ps) o) ≡ b
-          → Agrees m vol ps (i .pos) c (execute (target m) vol w k c (some (op (aim (start ps) o))))
-          (execute source vol w i c (some (op o)))
+      go : (b : Bool) → permits (Target m) vol c (aim (start ps) o) ≡ b
+          → Agrees m vol ps (i .pos) c (execute (Target m) vol w k c (some (op (aim (start ps) o))))
+          (execute Source vol w i c (some (op o)))
       go false h = rw h wait
       go true h = rw (h, op-permits o e h) (op-effect w o e h)

@@ -26,7 +26,7 @@ use Rattle.barrier_placement.proofs.Correct.{correct}
 use Rattle.sheet_format.specs.Layout.{Placed, operations, has}
 use Rattle.sheet_format.specs.Levels.{Level, keeps, placeFrom, placed}
 use Rattle.sheet_format.proofs.LoweredLanes.{placed-operations}
-use Rattle.machine_spec.specs.Rules.{Target}
+use Rattle.machine_spec.specs.declared.Model.{Model}
 use Rattle.claims.proofs.Fenced.{publishes, acquires, drains, opens, needs, levelOf, Edge, falls, jumps}
 use Rattle.claims.proofs.Fenced.{Open, starts, goes-on, Fenced, AllFenced}
 use Rattle.claims.proofs.Laws.Lists.{map-some}
@@ -190,7 +190,7 @@ module _ (b : Barrier) (vol : ℕ → Bool) (ps : List Placed) (B : ℕ → Bool
       })
 
 -- the lanes of a target's level, on every chain whose skips go forward
-pub placed-fenced : (m : Target) (vol : ℕ → Bool) (ops : List Op) → Forward (steps vol ops)
+pub placed-fenced : (m : Model) (vol : ℕ → Bool) (ops : List Op) → Forward (steps vol ops)
     → AllFenced m vol (placed (levelOf m) vol ops)
 placed-fenced m vol ops forward b v =
     sentence-fenced b vol (placed l vol ops) (stands (steps vol ops) b) stand

@@ -9,7 +9,8 @@ use borrow.Author.Tests.{ltb-true}
 use lib.ListN.{length, getD, replicate, length-replicate, List·getD-map}
 use Rattle.barrier_placement.proofs.Laws.Bools.{and-true}
 use Rattle.sheet_format.specs.Layout.{op, Placed, operations}
-use Rattle.machine_spec.specs.Rules.{Target, source, target}
+use Rattle.machine_spec.specs.declared.Machine.the-variants.{Source, Target}
+use Rattle.machine_spec.specs.declared.Model.{Model}
 use Rattle.machine_spec.specs.Step.{Turn, waits, refuses, passes, does}
 use Rattle.machine_spec.specs.Schedule.{Move, limit, legal}
 use Rattle.machine_spec.specs.State.{State, startState, laneAt, posAt, coreOf, Run, Outcome, ran, refused, applyTurn}
@@ -49,22 +50,22 @@ module _ (m n : ℕ) (ks : List (List Placed)) (held : ℕ → ℕ → ℕ → B
   }
 
   inv-step : (r : Run) (mv : Move) → mv .lane < m → Inv (r .state)
-      → InvOut (advance source vol (kernelProgram ks) (ran r) mv)
+      → InvOut (advance Source vol (kernelProgram ks) (ran r) mv)
   inv-step r mv lt i =
-      inv-land r (mv .lane) _ lt i (moveTurn source vol (kernelProgram ks) (r .state) mv)
+      inv-land r (mv .lane) _ lt i (moveTurn Source vol (kernelProgram ks) (r .state) mv)
       (rw (List·getD-map (λ ps. map op (operations ps)) ks (mv .lane) [])
       (turn-sound n (operations (getD ks (mv .lane) [])) (held (mv .lane)) (D (mv .lane)) vol (mv .lane)
       (laneAt (r .state) (mv .lane) .control)
       (coreOf (r .state) (laneAt (r .state) (mv .lane))) (i .locks) (i .claims (mv .lane)) (mv .choice)))
 
   inv-run : (mvs : List Move) (o : Outcome) → InvOut o → legal m 64 mvs ≡ true
-      → InvOut (run source vol (kernelProgram ks) o mvs)
+      → InvOut (run Source vol (kernelProgram ks) o mvs)
   inv-run [] o i le = i
   inv-run (mv ∷ mvs) (refused t k) i le = absurd i
   inv-run (mv ∷ mvs) (ran r) i le =
       let fits = and-true (ltb (mv .lane) m && leb (mv .choice) 64) (legal m 64 mvs) le in
       let lt : mv .lane < m = ltb-true (mv .lane) m (and-true (ltb (mv .lane) m) (leb (mv .choice) 64) (fits .0) .0) in
-      inv-run mvs (advance source vol (kernelProgram ks) (ran r) mv) (inv-step r mv lt i) (fits .1)
+      inv-run mvs (advance Source vol (kernelProgram ks) (ran r) mv) (inv-step r mv lt i) (fits .1)
 
   inv-start : (mem : List ℕ) → Inv (startState m mem n)
   inv-start mem = record {
@@ -89,17 +90,17 @@ module _ (m n : ℕ) (ks : List (List Placed)) (held : ℕ → ℕ → ℕ → B
 
   -- no source run is refused
   pub source-runs : (mem : List ℕ) (mvs : List Move) → legal m 64 mvs ≡ true → (r : Run)
-      × (run source vol (kernelProgram ks) (begin (startState m mem n)) mvs ≡ ran r)
+      × (run Source vol (kernelProgram ks) (begin (startState m mem n)) mvs ≡ ran r)
   source-runs mem mvs le = ran-of _ (inv-run mvs (begin (startState m mem n)) (inv-start mem) le)
 
-  matched-inv : (x : Target) (o o′ : Outcome) → Matched x vol ks o o′ → InvOut o → (r : Run) × (o′ ≡ ran r)
+  matched-inv : (x : Model) (o o′ : Outcome) → Matched x vol ks o o′ → InvOut o → (r : Run) × (o′ ≡ ran r)
   matched-inv x o o′ (both-ran {s = s} e h) i = (s, refl)
   matched-inv x o o′ both-refused i = absurd i
 
   -- nor is a run of a target, since it would share the refusal
-  pub target-runs : (x : Target) → ((t : ℕ) → AllFenced x vol (getD ks t [])) → (mem : List ℕ) (mvs : List Move)
-      → legal m (limit (target x)) mvs ≡ true
-      → (r : Run) × (run (target x) vol (sheetProgram ks) (begin (startState m mem n)) mvs ≡ ran r)
+  pub target-runs : (x : Model) → ((t : ℕ) → AllFenced x vol (getD ks t [])) → (mem : List ℕ) (mvs : List Move)
+      → legal m (limit (Target x)) mvs ≡ true
+      → (r : Run) × (run (Target x) vol (sheetProgram ks) (begin (startState m mem n)) mvs ≡ ran r)
   target-runs x f mem mvs le =
       let s = begin (startState m mem n) in
       matched-inv x _ _ (matching x vol ks f mvs s s (begin-matched x vol ks m mem n))

@@ -12,7 +12,7 @@ use Rattle.barrier_placement.specs.declared.cookbook.Barrier.{Barrier}
 use Rattle.barrier_placement.proofs.Laws.Bools.{or-right}
 use Rattle.sheet_format.specs.Layout.{Placed, start, has}
 use Rattle.machine_spec.specs.Entries.{Entry, isSync, isNil}
-use Rattle.machine_spec.specs.Rules.{Target}
+use Rattle.machine_spec.specs.declared.Model.{Model}
 use Rattle.machine_spec.specs.Step.{Control, Core, goto}
 use Rattle.claims.specs.Direct.{appends}
 use Rattle.claims.proofs.Fenced.{publishes, drains, opens, needs, KeptAt, Edge, falls, jumps, Open, starts}
@@ -21,12 +21,12 @@ use Rattle.claims.proofs.Laws.Sheets.{barriersAt, start-suc}
 use Rattle.claims.proofs.Exposed.{exposed, exposed-nil, exposed-snoc}
 
 -- while something is exposed for want of a b, p is open for b, and no b is among those passed
-abbrev pub Safe : Target → (ℕ → Bool) → List Placed → ℕ → List Entry → List Barrier → Type 0
+abbrev pub Safe : Model → (ℕ → Bool) → List Placed → ℕ → List Entry → List Barrier → Type 0
 Safe m vol ps p es bs =
     (b : Barrier) → KeptAt m b → exposed b vol es ≡ true → Open b vol ps p × (has b bs ≡ false)
 
 -- a lane of the target m at k stands where a source lane at p does: past some of the barriers before p
-pub record Stands (m : Target) (vol : ℕ → Bool) (ps : List Placed) (p : ℕ) (k : Control) (es : List Entry) : Type 0
+pub record Stands (m : Model) (vol : ℕ → Bool) (ps : List Placed) (p : ℕ) (k : Control) (es : List Entry) : Type 0
   where
     pub passed : ℕ
     pub place : k .pos ≡ start ps p + passed
@@ -34,13 +34,13 @@ pub record Stands (m : Target) (vol : ℕ → Bool) (ps : List Placed) (p : ℕ)
     pub safe : Safe m vol ps p es (take passed (barriersAt ps p))
 
 -- past all of them: at the operation of s, where the source lane stands at i
-pub record Reached (m : Target) (vol : ℕ → Bool) (ps : List Placed) (i k : Control) (c : Core) (s : Placed) : Type 0
+pub record Reached (m : Model) (vol : ℕ → Bool) (ps : List Placed) (i k : Control) (c : Core) (s : Placed) : Type 0
   where
     pub here : getElem? ps (i .pos) ≡ some s
     pub place : k .pos ≡ start ps (i .pos) + length (s .before)
     pub safe : Safe m vol ps (i .pos) (c .pending) (s .before)
 
-module _ {m : Target} {vol : ℕ → Bool} {ps : List Placed} where
+module _ {m : Model} {vol : ℕ → Bool} {ps : List Placed} where
   -- at the first barrier of p
   fresh : (p : ℕ) (k : Control) (es : List Entry) → k .pos ≡ start ps p
       → ((b : Barrier) → KeptAt m b → exposed b vol es ≡ true → Open b vol ps p) → Stands m vol ps p k es

@@ -14,7 +14,10 @@ use Rattle.barrier_placement.specs.declared.cookbook.Barrier.{Barrier}
 use Rattle.barrier_placement.specs.declared.cookbook.Barrier.the-variants.{LL, LS, SS, SL}
 use Rattle.sheet_format.specs.Layout.{Instr, op, barrier}
 use Rattle.machine_spec.specs.Entries.{Entry}
-use Rattle.machine_spec.specs.Rules.{Machine, source, target, tso, mayCommit, mayLoad, mayLock, mayPass}
+use Rattle.machine_spec.specs.declared.Machine.{Machine}
+use Rattle.machine_spec.specs.declared.Machine.the-variants.{Source, Target}
+use Rattle.machine_spec.specs.declared.Model.the-variants.{Tso}
+use Rattle.machine_spec.specs.Rules.{mayCommit, mayLoad, mayLock, mayPass}
 use Rattle.machine_spec.specs.Step.{Control, Core, Turn, waits, refuses, passes, does, goto, permits, holds, effect}
 use Rattle.machine_spec.specs.Step.{next}
 use Rattle.machine_spec.specs.Step.{loads, coreAfter, execute, commit}
@@ -29,19 +32,19 @@ nothing-pending m vol k c [] may h e = refl
 nothing-pending m vol k c (x ∷ es) may h e = cc (may x)
 
 free-load : (m : Machine) (vol : ℕ → Bool) (x : ℕ) → mayLoad m vol [] x ≡ true
-free-load source vol x = rw (and-false (vol x))
-free-load (target m) vol x = refl
+free-load Source vol x = rw (and-false (vol x))
+free-load (Target m) vol x = refl
 
 free-lock : (m : Machine) (vol : ℕ → Bool) → mayLock m vol [] ≡ true
-free-lock source vol = refl
-free-lock (target m) vol = refl
+free-lock Source vol = refl
+free-lock (Target m) vol = refl
 
 free-pass : (m : Machine) (b : Barrier) → mayPass m b [] ≡ true
-free-pass source b = refl
-free-pass (target m) LL = refl
-free-pass (target m) LS = refl
-free-pass (target m) SS = refl
-free-pass (target m) SL = refl
+free-pass Source b = refl
+free-pass (Target m) LL = refl
+free-pass (Target m) LS = refl
+free-pass (Target m) SS = refl
+free-pass (Target m) SL = refl
 
 not-not : (b : Bool) → b ≡ not (not b)
 not-not true = refl
@@ -127,5 +130,5 @@ stuck m vol prog s may = (there, back)
 
 -- of the tso machine, for every program and in every state
 pub tso-stuck : (vol : ℕ → Bool) (prog : List (List Instr)) (s : State)
-    → Stuck (target tso) vol prog s ↔ AllHalted prog s
-tso-stuck vol prog s = stuck (target tso) vol prog s (λ t e. refl)
+    → Stuck (Target Tso) vol prog s ↔ AllHalted prog s
+tso-stuck vol prog s = stuck (Target Tso) vol prog s (λ t e. refl)

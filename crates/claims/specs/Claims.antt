@@ -18,7 +18,8 @@ use Rattle.sheet_format.specs.Levels.{Level, keeps, placed, volatileIn}
 use Rattle.sheet_format.specs.Bytes.{sheetBytes, lowerBy}
 use Rattle.sheet_format.specs.Read.{readSheet}
 use Rattle.sheet_format.specs.Items.{items}
-use Rattle.machine_spec.specs.Rules.{source, target, tso}
+use Rattle.machine_spec.specs.declared.Machine.the-variants.{Source, Target}
+use Rattle.machine_spec.specs.declared.Model.the-variants.{Tso}
 use Rattle.machine_spec.specs.Schedule.{Move, limit, legal}
 use Rattle.machine_spec.specs.State.{State, begin}
 use Rattle.machine_spec.specs.Run.{Answer, startOf, programFor, runSource, runTso, shown, countsAs}
@@ -68,39 +69,39 @@ pub record Shares (a b : Answer) : Type 0 where
 -- the source schedule for a tso schedule, and the tso schedule for a source schedule
 abbrev pub sourceFor : Program → List Move → List Move
 sourceFor k mvs =
-    sourceSchedule tso (volatileIn k) (programFor (target tso) k) (begin (startOf k)) (countsAs (target tso) k mvs)
+    sourceSchedule Tso (volatileIn k) (programFor (Target Tso) k) (begin (startOf k)) (countsAs (Target Tso) k mvs)
 
 abbrev pub tsoFor : Program → List Move → List Move
 tsoFor k mvs =
-    targetSchedule tso (volatileIn k) (programFor (target tso) k) (begin (startOf k)) (countsAs source k mvs)
+    targetSchedule Tso (volatileIn k) (programFor (Target Tso) k) (begin (startOf k)) (countsAs Source k mvs)
 
 -- the source run over a schedule goes straight to memory
 abbrev pub Direct : Program → List Move → Type 0
-Direct k mvs = direct (volatileIn k) (programFor source k) none (begin (startOf k)) (countsAs source k mvs) ≡ true
+Direct k mvs = direct (volatileIn k) (programFor Source k) none (begin (startOf k)) (countsAs Source k mvs) ≡ true
 
 -- the state that a tso schedule ends in
 abbrev pub tsoEnd : List ℕ → Program → List Move → State
-tsoEnd s k mvs = runTso s (countsAs (target tso) k mvs) .state
+tsoEnd s k mvs = runTso s (countsAs (Target Tso) k mvs) .state
 
 -- of every schedule, the empty one included; one that is refused with 10 counts as the empty one
 pub record Demand3 (s : List ℕ) (k : Program) : Type 0 where
   -- each tso run has a source run that shares what is compared
-  pub matched : (mvs : List Move) → Shares (runSource s (sourceFor k mvs)) (runTso s (countsAs (target tso) k mvs))
+  pub matched : (mvs : List Move) → Shares (runSource s (sourceFor k mvs)) (runTso s (countsAs (Target Tso) k mvs))
   -- after every tso run no move is permitted exactly when nothing is pending and each lane has ended or stands at a
   -- held lock
   pub stuck : (mvs : List Move)
-      → Stuck (target tso) (volatileIn k) (programFor (target tso) k) (tsoEnd s k mvs)
-      ↔ AllHalted (programFor (target tso) k) (tsoEnd s k mvs)
+      → Stuck (Target Tso) (volatileIn k) (programFor (Target Tso) k) (tsoEnd s k mvs)
+      ↔ AllHalted (programFor (Target Tso) k) (tsoEnd s k mvs)
   -- each source run that goes straight to memory has a tso run that shares what is compared
-  pub direct : (mvs : List Move) → Direct k mvs → Shares (runSource s (countsAs source k mvs)) (runTso s (tsoFor k mvs))
+  pub direct : (mvs : List Move) → Direct k mvs → Shares (runSource s (countsAs Source k mvs)) (runTso s (tsoFor k mvs))
 
 -- ## number 11
 
 -- a schedule that is not refused with 10 runs to its end: no run meets an UNLOCK whose lock its lane does not hold
 pub record Runs (s : List ℕ) (k : Program) : Type 0 where
-  pub source-runs : (mvs : List Move) → legal (length (k .lanes)) (limit source) mvs ≡ true
+  pub source-runs : (mvs : List Move) → legal (length (k .lanes)) (limit Source) mvs ≡ true
       → runSource s mvs .number ≡ 0
-  pub tso-runs : (mvs : List Move) → legal (length (k .lanes)) (limit (target tso)) mvs ≡ true
+  pub tso-runs : (mvs : List Move) → legal (length (k .lanes)) (limit (Target Tso)) mvs ≡ true
       → runTso s mvs .number ≡ 0
 
 -- ## bounds
@@ -108,10 +109,10 @@ pub record Runs (s : List ℕ) (k : Program) : Type 0 where
 -- after every schedule the state fits a record of fixed length, and each lane stands within its program: the chain of
 -- the source machine, the sheet part of the tso machine
 pub record Bounds (s : List ℕ) (k : Program) : Type 0 where
-  pub source-bounds : (mvs : List Move) → Shaped k (shown (runSource s (countsAs source k mvs)))
-  pub tso-bounds : (mvs : List Move) → Shaped k (shown (runTso s (countsAs (target tso) k mvs)))
-  pub source-within : (mvs : List Move) → Within (programFor source k) (runSource s (countsAs source k mvs) .state)
-  pub tso-within : (mvs : List Move) → Within (programFor (target tso) k) (tsoEnd s k mvs)
+  pub source-bounds : (mvs : List Move) → Shaped k (shown (runSource s (countsAs Source k mvs)))
+  pub tso-bounds : (mvs : List Move) → Shaped k (shown (runTso s (countsAs (Target Tso) k mvs)))
+  pub source-within : (mvs : List Move) → Within (programFor Source k) (runSource s (countsAs Source k mvs) .state)
+  pub tso-within : (mvs : List Move) → Within (programFor (Target Tso) k) (tsoEnd s k mvs)
 
 -- ## all of it, of a kernel file s that stands for the kernel k
 

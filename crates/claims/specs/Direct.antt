@@ -9,7 +9,7 @@ use lib.ListN.{length, getD, getElem?}
 use Rattle.file_format.specs.declared.accepted.Op.{Op}
 use Rattle.file_format.specs.declared.accepted.Op.the-variants.{Set, Add, Load, Store, Lock, Unlock, Skip}
 use Rattle.sheet_format.specs.Layout.{Instr, op, barrier}
-use Rattle.machine_spec.specs.Rules.{source}
+use Rattle.machine_spec.specs.declared.Machine.the-variants.{Source}
 use Rattle.machine_spec.specs.Step.{Turn, waits, refuses, passes, does}
 use Rattle.machine_spec.specs.Schedule.{Move}
 use Rattle.machine_spec.specs.State.{State, Outcome, ran, refused, laneAt, posAt, moveTurn, advance}
@@ -53,5 +53,5 @@ abbrev pub direct : (ℕ → Bool) → List (List Instr) → Option ℕ → Outc
 direct vol prog d o [] = true
 direct vol prog d (refused t p) (mv ∷ mvs) = true
 direct vol prog d (ran r) (mv ∷ mvs) =
-    honours d (moveTurn source vol prog (r .state) mv) (r .state) mv
-    && direct vol prog (owes prog (r .state) mv) (advance source vol prog (ran r) mv) mvs
+    honours d (moveTurn Source vol prog (r .state) mv) (r .state) mv
+    && direct vol prog (owes prog (r .state) mv) (advance Source vol prog (ran r) mv) mvs

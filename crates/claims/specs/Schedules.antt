@@ -4,7 +4,8 @@ use mathlib.Core.List.{List, [], _∷_, _++_}
 use Prim.Native.Nat.{ℕ, zero, suc}
 use lib.ListN.{getD, drop, replicate}
 use Rattle.sheet_format.specs.Layout.{Instr, op, barrier}
-use Rattle.machine_spec.specs.Rules.{Target, target}
+use Rattle.machine_spec.specs.declared.Machine.the-variants.{Target}
+use Rattle.machine_spec.specs.declared.Model.{Model}
 use Rattle.machine_spec.specs.Step.{Turn, waits, refuses, passes, does}
 use Rattle.machine_spec.specs.Schedule.{Move, move}
 use Rattle.machine_spec.specs.State.{Outcome, ran, refused, posAt, moveTurn, advance, run}
@@ -18,15 +19,15 @@ keep mv refuses = mv ∷ []
 keep mv (passes k c) = []
 keep mv (does k c v) = mv ∷ []
 
-abbrev pub keepMove : Target → (ℕ → Bool) → List (List Instr) → Outcome → Move → List Move
+abbrev pub keepMove : Model → (ℕ → Bool) → List (List Instr) → Outcome → Move → List Move
 keepMove m vol prog (refused t p) mv = []
-keepMove m vol prog (ran r) mv = keep mv (moveTurn (target m) vol prog (r .state) mv)
+keepMove m vol prog (ran r) mv = keep mv (moveTurn (Target m) vol prog (r .state) mv)
 
 -- the source schedule for a target's schedule, which that target carries out from the outcome o
-abbrev pub sourceSchedule : Target → (ℕ → Bool) → List (List Instr) → Outcome → List Move → List Move
+abbrev pub sourceSchedule : Model → (ℕ → Bool) → List (List Instr) → Outcome → List Move → List Move
 sourceSchedule m vol prog o [] = []
 sourceSchedule m vol prog o (mv ∷ mvs) =
-    keepMove m vol prog o mv ++ sourceSchedule m vol prog (advance (target m) vol prog o mv) mvs
+    keepMove m vol prog o mv ++ sourceSchedule m vol prog (advance (Target m) vol prog o mv) mvs
 
 -- ## from the source machine to a target
 
@@ -49,7 +50,7 @@ expandAt prog (ran r) mv =
     expand (mv .lane) (mv .choice) (leading (drop (posAt (r .state) (mv .lane)) (getD prog (mv .lane) [])))
 
 -- the target's schedule for a source schedule, carried out from the target's outcome o
-abbrev pub targetSchedule : Target → (ℕ → Bool) → List (List Instr) → Outcome → List Move → List Move
+abbrev pub targetSchedule : Model → (ℕ → Bool) → List (List Instr) → Outcome → List Move → List Move
 targetSchedule m vol prog o [] = []
 targetSchedule m vol prog o (mv ∷ mvs) =
-    expandAt prog o mv ++ targetSchedule m vol prog (run (target m) vol prog o (expandAt prog o mv)) mvs
+    expandAt prog o mv ++ targetSchedule m vol prog (run (Target m) vol prog o (expandAt prog o mv)) mvs

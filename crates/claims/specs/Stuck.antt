@@ -8,7 +8,7 @@ use lib.Dec.{eqb}
 use lib.ListN.{length, getD, getElem?}
 use Rattle.file_format.specs.declared.accepted.Op.the-variants.{Set, Add, Load, Store, Lock, Unlock, Skip}
 use Rattle.sheet_format.specs.Layout.{Instr, op, barrier}
-use Rattle.machine_spec.specs.Rules.{Machine}
+use Rattle.machine_spec.specs.declared.Machine.{Machine}
 use Rattle.machine_spec.specs.Step.{waits}
 use Rattle.machine_spec.specs.Schedule.{move}
 use Rattle.machine_spec.specs.State.{State, laneAt, posAt, moveTurn}

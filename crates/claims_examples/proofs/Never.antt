@@ -20,7 +20,9 @@ use Rattle.sheet_format.specs.Layout.{Instr, op, barrier}
 use Rattle.sheet_format.specs.Levels.{volatileIn}
 use Rattle.sheet_format.specs.Bytes.{sheetBytes}
 use Rattle.sheet_format.specs.Read.{readSheet}
-use Rattle.machine_spec.specs.Rules.{Machine, source, target, tso}
+use Rattle.machine_spec.specs.declared.Machine.{Machine}
+use Rattle.machine_spec.specs.declared.Machine.the-variants.{Source, Target}
+use Rattle.machine_spec.specs.declared.Model.the-variants.{Tso}
 use Rattle.machine_spec.specs.Schedule.{Move, legal, limit}
 use Rattle.machine_spec.specs.State.{State, Outcome, ran, refused}
 use Rattle.machine_spec.specs.View.{finished}
@@ -52,7 +54,7 @@ unfolding refusalOf structureThen headerRule headRule badRecord recordRule limit
     opOf opsFrom recordAt faultPosition faultAt partedBy heldFrom same
 stands-for = refl
 
-lowered-to : programFor (target tso) kernel ≡ lanes2
+lowered-to : programFor (Target Tso) kernel ≡ lanes2
 unfolding stands due rowsTo sheetBytes readSheet
 lowered-to = refl
 
@@ -81,17 +83,17 @@ module _ (m : Machine) (k : Program) (fuel : ℕ) (search : Searched m k (progra
           (explored m (volatileIn k) (programFor m k) (length (k .lanes)) 1 (good (programFor m k)) mvs (limit m) fuel _
           search h))
 
-tso-search : Searched (target tso) kernel (programFor (target tso) kernel) 11
-tso-search = subst (λ p. Searched (target tso) kernel p 11) (sym lowered-to) refl
+tso-search : Searched (Target Tso) kernel (programFor (Target Tso) kernel) 11
+tso-search = subst (λ p. Searched (Target Tso) kernel p 11) (sym lowered-to) refl
 
 pub never-on-tso : (mvs : List Move)
-    → endsAllZero (runBy (target tso) (storeBuffering 3) (verdict (storeBuffering 3)) mvs) ≡ false
+    → endsAllZero (runBy (Target Tso) (storeBuffering 3) (verdict (storeBuffering 3)) mvs) ≡ false
 never-on-tso mvs =
-    ap (λ v. endsAllZero (runBy (target tso) (storeBuffering 3) v mvs)) stands-for
-    ∙ never-all-zero (target tso) kernel 11 tso-search mvs
+    ap (λ v. endsAllZero (runBy (Target Tso) (storeBuffering 3) v mvs)) stands-for
+    ∙ never-all-zero (Target Tso) kernel 11 tso-search mvs
 
 pub never-on-source : (mvs : List Move)
-    → endsAllZero (runBy source (storeBuffering 3) (verdict (storeBuffering 3)) mvs) ≡ false
+    → endsAllZero (runBy Source (storeBuffering 3) (verdict (storeBuffering 3)) mvs) ≡ false
 never-on-source mvs =
-    ap (λ v. endsAllZero (runBy source (storeBuffering 3) v mvs)) stands-for
-    ∙ never-all-zero source kernel 9 refl mvs
+    ap (λ v. endsAllZero (runBy Source (storeBuffering 3) v mvs)) stands-for
+    ∙ never-all-zero Source kernel 9 refl mvs

@@ -11,7 +11,9 @@ use Rattle.sheet_format.specs.declared.Lowered.{Lowered}
 use Rattle.sheet_format.specs.declared.Lowered.the-variants.{Wrote, Refuses}
 use Rattle.sheet_format.specs.Bytes.{lowerBy}
 use Rattle.text_listing.specs.Listing.{printed}
-use Rattle.machine_spec.specs.Rules.{Machine, source, target, tso}
+use Rattle.machine_spec.specs.declared.Machine.{Machine}
+use Rattle.machine_spec.specs.declared.Machine.the-variants.{Source, Target}
+use Rattle.machine_spec.specs.declared.Model.the-variants.{Tso}
 use Rattle.machine_spec.specs.Schedule.{Move, move}
 use Rattle.machine_spec.specs.Run.{Answer, runBy}
 use Rattle.claims_examples.specs.Kernels.{rec, recBytes, fileHeader, storeBuffering, lane, skipTo, sets}
@@ -120,13 +122,13 @@ table =
     ∷ fills level2 (storeBuffering 3) 80
     ∷ refused-by level2 (storeBuffering 3) 79 9 0
     -- it never finishes with register 1 zero in both lanes
-    ∷ never (target tso) (storeBuffering 3)
-    ∷ never source (storeBuffering 3)
+    ∷ never (Target Tso) (storeBuffering 3)
+    ∷ never Source (storeBuffering 3)
     -- mask 1 instead: no barrier at either level; both zero is possible on both machines
     ∷ shows level1 (storeBuffering 1) ((1, 1) ∷ (4, 0) ∷ (3, 0) ∷ (1, 1) ∷ (4, 0) ∷ (3, 0) ∷ [])
     ∷ shows level2 (storeBuffering 1) ((1, 1) ∷ (4, 0) ∷ (3, 0) ∷ (1, 1) ∷ (4, 0) ∷ (3, 0) ∷ [])
-    ∷ ends source (storeBuffering 1) race (0 ∷ 0 ∷ [])
-    ∷ ends (target tso) (storeBuffering 1) race (0 ∷ 0 ∷ [])
+    ∷ ends Source (storeBuffering 1) race (0 ∷ 0 ∷ [])
+    ∷ ends (Target Tso) (storeBuffering 1) race (0 ∷ 0 ∷ [])
     -- PS, VS: SS at level 1, nothing at level 2
     ∷ shows level1 (lane (PS ∷ VS ∷ [])) (codes (4 ∷ 13 ∷ 4 ∷ []))
     ∷ shows level2 (lane (PS ∷ VS ∷ [])) (codes (4 ∷ 4 ∷ []))

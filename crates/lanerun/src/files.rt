@@ -3,7 +3,7 @@ use crate::tell::run_moves;
 use console::files::read_named;
 use console::print::say;
 use console::print::say_number;
-use machine_state::rules::Machine;
+use machine_spec::Machine;
 use text_schedule::whole::Read;
 use text_schedule::whole::read_schedule;
 

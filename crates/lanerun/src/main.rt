@@ -5,7 +5,8 @@ mod tell;
 
 use console::print::say;
 use files::run_files;
-use machine_state::rules::Machine;
+use machine_spec::Machine;
+use machine_spec::Model;
 
 fn main() {
     let mut name = io::buffer();
@@ -16,7 +17,7 @@ fn main() {
             return;
         }
         if check::same(&name[..n], b"tso") {
-            run_files(Machine::Tso);
+            run_files(Machine::Target(Model::Tso));
             return;
         }
     }

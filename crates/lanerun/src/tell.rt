@@ -14,7 +14,7 @@ use machine_course::course::no_rows;
 use machine_course::course::no_state;
 use machine_course::fold::fold_move;
 use machine_course::record::write_record;
-use machine_state::rules::Machine;
+use machine_spec::Machine;
 use machine_state::state::State;
 use sheet_format::Lowered;
 use text_run::moves::tell_move;

@@ -9,7 +9,7 @@ use Rattle.file_verdict.specs.Verdict.{Verdict, refused, accepted}
 use Rattle.sheet_format.specs.declared.Lowered.{Lowered}
 use Rattle.sheet_format.specs.declared.Lowered.the-variants.{Wrote, Refuses}
 use Rattle.sheet_format.specs.Bytes.{over}
-use Rattle.machine_spec.specs.Rules.{Machine}
+use Rattle.machine_spec.specs.declared.Machine.{Machine}
 use Rattle.machine_spec.specs.Run.{Answer, runProgram}
 use Rattle.machine_spec.specs.Moves.{oddBytes, movesIn}
 use Rattle.machine_record.specs.Record.{stateBytes}

@@ -6,7 +6,9 @@ use Rattle.sheet_format.specs.Levels.{Level, level1, level2}
 use Rattle.sheet_format.specs.declared.Lowered.{Lowered}
 use Rattle.sheet_format.specs.declared.Lowered.the-variants.{Wrote, Refuses}
 use Rattle.sheet_format.specs.Bytes.{lowerBy}
-use Rattle.machine_spec.specs.Rules.{Machine, source, target, tso}
+use Rattle.machine_spec.specs.declared.Machine.{Machine}
+use Rattle.machine_spec.specs.declared.Machine.the-variants.{Source, Target}
+use Rattle.machine_spec.specs.declared.Model.the-variants.{Tso}
 use Rattle.lanes_answers.specs.Calls.{runFileBy}
 
 -- a success is the number of bytes written, a refusal number × 2^32 + record
@@ -36,7 +38,7 @@ abbrev pub callLower2 : List ℕ → List ℕ → ℕ × List ℕ
 callLower2 kernel = lowerCallBy level2 (verdict kernel)
 
 abbrev pub callRunSource : List ℕ → List ℕ → List ℕ → ℕ × List ℕ
-callRunSource kernel = runCallBy source (verdict kernel)
+callRunSource kernel = runCallBy Source (verdict kernel)
 
 abbrev pub callRunTso : List ℕ → List ℕ → List ℕ → ℕ × List ℕ
-callRunTso kernel = runCallBy (target tso) (verdict kernel)
+callRunTso kernel = runCallBy (Target Tso) (verdict kernel)

@@ -12,8 +12,7 @@ use Rattle.machine_spec.specs.State.{startState}
 use Rattle.machine_spec.specs.Run.{Answer, programFor, refusedStart, runBy}
 use Rattle.sheet_rows.specs.Rows.{partsIn}
 use Rattle.machine_lane.specs.Lanes.{flags}
-use Rattle.machine_state.specs.declared.rules.Machine.{Machine as Coded}
-use Rattle.machine_state.specs.Machines.{machineIn}
+use Rattle.machine_spec.specs.declared.Machine.{Machine}
 use Rattle.machine_state.specs.declared.state.Moved.{Moved}
 use Rattle.machine_state.specs.declared.state.Moved.the-variants.{Waited, Done, ReleaseNotHeld}
 use Rattle.machine_state.specs.States.{Held, countOf, stateIn, Sized}
@@ -21,11 +20,11 @@ use Rattle.machine_run.specs.Runs.{ProgramAt}
 use Rattle.machine_course.specs.declared.course.Course.{Course}
 
 -- the definition's answer on the file s
-abbrev pub answerBy : Coded → List ℕ → List Move → Answer
-answerBy m s mvs = runBy (machineIn m) s (verdict s) mvs
+abbrev pub answerBy : Machine → List ℕ → List Move → Answer
+answerBy m s mvs = runBy m s (verdict s) mvs
 
 -- x has the program of the accepted kernel k, whose bytes are in the rows; the store h has its lanes
-pub record Prepared (m : Coded) (k : Program) (rows : List ℕ) (x : Course) (h : Held) : Type 0 where
+pub record Prepared (m : Machine) (k : Program) (rows : List ℕ) (x : Course) (h : Held) : Type 0 where
   pub machine : x .machine ≡ m
   pub volatile : flags (x .volatile) ≡ volatileIn k
   pub lanes : x .lanecount ≡ length (k .lanes)
@@ -33,10 +32,10 @@ pub record Prepared (m : Coded) (k : Program) (rows : List ℕ) (x : Course) (h 
   pub locks : x .lockwords ≡ k .locks
   pub held : countOf h 0 ≡ length (k .lanes)
   pub programs : (t : ℕ) → t < length (k .lanes)
-      → ProgramAt rows (getD (x .first) t 0) (getD (x .count) t 0) (getD (programFor (machineIn m) k) t [])
+      → ProgramAt rows (getD (x .first) t 0) (getD (x .count) t 0) (getD (programFor m k) t [])
 
 -- the moves mvs on the file s came to x and the store h
-pub record Stands (s : List ℕ) (m : Coded) (mvs : List Move) (rows : List ℕ) (x : Course) (h : Held) : Type 0 where
+pub record Stands (s : List ℕ) (m : Machine) (mvs : List Move) (rows : List ℕ) (x : Course) (h : Held) : Type 0 where
   pub sized : Sized h
   pub few : x .done + x .waited ≤ length mvs
   pub counted : x .number ≡ 0 → x .done + x .waited ≡ length mvs
@@ -50,7 +49,7 @@ pub record Stands (s : List ℕ) (m : Coded) (mvs : List Move) (rows : List ℕ)
 -- some moves on some file, so few that one more can be counted
 pub record Standing (rows : List ℕ) (x : Course) (h : Held) : Type 0 where
   pub file : List ℕ
-  pub machine : Coded
+  pub machine : Machine
   pub moves : List Move
   pub stands : Stands file machine moves rows x h
   pub small : length moves < 2 ^ 62
@@ -58,7 +57,7 @@ pub record Standing (rows : List ℕ) (x : Course) (h : Held) : Type 0 where
 -- some moves on some file
 pub record Judged (x : Course) (h : Held) : Type 0 where
   pub file : List ℕ
-  pub machine : Coded
+  pub machine : Machine
   pub moves : List Move
   pub rows : List ℕ
   pub stands : Stands file machine moves rows x h
@@ -109,7 +108,7 @@ stopped x = record {
   waited = 0;
 }
 
-abbrev pub blocked : Coded → ℕ → ℕ → Course
+abbrev pub blocked : Machine → ℕ → ℕ → Course
 blocked m n r = record {
   machine = m;
   volatile = replicate 16 false;
@@ -125,7 +124,7 @@ blocked m n r = record {
 }
 
 -- before the first move, by the rows and the mask
-pub record Sets (m : Coded) (mask : ℕ) (rows : List ℕ) (x : Course) : Type 0 where
+pub record Sets (m : Machine) (mask : ℕ) (rows : List ℕ) (x : Course) : Type 0 where
   pub machine : x .machine ≡ m
   pub volatile : flags (x .volatile) ≡ isVolatile mask
   pub first : x .first ≡ partsIn rows .from

@@ -5,7 +5,7 @@ ghost use lib.ListN.{length};
 ghost use Rattle.machine_state.specs.States.{Sized};
 ghost use Rattle.machine_course.specs.Stands.{blocked, Sets};
 use machine_lane::flags::flags_of;
-use machine_state::rules::Machine;
+use machine_spec::Machine;
 use machine_state::state::State;
 use sheet_rows::parts::parts_of;
 use sheet_rows::read::byte_at;

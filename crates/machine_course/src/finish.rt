@@ -4,7 +4,7 @@ ghost use mathlib.Core.List.{List};
 ghost use Prim.Native.Nat.{ℕ};
 ghost use lib.ListN.{take};
 ghost use Rattle.machine_spec.specs.Schedule.{Move};
-ghost use Rattle.machine_state.specs.declared.rules.Machine.{Machine};
+ghost use Rattle.machine_spec.specs.declared.Machine.{Machine};
 ghost use Rattle.machine_course.specs.Stands.{Stands, Judged, answerBy};
 ghost use Rattle.machine_course.specs.Returned.{Answers, Fits, Holds};
 ghost use Rattle.machine_state.specs.States.{rowAt, stateIn, Sized};

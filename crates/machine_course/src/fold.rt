@@ -3,7 +3,7 @@ ghost use mathlib.Core.Path.{_≡_};
 ghost use mathlib.Core.List.{List, [], _∷_, _++_};
 ghost use Prim.Native.Nat.{ℕ, _+_, _<_};
 ghost use Rattle.machine_spec.specs.Schedule.{Move, move};
-ghost use Rattle.machine_state.specs.declared.rules.Machine.{Machine};
+ghost use Rattle.machine_spec.specs.declared.Machine.{Machine};
 ghost use Rattle.machine_course.specs.Stands.{Stands, Standing, counted, stopped};
 use crate::course::Course;
 use crate::course::Rows;

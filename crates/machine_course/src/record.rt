@@ -5,7 +5,7 @@ ghost use Prim.Native.Nat.{ℕ, _≤_};
 ghost use lib.ListN.{length};
 ghost use Rattle.sheet_format.specs.Bytes.{over};
 ghost use Rattle.machine_spec.specs.Schedule.{Move};
-ghost use Rattle.machine_state.specs.declared.rules.Machine.{Machine};
+ghost use Rattle.machine_spec.specs.declared.Machine.{Machine};
 ghost use Rattle.machine_record.specs.Record.{stateBytes};
 ghost use Rattle.machine_course.specs.Stands.{Stands, Judged, answerBy};
 use crate::course::Course;

@@ -1,7 +1,7 @@
 // The moves of a schedule in turn.
 ghost use mathlib.Core.List.{List, []};
 ghost use Prim.Native.Nat.{ℕ};
-ghost use Rattle.machine_state.specs.declared.rules.Machine.{Machine};
+ghost use Rattle.machine_spec.specs.declared.Machine.{Machine};
 ghost use Rattle.machine_course.specs.Stands.{Stands};
 ghost use Rattle.machine_course.specs.Returned.{movesOf};
 ghost use Rattle.machine_moves.specs.Turns.{Fresh};

@@ -8,7 +8,7 @@ use machine_course::course::no_state;
 use machine_course::finish::Ran;
 use machine_course::finish::finish;
 use machine_course::moves::Move;
-use machine_state::rules::Machine;
+use machine_spec::Machine;
 
 // The answer is the definition's: number, record, state, finished, done, waited.
 pub fn run(machine: Machine, file: &[u8], moves: &[Move]) -> Ran

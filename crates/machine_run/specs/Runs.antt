@@ -9,10 +9,9 @@ use Rattle.sheet_format.specs.Layout.{Instr, rank}
 use Rattle.sheet_format.specs.Read.{readRows}
 use Rattle.machine_spec.specs.Schedule.{Move}
 use Rattle.machine_spec.specs.State.{Loaded, Run, Outcome, ran, refused, laneAt, run, begin}
-use Rattle.machine_state.specs.declared.rules.Machine.{Machine as Coded}
+use Rattle.machine_spec.specs.declared.Machine.{Machine}
 use Rattle.machine_run.specs.declared.run.Ended.{Ended}
 use Rattle.machine_run.specs.declared.run.Ended.the-variants.{Ran, Refused}
-use Rattle.machine_state.specs.Machines.{machineIn}
 use Rattle.machine_state.specs.Ready.{LaneReady}
 use Rattle.machine_state.specs.States.{Held, countOf, stateIn, Sized}
 
@@ -23,17 +22,17 @@ pub record ProgramAt (sheet : List ℕ) (first count : ℕ) (prog : List Instr) 
 
 -- The code can run the moves: it has each lane's program, each move names a lane, and that lane can make
 -- it in the state that the moves before it reach.
-pub record Runs (m : Coded) (vol : ℕ → Bool) (sheet first count : List ℕ) (mvs : List Move) (s : Held)
+pub record Runs (m : Machine) (vol : ℕ → Bool) (sheet first count : List ℕ) (mvs : List Move) (s : Held)
     (prog : List (List Instr)) : Type 0 where
   pub lanes : countOf s 0 ≤ 4
   pub programs : (t : ℕ) → t < countOf s 0 → ProgramAt sheet (getD first t 0) (getD count t 0) (getD prog t [])
   pub named : (k : ℕ) (mv : Move) → getElem? mvs k ≡ some mv → mv .lane < countOf s 0
   pub ready : (k : ℕ) (mv : Move) (r : Run) → getElem? mvs k ≡ some mv
-      → run (machineIn m) vol prog (begin (stateIn s)) (take k mvs) ≡ ran r
+      → run m vol prog (begin (stateIn s)) (take k mvs) ≡ ran r
       → LaneReady (getD prog (mv .lane) []) (laneAt (r .state) (mv .lane))
 
 -- the code can run the moves of some program
-pub record Runnable (m : Coded) (vol : ℕ → Bool) (sheet first count : List ℕ) (mvs : List Move) (s : Held)
+pub record Runnable (m : Machine) (vol : ℕ → Bool) (sheet first count : List ℕ) (mvs : List Move) (s : Held)
     : Type 0 where
   pub program : List (List Instr)
   pub runs : Runs m vol sheet first count mvs s program
@@ -48,9 +47,9 @@ outcomeBy prog s row (Ran d w) = course s row d w
 outcomeBy prog s row (Refused t p) = refused t (rank (getD prog t []) p)
 
 -- the moves took store s to store e and were answered with q; the code does not keep the row of loaded values
-pub record Ends (m : Coded) (vol : ℕ → Bool) (mvs : List Move) (prog : List (List Instr)) (s : Held) (q : Ended)
+pub record Ends (m : Machine) (vol : ℕ → Bool) (mvs : List Move) (prog : List (List Instr)) (s : Held) (q : Ended)
     (e : Held) : Type 0 where
   pub sized : Sized e
   pub lanes : countOf e 0 ≡ countOf s 0
   pub row : List Loaded
-  pub outcome : run (machineIn m) vol prog (begin (stateIn s)) mvs ≡ outcomeBy prog e row q
+  pub outcome : run m vol prog (begin (stateIn s)) mvs ≡ outcomeBy prog e row q

@@ -8,11 +8,11 @@ ghost use Rattle.sheet_format.specs.Layout.{Instr};
 ghost use Rattle.machine_spec.specs.Schedule.{legal, limit};
 ghost use Rattle.machine_spec.specs.View.{finished};
 ghost use Rattle.machine_spec.specs.Moves.{movesIn};
-ghost use Rattle.machine_state.specs.Machines.{machineIn};
 ghost use Rattle.machine_state.specs.States.{countOf, stateIn, Sized};
 ghost use Rattle.machine_run.specs.Counts.{Counts};
+use machine_spec::Machine;
+use machine_spec::Model;
 use machine_state::held::position;
-use machine_state::rules::Machine;
 use machine_state::state::COUNTS;
 use machine_state::state::LANES;
 use machine_state::state::SHARED;
@@ -28,11 +28,13 @@ pub fn legal_move(lane: u8, choice: u8, n: usize, limit: u8) -> bool
 
 // The highest choice of a move on a machine.
 pub fn limit_of(machine: Machine) -> u8
-    ensures { λ r. ⌜ r ≡ limit (machineIn machine) ⌝ }
+    ensures { λ r. ⌜ r ≡ limit machine ⌝ }
 {
     match machine {
         Machine::Source => 64,
-        Machine::Tso => 1,
+        Machine::Target(model) => match model {
+            Model::Tso => 1,
+        },
     }
 }
 

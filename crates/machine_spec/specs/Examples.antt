@@ -14,7 +14,9 @@ use Rattle.sheet_format.specs.Layout.{Instr, op, barrier}
 use Rattle.sheet_format.specs.Bytes.{sheetBytes}
 use Rattle.sheet_format.specs.Read.{readSheet}
 use Rattle.machine_spec.specs.Entries.{Entry, write, release}
-use Rattle.machine_spec.specs.Rules.{Machine, source, target, tso}
+use Rattle.machine_spec.specs.declared.Machine.{Machine}
+use Rattle.machine_spec.specs.declared.Machine.the-variants.{Source, Target}
+use Rattle.machine_spec.specs.declared.Model.the-variants.{Tso}
 use Rattle.machine_spec.specs.Step.{Core, Turn, waits, refuses, passes, does, valueOf, turn}
 use Rattle.machine_spec.specs.Schedule.{Move, move}
 use Rattle.machine_spec.specs.Moves.{oddBytes, movesIn}
@@ -55,30 +57,30 @@ tried e = goes (turn (e .machine) vol 1 (e .next ∷ []) atStart (core (e .pendi
 tries : List Try
 tries =
     -- a volatile load of the source machine waits for its own volatile store and release; a plain one does not
-    try source (op (Load 0 1)) (write 1 5 ∷ []) 0 false
-    ∷ try source (op (Load 0 1)) (release 0 ∷ []) 0 false
-    ∷ try source (op (Load 0 1)) (write 0 5 ∷ []) 0 true
-    ∷ try source (op (Load 0 0)) (write 1 5 ∷ []) 0 true
-    ∷ try (target tso) (op (Load 0 1)) (write 1 5 ∷ []) 0 true
+    try Source (op (Load 0 1)) (write 1 5 ∷ []) 0 false
+    ∷ try Source (op (Load 0 1)) (release 0 ∷ []) 0 false
+    ∷ try Source (op (Load 0 1)) (write 0 5 ∷ []) 0 true
+    ∷ try Source (op (Load 0 0)) (write 1 5 ∷ []) 0 true
+    ∷ try (Target Tso) (op (Load 0 1)) (write 1 5 ∷ []) 0 true
     -- an UNLOCK does not commit ahead of an older plain store, which may overtake an older UNLOCK
-    ∷ try source (op (Load 0 0)) (write 0 5 ∷ release 0 ∷ []) 2 false
-    ∷ try source (op (Load 0 0)) (write 0 5 ∷ write 1 6 ∷ []) 2 false
-    ∷ try source (op (Load 0 0)) (release 0 ∷ write 0 5 ∷ []) 2 true
-    ∷ try source (op (Load 0 0)) (write 0 5 ∷ write 0 6 ∷ []) 2 false
+    ∷ try Source (op (Load 0 0)) (write 0 5 ∷ release 0 ∷ []) 2 false
+    ∷ try Source (op (Load 0 0)) (write 0 5 ∷ write 1 6 ∷ []) 2 false
+    ∷ try Source (op (Load 0 0)) (release 0 ∷ write 0 5 ∷ []) 2 true
+    ∷ try Source (op (Load 0 0)) (write 0 5 ∷ write 0 6 ∷ []) 2 false
     -- the tso machine commits only the oldest
-    ∷ try (target tso) (op (Load 0 0)) (release 0 ∷ write 0 5 ∷ []) 2 false
-    ∷ try (target tso) (op (Load 0 0)) (release 0 ∷ write 0 5 ∷ []) 1 true
+    ∷ try (Target Tso) (op (Load 0 0)) (release 0 ∷ write 0 5 ∷ []) 2 false
+    ∷ try (Target Tso) (op (Load 0 0)) (release 0 ∷ write 0 5 ∷ []) 1 true
     -- LOCK: the source machine waits for volatile stores and releases, the tso machine for all
-    ∷ try source (op (Lock 0)) (write 0 5 ∷ []) 0 true
-    ∷ try source (op (Lock 0)) (write 1 5 ∷ []) 0 false
-    ∷ try (target tso) (op (Lock 0)) (write 0 5 ∷ []) 0 false
-    ∷ try (target tso) (op (Lock 0)) [] 0 true
+    ∷ try Source (op (Lock 0)) (write 0 5 ∷ []) 0 true
+    ∷ try Source (op (Lock 0)) (write 1 5 ∷ []) 0 false
+    ∷ try (Target Tso) (op (Lock 0)) (write 0 5 ∷ []) 0 false
+    ∷ try (Target Tso) (op (Lock 0)) [] 0 true
     -- MFENCE waits for every entry, another barrier for none
-    ∷ try (target tso) (barrier SL) (write 0 5 ∷ []) 0 false
-    ∷ try (target tso) (barrier SL) [] 0 true
-    ∷ try (target tso) (barrier SS) (write 0 5 ∷ []) 0 true
+    ∷ try (Target Tso) (barrier SL) (write 0 5 ∷ []) 0 false
+    ∷ try (Target Tso) (barrier SL) [] 0 true
+    ∷ try (Target Tso) (barrier SS) (write 0 5 ∷ []) 0 true
     -- k beyond the list waits
-    ∷ try source (op (Load 0 0)) (write 0 5 ∷ []) 2 false
+    ∷ try Source (op (Load 0 0)) (write 0 5 ∷ []) 2 false
     ∷ []
 
 tries-hold : map tried tries ≡ map (λ e. e .permitted) tries
@@ -92,13 +94,13 @@ pending-values : List Entry
 pending-values = write 0 5 ∷ write 1 6 ∷ write 0 9 ∷ []
 
 values-hold :
-    map (valueOf source vol (core pending-values)) (0 ∷ 1 ∷ [])
+    map (valueOf Source vol (core pending-values)) (0 ∷ 1 ∷ [])
     ≡ 9 ∷ 8 ∷ []
 unfolding pending-values
 values-hold = refl
 
 tso-values-hold :
-    map (valueOf (target tso) vol (core pending-values)) (0 ∷ 1 ∷ [])
+    map (valueOf (Target Tso) vol (core pending-values)) (0 ∷ 1 ∷ [])
     ≡ 9 ∷ 6 ∷ []
 unfolding pending-values
 tso-values-hold = refl
@@ -190,39 +192,39 @@ waiting t = move t 0 ∷ move t 0 ∷ move t 0 ∷ move t 1 ∷ move t 0 ∷ []
 runs : List (Ran × Ran)
 runs =
     -- nothing done: not finished
-    (outcome source exchange [], ends 0 0 false true [] (0 ∷ 0 ∷ []) [])
-    ∷ (outcome source exchange (waiting 0), ends 4 1 false true (took 0 2 0 ∷ []) (1 ∷ 0 ∷ []) [])
+    (outcome Source exchange [], ends 0 0 false true [] (0 ∷ 0 ∷ []) [])
+    ∷ (outcome Source exchange (waiting 0), ends 4 1 false true (took 0 2 0 ∷ []) (1 ∷ 0 ∷ []) [])
     -- the tso machine waits at MFENCE instead, passes it, and then loads; MFENCE is not counted in the place
-    ∷ (outcome (target tso) exchange (waiting 0), ends 4 1 false true [] (1 ∷ 0 ∷ []) [])
+    ∷ (outcome (Target Tso) exchange (waiting 0), ends 4 1 false true [] (1 ∷ 0 ∷ []) [])
     ∷ (
-      outcome (target tso) exchange (move 0 0 ∷ move 0 0 ∷ move 0 1 ∷ move 0 0 ∷ move 0 0 ∷ []),
+      outcome (Target Tso) exchange (move 0 0 ∷ move 0 0 ∷ move 0 1 ∷ move 0 0 ∷ move 0 0 ∷ []),
       ends 5 0 false true (took 0 2 0 ∷ []) (1 ∷ 0 ∷ []) [],
     )
     -- a choice above 1, and a lane of T or more, are looked for before the first move
-    ∷ (outcome (target tso) exchange (move 0 0 ∷ move 0 2 ∷ []), refuse 10 0 (0 ∷ 0 ∷ []) [])
-    ∷ (outcome source exchange (move 0 0 ∷ move 2 0 ∷ []), refuse 10 0 (0 ∷ 0 ∷ []) [])
-    ∷ (outcome source exchange (move 0 0 ∷ move 0 2 ∷ []), ends 1 1 false true [] (0 ∷ 0 ∷ []) [])
+    ∷ (outcome (Target Tso) exchange (move 0 0 ∷ move 0 2 ∷ []), refuse 10 0 (0 ∷ 0 ∷ []) [])
+    ∷ (outcome Source exchange (move 0 0 ∷ move 2 0 ∷ []), refuse 10 0 (0 ∷ 0 ∷ []) [])
+    ∷ (outcome Source exchange (move 0 0 ∷ move 0 2 ∷ []), ends 1 1 false true [] (0 ∷ 0 ∷ []) [])
     -- a lane at its end waits; a run is finished although a release is pending, and its lock is held until it commits
     ∷ (
-      outcome source (single (Lock 0 ∷ Unlock 0 ∷ [])) (move 0 0 ∷ move 0 0 ∷ move 0 0 ∷ []),
+      outcome Source (single (Lock 0 ∷ Unlock 0 ∷ [])) (move 0 0 ∷ move 0 0 ∷ move 0 0 ∷ []),
       ends 2 1 true false [] (0 ∷ []) (1 ∷ []),
     )
     ∷ (
-      outcome source (single (Lock 0 ∷ Unlock 0 ∷ [])) (move 0 0 ∷ move 0 0 ∷ move 0 1 ∷ []),
+      outcome Source (single (Lock 0 ∷ Unlock 0 ∷ [])) (move 0 0 ∷ move 0 0 ∷ move 0 1 ∷ []),
       ends 3 0 true true [] (0 ∷ []) (0 ∷ []),
     )
     -- an UNLOCK of a lock that is not held, by its record
     ∷ (
-      outcome source (single (Set 0 1 ∷ Store 0 0 ∷ Unlock 0 ∷ [])) (move 0 0 ∷ move 0 0 ∷ move 0 0 ∷ move 0 1 ∷ []),
+      outcome Source (single (Set 0 1 ∷ Store 0 0 ∷ Unlock 0 ∷ [])) (move 0 0 ∷ move 0 0 ∷ move 0 0 ∷ move 0 1 ∷ []),
       refuse 11 3 (0 ∷ []) (0 ∷ []),
     )
     -- a SKIP goes to its target where the register is 0, and on where it is not
     ∷ (
-      outcome source (single (Skip 0 3 ∷ Set 0 1 ∷ Store 0 0 ∷ [])) (move 0 0 ∷ move 0 0 ∷ []),
+      outcome Source (single (Skip 0 3 ∷ Set 0 1 ∷ Store 0 0 ∷ [])) (move 0 0 ∷ move 0 0 ∷ []),
       ends 1 1 true true [] (0 ∷ []) (0 ∷ []),
     )
     ∷ (
-      outcome source (single (Set 0 1 ∷ Skip 0 3 ∷ Store 0 0 ∷ [])) (move 0 0 ∷ move 0 0 ∷ move 0 0 ∷ move 0 1 ∷ []),
+      outcome Source (single (Set 0 1 ∷ Skip 0 3 ∷ Store 0 0 ∷ [])) (move 0 0 ∷ move 0 0 ∷ move 0 0 ∷ move 0 1 ∷ []),
       ends 4 0 true true [] (1 ∷ []) (0 ∷ []),
     )
     ∷ []

@@ -11,7 +11,9 @@ use Rattle.sheet_format.specs.Layout.{Instr, op}
 use Rattle.sheet_format.specs.Levels.{level2, volatileIn}
 use Rattle.sheet_format.specs.Bytes.{sheetBytes}
 use Rattle.sheet_format.specs.Read.{readSheet}
-use Rattle.machine_spec.specs.Rules.{Machine, source, target, tso}
+use Rattle.machine_spec.specs.declared.Machine.{Machine}
+use Rattle.machine_spec.specs.declared.Machine.the-variants.{Source, Target}
+use Rattle.machine_spec.specs.declared.Model.the-variants.{Tso}
 use Rattle.machine_spec.specs.Schedule.{Move, limit, legal}
 use Rattle.machine_spec.specs.State.{State, Loaded, Outcome, ran, refused, startState, begin, run}
 use Rattle.machine_spec.specs.View.{finished, View, viewOf}
@@ -49,8 +51,8 @@ startOf k = startState (length (k .lanes)) (replicate (k .locations) 0) (k .lock
 
 -- the machine's program: the kernel's chains, or what the bytes of the level 2 sheet stand for
 abbrev pub programFor : Machine → Program → List (List Instr)
-programFor source k = map (map op) (k .lanes)
-programFor (target tso) k = readSheet (sheetBytes level2 k)
+programFor Source k = map (map op) (k .lanes)
+programFor (Target Tso) k = readSheet (sheetBytes level2 k)
 
 abbrev pub runOn : Machine → Program → List Move → Outcome
 runOn m k mvs = run m (volatileIn k) (programFor m k) (begin (startOf k)) mvs
@@ -71,10 +73,10 @@ runBy m s (rejected n r) mvs = refusal (refusedStart s n) n r
 runBy m s (accepted k) mvs = runProgram m k mvs
 
 abbrev pub runSource : List ℕ → List Move → Answer
-runSource s = runBy source s (verdict s)
+runSource s = runBy Source s (verdict s)
 
 abbrev pub runTso : List ℕ → List Move → Answer
-runTso s = runBy (target tso) s (verdict s)
+runTso s = runBy (Target Tso) s (verdict s)
 
 -- what demand 3 compares of an answer
 abbrev pub shown : Answer → View

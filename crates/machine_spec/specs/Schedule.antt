@@ -3,7 +3,9 @@ use mathlib.Core.Bool.{Bool, true, _&&_}
 use mathlib.Core.List.{List, [], _∷_}
 use Prim.Native.Nat.{ℕ}
 use lib.Dec.{ltb, leb}
-use Rattle.machine_spec.specs.Rules.{Machine, source, target, tso}
+use Rattle.machine_spec.specs.declared.Machine.{Machine}
+use Rattle.machine_spec.specs.declared.Machine.the-variants.{Source, Target}
+use Rattle.machine_spec.specs.declared.Model.the-variants.{Tso}
 
 pub record Move : Type 0 where
   pub lane : ℕ
@@ -14,8 +16,8 @@ move t k = record { lane = t; choice = k }
 
 -- the highest choice
 abbrev pub limit : Machine → ℕ
-limit source = 64
-limit (target tso) = 1
+limit Source = 64
+limit (Target Tso) = 1
 
 -- each move names a lane below n and a choice up to k
 abbrev pub legal : ℕ → ℕ → List Move → Bool

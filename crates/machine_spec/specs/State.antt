@@ -6,7 +6,7 @@ use Prim.Native.Nat.{ℕ, suc}
 use lib.ListN.{getD, replicate, set as update}
 use Rattle.sheet_format.specs.Layout.{Instr, rank}
 use Rattle.machine_spec.specs.Entries.{Entry}
-use Rattle.machine_spec.specs.Rules.{Machine}
+use Rattle.machine_spec.specs.declared.Machine.{Machine}
 use Rattle.machine_spec.specs.Step.{Control, Core, Turn, waits, refuses, passes, does, turn}
 use Rattle.machine_spec.specs.Schedule.{Move}
 

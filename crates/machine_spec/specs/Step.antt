@@ -9,7 +9,8 @@ use Rattle.file_format.specs.declared.accepted.Op.{Op}
 use Rattle.file_format.specs.declared.accepted.Op.the-variants.{Set, Add, Load, Store, Lock, Unlock, Skip}
 use Rattle.sheet_format.specs.Layout.{Instr, op, barrier}
 use Rattle.machine_spec.specs.Entries.{Entry, write, release, appendEntry, without}
-use Rattle.machine_spec.specs.Rules.{Machine, mayCommit, sees, mayLoad, mayLock, mayPass}
+use Rattle.machine_spec.specs.declared.Machine.{Machine}
+use Rattle.machine_spec.specs.Rules.{mayCommit, sees, mayLoad, mayLock, mayPass}
 
 -- where a lane stands; the machines differ in it
 pub record Control : Type 0 where

@@ -7,7 +7,9 @@ use native.Mathlib.Omega.{arith}
 use lib.ListN.{length, length-map, List·getD-map}
 use Rattle.file_format.specs.Accepted.{Program}
 use Rattle.file_verdict.specs.Verdict.{accepted, verdict}
-use Rattle.machine_spec.specs.Rules.{Machine, source, target, tso}
+use Rattle.machine_spec.specs.declared.Machine.{Machine}
+use Rattle.machine_spec.specs.declared.Machine.the-variants.{Source, Target}
+use Rattle.machine_spec.specs.declared.Model.the-variants.{Tso}
 use Rattle.machine_spec.specs.Schedule.{Move, limit, legal}
 use Rattle.machine_spec.specs.State.{Lane, Run, Outcome, ran, refused, idle, laneAt}
 use Rattle.machine_spec.specs.Run.{Answer, answerOf, startOf, programFor, runOn, runBy, countsAs, shown}
@@ -20,18 +22,18 @@ module _ (s : List ℕ) (k : Program) (e : verdict s ≡ accepted k) where
   c = claims s k e
 
   shaped : (m : Machine) (mvs : List Move) → Shaped k (shown (runBy m s (verdict s) (countsAs m k mvs)))
-  shaped source = c .bounds .source-bounds
-  shaped (target tso) = c .bounds .tso-bounds
+  shaped Source = c .bounds .source-bounds
+  shaped (Target Tso) = c .bounds .tso-bounds
 
   within : (m : Machine) (mvs : List Move)
       → Within (programFor m k) (runBy m s (verdict s) (countsAs m k mvs) .state)
-  within source = c .bounds .source-within
-  within (target tso) = c .bounds .tso-within
+  within Source = c .bounds .source-within
+  within (Target Tso) = c .bounds .tso-within
 
   numbered : (m : Machine) (mvs : List Move) → legal (length (k .lanes)) (limit m) mvs ≡ true
       → runBy m s (verdict s) mvs .number ≡ 0
-  numbered source = c .runs .source-runs
-  numbered (target tso) = c .runs .tso-runs
+  numbered Source = c .runs .source-runs
+  numbered (Target Tso) = c .runs .tso-runs
 
   module _ (m : Machine) (mvs : List Move) (le : legal (length (k .lanes)) (limit m) mvs ≡ true) where
     abbrev answer : Outcome → Answer

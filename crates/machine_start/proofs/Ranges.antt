@@ -14,7 +14,9 @@ use Rattle.sheet_format.specs.Layout.{Instr, op, start, aim, sheet}
 use Rattle.sheet_format.specs.Levels.{level2, placed, placedLanes, volatileIn}
 use Rattle.sheet_format.proofs.Laws.Cells.{Each, cells-each, lane-length}
 use Rattle.sheet_format.proofs.ReadBack.{bytes-back}
-use Rattle.machine_spec.specs.Rules.{Machine, source, target, tso}
+use Rattle.machine_spec.specs.declared.Machine.{Machine}
+use Rattle.machine_spec.specs.declared.Machine.the-variants.{Source, Target}
+use Rattle.machine_spec.specs.declared.Model.the-variants.{Tso}
 use Rattle.machine_spec.specs.State.{idle}
 use Rattle.machine_spec.specs.Run.{programFor}
 use Rattle.claims.proofs.KernelLanes.{lane-placed}
@@ -78,8 +80,8 @@ module _ (k : Program) (w : Lawful k) (t : ℕ) where
       )
 
   kept : (m : Machine) → Kept (getD (programFor m k) t [])
-  kept source = subst Kept (sym (List·getD-map (map op) (k .lanes) t [])) source-kept
-  kept (target tso) =
+  kept Source = subst Kept (sym (List·getD-map (map op) (k .lanes) t [])) source-kept
+  kept (Target Tso) =
       subst Kept
       (sym (ap (λ x. getD x t []) (bytes-back level2 k w) ∙ List·getD-map sheet (placedLanes level2 k) t []
       ∙ ap sheet (lane-placed k level2 t)))

@@ -16,7 +16,7 @@ use Rattle.file_wellformed.proofs.Lawful.{accepted-lawful}
 use Rattle.sheet_format.specs.Layout.{Instr, op, barrier, rank}
 use Rattle.sheet_format.specs.Levels.{volatileIn}
 use Rattle.machine_spec.specs.Entries.{Entry}
-use Rattle.machine_spec.specs.Rules.{Machine}
+use Rattle.machine_spec.specs.declared.Machine.{Machine}
 use Rattle.machine_spec.specs.Step.{Core, Turn, refuses, does, goto, permits, holds, emit, next, coreAfter, loads}
 use Rattle.machine_spec.specs.Step.{execute}
 use Rattle.machine_spec.specs.Schedule.{Move, move, limit, legal}
@@ -24,8 +24,6 @@ use Rattle.machine_spec.specs.State.{Lane, Run, ran, laneAt, posAt, coreOf, set
 use Rattle.machine_spec.specs.Run.{startOf, programFor, runOn}
 use Rattle.claims.proofs.Legal.{legal-append}
 use Rattle.claims.proofs.Laws.Lanes.{set-lane-same}
-use Rattle.machine_state.specs.declared.rules.Machine.{Machine as Coded}
-use Rattle.machine_state.specs.Machines.{machineIn}
 use Rattle.machine_state.specs.Ready.{Asks, LaneReady}
 use Rattle.machine_run.specs.Runs.{ProgramAt, Runs}
 use Rattle.machine_state.specs.States.{Held, countOf, stateIn}
@@ -100,27 +98,27 @@ module _ (s : List ℕ) (k : Program) (e : verdict s ≡ accepted k) (m : Machin
         asked = λ i at. asked i at (program-ranged k w t m (posAt (r .state) t) i at);
       }
 
-pub reached-ready : (s : List ℕ) (k : Program) → verdict s ≡ accepted k → (m : Coded) (mvs : List Move)
-    → legal (length (k .lanes)) (limit (machineIn m)) mvs ≡ true
+pub reached-ready : (s : List ℕ) (k : Program) → verdict s ≡ accepted k → (m : Machine) (mvs : List Move)
+    → legal (length (k .lanes)) (limit m) mvs ≡ true
     → (j : ℕ) (mv : Move) (r : Run) → getElem? mvs j ≡ some mv
-    → run (machineIn m) (volatileIn k) (programFor (machineIn m) k) (begin (startOf k)) (take j mvs) ≡ ran r
-    → LaneReady (getD (programFor (machineIn m) k) (mv .lane) []) (laneAt (r .state) (mv .lane))
+    → run m (volatileIn k) (programFor m k) (begin (startOf k)) (take j mvs) ≡ ran r
+    → LaneReady (getD (programFor m k) (mv .lane) []) (laneAt (r .state) (mv .lane))
 reached-ready s k e m mvs le j mv r at re =
     let n = length (k .lanes) in
-    let c = limit (machineIn m) in
-    lane-ready s k e (machineIn m) (take j mvs) (legal-take n c j mvs le) r re (mv .lane)
+    let c = limit m in
+    lane-ready s k e m (take j mvs) (legal-take n c j mvs le) r re (mv .lane)
     (legal-named n c mvs j mv le at .0)
 
 -- the code can run the schedule from a store that holds the start, on lanes whose programs are rows of the sheet
-pub runs-by : (s : List ℕ) (k : Program) → verdict s ≡ accepted k → (m : Coded) (vol : ℕ → Bool)
+pub runs-by : (s : List ℕ) (k : Program) → verdict s ≡ accepted k → (m : Machine) (vol : ℕ → Bool)
     (sheet first count : List ℕ) (mvs : List Move) (h : Held) (prog : List (List Instr))
-    → vol ≡ volatileIn k → countOf h 0 ≡ length (k .lanes) → prog ≡ programFor (machineIn m) k → stateIn h ≡ startOf k
-    → legal (length (k .lanes)) (limit (machineIn m)) mvs ≡ true
+    → vol ≡ volatileIn k → countOf h 0 ≡ length (k .lanes) → prog ≡ programFor m k → stateIn h ≡ startOf k
+    → legal (length (k .lanes)) (limit m) mvs ≡ true
     → ((t : ℕ) → t < length (k .lanes) → ProgramAt sheet (getD first t 0) (getD count t 0) (getD prog t []))
     → Runs m vol sheet first count mvs h prog
 runs-by s k e m vol sheet first count mvs h prog ve ne pe he le rows = record {
   lanes = omega (arith, ne, accepted-lawful s k e .few-lanes);
   programs = λ t l. rows t (rw ne at l);
-  named = λ j mv at. omega (arith, ne, legal-named (length (k .lanes)) (limit (machineIn m)) mvs j mv le at .0);
+  named = λ j mv at. omega (arith, ne, legal-named (length (k .lanes)) (limit m) mvs j mv le at .0);
   ready = λ j mv r at re. rw pe (reached-ready s k e m mvs le j mv r at (rw (ve, pe, he) at re));
 }

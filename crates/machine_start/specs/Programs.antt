@@ -6,12 +6,14 @@ use Rattle.file_verdict.specs.Verdict.{Verdict}
 use Rattle.sheet_format.specs.Levels.{level2}
 use Rattle.sheet_format.specs.declared.Lowered.{Lowered}
 use Rattle.sheet_format.specs.Bytes.{sheetBytes, answerBy}
-use Rattle.machine_spec.specs.Rules.{Machine, source, target, tso}
+use Rattle.machine_spec.specs.declared.Machine.{Machine}
+use Rattle.machine_spec.specs.declared.Machine.the-variants.{Source, Target}
+use Rattle.machine_spec.specs.declared.Model.the-variants.{Tso}
 use Rattle.file_rows.specs.Chains.{chainBytes}
 
 abbrev pub programBytes : Machine → Program → List ℕ
-programBytes source k = chainBytes k
-programBytes (target tso) k = sheetBytes level2 k
+programBytes Source k = chainBytes k
+programBytes (Target Tso) k = sheetBytes level2 k
 
 -- the answer on a file, and the buffer of rows after
 abbrev pub programBy : Machine → Verdict → List ℕ → Lowered × List ℕ

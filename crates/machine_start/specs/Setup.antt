@@ -13,34 +13,33 @@ use Rattle.sheet_format.specs.Bytes.{over}
 use Rattle.machine_spec.specs.Schedule.{Move, limit, legal}
 use Rattle.machine_spec.specs.Run.{startOf, programFor, runProgram}
 use Rattle.machine_spec.specs.Moves.{movesIn}
-use Rattle.machine_state.specs.declared.rules.Machine.{Machine as Coded}
-use Rattle.machine_state.specs.Machines.{machineIn}
+use Rattle.machine_spec.specs.declared.Machine.{Machine}
 use Rattle.machine_state.specs.States.{Held, countOf, stateIn, Sized}
 use Rattle.machine_run.specs.Runs.{ProgramAt}
 use Rattle.machine_record.specs.Record.{stateBytes}
 use Rattle.machine_start.specs.Programs.{programBytes}
 
 -- the kernel k of the file s, and moves that number 10 lets through
-pub record Legal (m : Coded) (mvs : List Move) (s : List ℕ) (k : Program) : Type 0 where
+pub record Legal (m : Machine) (mvs : List Move) (s : List ℕ) (k : Program) : Type 0 where
   pub accepts : verdict s ≡ accepted k
-  pub lets : legal (length (k .lanes)) (limit (machineIn m)) mvs ≡ true
+  pub lets : legal (length (k .lanes)) (limit m) mvs ≡ true
 
 -- the kernel's mask and its program's bytes, in a buffer that takes every program
-pub record ProgramIn (m : Coded) (mask : ℕ) (rows moves s : List ℕ) (k : Program) : Type 0 where
+pub record ProgramIn (m : Machine) (mask : ℕ) (rows moves s : List ℕ) (k : Program) : Type 0 where
   pub schedule : Legal m (movesIn moves) s k
   pub masked : mask ≡ k .mask
   pub own : List ℕ
   pub room : 4112 ≤ length own
-  pub front : rows ≡ over (programBytes (machineIn m) k) own
+  pub front : rows ≡ over (programBytes m k) own
 
 -- of some file
-pub record Startable (m : Coded) (mask : ℕ) (rows moves : List ℕ) : Type 0 where
+pub record Startable (m : Machine) (mask : ℕ) (rows moves : List ℕ) : Type 0 where
   pub file : List ℕ
   pub kernel : Program
   pub program : ProgramIn m mask rows moves file kernel
 
 -- the store h at the kernel's start, with its volatile locations and each lane's rows
-pub record Begins (m : Coded) (vol : ℕ → Bool) (rows first count : List ℕ) (mvs : List Move) (h : Held)
+pub record Begins (m : Machine) (vol : ℕ → Bool) (rows first count : List ℕ) (mvs : List Move) (h : Held)
     (s : List ℕ) (k : Program) : Type 0 where
   pub schedule : Legal m mvs s k
   pub volatile : vol ≡ volatileIn k
@@ -48,14 +47,14 @@ pub record Begins (m : Coded) (vol : ℕ → Bool) (rows first count : List ℕ)
   pub sized : Sized h
   pub start : stateIn h ≡ startOf k
   pub programs : (t : ℕ) → t < length (k .lanes)
-      → ProgramAt rows (getD first t 0) (getD count t 0) (getD (programFor (machineIn m) k) t [])
+      → ProgramAt rows (getD first t 0) (getD count t 0) (getD (programFor m k) t [])
 
 -- of some file
-pub record Begun (m : Coded) (vol : ℕ → Bool) (rows first count : List ℕ) (mvs : List Move) (h : Held) : Type 0 where
+pub record Begun (m : Machine) (vol : ℕ → Bool) (rows first count : List ℕ) (mvs : List Move) (h : Held) : Type 0 where
   pub file : List ℕ
   pub kernel : Program
   pub begins : Begins m vol rows first count mvs h file kernel
 
 -- the answer of a run that took place, and the output buffer with the state record at its front
-abbrev pub ranInto : Coded → Program → List ℕ → List ℕ → Lowered × List ℕ
-ranInto m k moves buffer = (Wrote 2280, over (stateBytes (runProgram (machineIn m) k (movesIn moves))) buffer)
+abbrev pub ranInto : Machine → Program → List ℕ → List ℕ → Lowered × List ℕ
+ranInto m k moves buffer = (Wrote 2280, over (stateBytes (runProgram m k (movesIn moves))) buffer)

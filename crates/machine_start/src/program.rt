@@ -1,20 +1,19 @@
 // What a machine runs: its program as rows.
 ghost use mathlib.Core.Path.{_≡_};
 ghost use Rattle.file_verdict.specs.Verdict.{verdict};
-ghost use Rattle.machine_state.specs.Machines.{machineIn};
 ghost use Rattle.machine_start.specs.Programs.{programBy};
 use file_accept::output::chain_file;
-use machine_state::rules::Machine;
+use machine_spec::Machine;
 use sheet_format::Lowered;
 use sheet_level2::lower::lower2;
 
 // The rows at the front of `rows`: the chains for the source machine, the level 2 sheet for the tso machine.
 pub fn program_of(machine: Machine, file: &[u8], rows: &mut [u8]) -> Lowered
-    ensures { λ r. ⌜ (r, now (rows .exit)) ≡ programBy (machineIn machine) (verdict (now (file .entry)))
+    ensures { λ r. ⌜ (r, now (rows .exit)) ≡ programBy machine (verdict (now (file .entry)))
         (now (rows .entry)) ⌝ }
 {
     match machine {
         Machine::Source => chain_file(file, rows),
-        Machine::Tso => lower2(file, rows),
+        Machine::Target(_) => lower2(file, rows),
     }
 }

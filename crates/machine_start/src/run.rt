@@ -12,7 +12,7 @@ use machine_record::state::write_state;
 use machine_run::judge::ended;
 use machine_run::run::Ended;
 use machine_run::run::run_moves;
-use machine_state::rules::Machine;
+use machine_spec::Machine;
 use machine_state::state::COUNTS;
 use machine_state::state::LANES;
 use machine_state::state::LOCATIONS;

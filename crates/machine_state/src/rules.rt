@@ -1,11 +1,10 @@
-// The machines, and the functions that tell them apart.
+// The functions that tell the machines apart.
 ghost use mathlib.Core.Path.{_≡_};
 ghost use Prim.Native.Nat.{_<_};
 ghost use lib.ListN.{length, getD, take};
 ghost use Rattle.machine_spec.specs.Rules.{mayCommit, sees, mayLoad, mayLock, mayPass};
 ghost use Rattle.machine_lane.specs.Lanes.{flags, noEntry};
 ghost use Rattle.machine_state.specs.States.{laneOf, Lies};
-ghost use Rattle.machine_state.specs.Machines.{machineIn};
 use crate::held::count;
 use crate::held::take;
 use crate::search::has_older;
@@ -16,12 +15,8 @@ use crate::state::word_at;
 use barrier_placement::cookbook::Barrier;
 use machine_lane::lane::is_sync;
 use machine_lane::lane::is_volatile;
-
-// The source machine runs the kernel, the tso machine the level 2 sheet.
-pub enum Machine {
-    Source,
-    Tso,
-}
+use machine_spec::Machine;
+use machine_spec::Model;
 
 // May the entry at an index commit?
 pub fn may_commit(
@@ -32,7 +27,7 @@ pub fn may_commit(
     index: usize,
 ) -> bool
     requires { ⌜ Lies (now state) t × (index < length (laneOf (now state) t .pending)) ⌝ }
-    ensures { λ r. ⌜ r ≡ mayCommit (machineIn machine) (flags (now (volatile .entry)))
+    ensures { λ r. ⌜ r ≡ mayCommit machine (flags (now (volatile .entry)))
         (take index (laneOf (now (state .entry)) t .pending))
         (getD (laneOf (now (state .entry)) t .pending) index noEntry) ⌝ }
 {
@@ -48,14 +43,16 @@ pub fn may_commit(
                 !has_older(state, t, index, cell)
             }
         }
-        Machine::Tso => false,
+        Machine::Target(model) => match model {
+            Model::Tso => false,
+        },
     }
 }
 
 // The value that a LOAD of location x takes, m being the memory's.
 pub fn sees(machine: Machine, volatile: &[bool], state: &State, t: usize, x: u32, m: u32) -> u32
     requires { ⌜ Lies (now state) t × (x < 16) ⌝ }
-    ensures { λ r. ⌜ r ≡ sees (machineIn machine) (flags (now (volatile .entry)))
+    ensures { λ r. ⌜ r ≡ sees machine (flags (now (volatile .entry)))
         (laneOf (now (state .entry)) t .pending) x m ⌝ }
 {
     match machine {
@@ -67,7 +64,7 @@ pub fn sees(machine: Machine, volatile: &[bool], state: &State, t: usize, x: u32
                 found.value
             }
         }
-        Machine::Tso => {
+        Machine::Target(_) => {
             let found = take(state, t).newest(x, m);
             found.value
         }
@@ -77,7 +74,7 @@ pub fn sees(machine: Machine, volatile: &[bool], state: &State, t: usize, x: u32
 // May a LOAD of location x be carried out?
 pub fn may_load(machine: Machine, volatile: &[bool], state: &State, t: usize, x: u32) -> bool
     requires { ⌜ Lies (now state) t ⌝ }
-    ensures { λ r. ⌜ r ≡ mayLoad (machineIn machine) (flags (now (volatile .entry)))
+    ensures { λ r. ⌜ r ≡ mayLoad machine (flags (now (volatile .entry)))
         (laneOf (now (state .entry)) t .pending) x ⌝ }
 {
     match machine {
@@ -88,30 +85,30 @@ pub fn may_load(machine: Machine, volatile: &[bool], state: &State, t: usize, x:
                 true
             }
         }
-        Machine::Tso => true,
+        Machine::Target(_) => true,
     }
 }
 
 // May a LOCK of a free lock be carried out?
 pub fn may_lock(machine: Machine, volatile: &[bool], state: &State, t: usize) -> bool
     requires { ⌜ Lies (now state) t ⌝ }
-    ensures { λ r. ⌜ r ≡ mayLock (machineIn machine) (flags (now (volatile .entry)))
+    ensures { λ r. ⌜ r ≡ mayLock machine (flags (now (volatile .entry)))
         (laneOf (now (state .entry)) t .pending) ⌝ }
 {
     match machine {
         Machine::Source => !has_sync(volatile, state, t),
-        Machine::Tso => count(state, t) == 0,
+        Machine::Target(_) => count(state, t) == 0,
     }
 }
 
 // May a barrier be passed?
 pub fn may_pass(machine: Machine, barrier: Barrier, state: &State, t: usize) -> bool
     requires { ⌜ Lies (now state) t ⌝ }
-    ensures { λ r. ⌜ r ≡ mayPass (machineIn machine) barrier (laneOf (now (state .entry)) t .pending) ⌝ }
+    ensures { λ r. ⌜ r ≡ mayPass machine barrier (laneOf (now (state .entry)) t .pending) ⌝ }
 {
     match machine {
         Machine::Source => true,
-        Machine::Tso => match barrier {
+        Machine::Target(_) => match barrier {
             Barrier::LL => true,
             Barrier::LS => true,
             Barrier::SS => true,

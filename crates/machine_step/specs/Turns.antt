@@ -8,24 +8,23 @@ use lib.ListN.{getElem?}
 use Rattle.sheet_format.specs.Layout.{Instr}
 use Rattle.machine_spec.specs.Step.{Turn, waits, refuses, passes, does, execute, commit, turn}
 use Rattle.machine_spec.specs.State.{State, setLane}
-use Rattle.machine_state.specs.declared.rules.Machine.{Machine as Coded}
+use Rattle.machine_spec.specs.declared.Machine.{Machine}
 use Rattle.machine_state.specs.declared.state.Moved.{Moved}
 use Rattle.machine_state.specs.declared.state.Moved.the-variants.{Waited, Done, ReleaseNotHeld}
-use Rattle.machine_state.specs.Machines.{machineIn}
 use Rattle.machine_state.specs.States.{Held, laneOf, coreIn, countOf, stateIn, Sized}
 
 -- it carries out an instruction
-abbrev pub carries : Coded → (ℕ → Bool) → Held → ℕ → Option Instr → Turn
-carries m vol s t i = execute (machineIn m) vol (suc t) (laneOf s t .control) (coreIn s t) i
+abbrev pub carries : Machine → (ℕ → Bool) → Held → ℕ → Option Instr → Turn
+carries m vol s t i = execute m vol (suc t) (laneOf s t .control) (coreIn s t) i
 
 -- it commits the entry that has i older ones
-abbrev pub commits : Coded → (ℕ → Bool) → Held → ℕ → ℕ → Turn
+abbrev pub commits : Machine → (ℕ → Bool) → Held → ℕ → ℕ → Turn
 commits m vol s t i =
-    commit (machineIn m) vol (laneOf s t .control) (coreIn s t) i (getElem? (laneOf s t .pending) i)
+    commit m vol (laneOf s t .control) (coreIn s t) i (getElem? (laneOf s t .pending) i)
 
 -- it makes choice k of its program
-abbrev pub turns : Coded → (ℕ → Bool) → List Instr → Held → ℕ → ℕ → Turn
-turns m vol prog s t k = turn (machineIn m) vol (suc t) prog (laneOf s t .control) (coreIn s t) k
+abbrev pub turns : Machine → (ℕ → Bool) → List Instr → Held → ℕ → ℕ → Turn
+turns m vol prog s t k = turn m vol (suc t) prog (laneOf s t .control) (coreIn s t) k
 
 abbrev pub movedBy : Turn → Moved
 movedBy waits = Waited
@@ -47,5 +46,5 @@ pub record Took (s : Held) (t : ℕ) (u : Turn) (q : Moved) (e : Held) : Type 0 
   pub state : stateIn e ≡ stateBy (stateIn s) t u
 
 -- lane t had the instruction i to carry out
-abbrev pub Carried : Coded → (ℕ → Bool) → Instr → ℕ → Held → Moved → Held → Type 0
+abbrev pub Carried : Machine → (ℕ → Bool) → Instr → ℕ → Held → Moved → Held → Type 0
 Carried m vol i t s q e = Took s t (carries m vol s t (some i)) q e

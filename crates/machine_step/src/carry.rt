@@ -13,7 +13,7 @@ use crate::local::pass;
 use crate::local::set;
 use crate::local::skip;
 use barrier_placement::cookbook::Barrier;
-use machine_state::rules::Machine;
+use machine_spec::Machine;
 use machine_state::state::Moved;
 use machine_state::state::State;
 

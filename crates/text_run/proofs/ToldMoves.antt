@@ -15,7 +15,8 @@ use Rattle.file_format.proofs.Laws.Lists.{some-at}
 use Rattle.sheet_format.specs.Layout.{Instr, op, barrier, rank}
 use Rattle.sheet_format.specs.Read.{readInstr}
 use Rattle.machine_spec.specs.Entries.{Entry}
-use Rattle.machine_spec.specs.Rules.{Machine, mayCommit, mayPass}
+use Rattle.machine_spec.specs.declared.Machine.{Machine}
+use Rattle.machine_spec.specs.Rules.{mayCommit, mayPass}
 use Rattle.machine_spec.specs.Step.{Control, Core, Turn, waits, refuses, passes, does, permits, holds, valueOf, loads}
 use Rattle.machine_spec.specs.Step.{goto, next, coreAfter, execute, commit, turn}
 use Rattle.machine_spec.specs.Schedule.{Move}

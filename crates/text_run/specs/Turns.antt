@@ -9,7 +9,7 @@ use Rattle.file_format.specs.declared.accepted.Op.the-variants.{Load}
 use Rattle.sheet_format.specs.Layout.{Instr, op}
 use Rattle.sheet_format.specs.Read.{readInstr}
 use Rattle.machine_spec.specs.Entries.{Entry}
-use Rattle.machine_spec.specs.Rules.{Machine}
+use Rattle.machine_spec.specs.declared.Machine.{Machine}
 use Rattle.machine_spec.specs.Step.{Turn, waits, refuses, passes, does}
 use Rattle.machine_spec.specs.Schedule.{Move}
 use Rattle.machine_spec.specs.State.{Lane, State, laneAt, moveTurn}

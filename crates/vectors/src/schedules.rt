@@ -5,7 +5,8 @@ use console::print::say;
 use console::print::say_part;
 use console::print::say_refusal;
 use lanes::call::run_file;
-use machine_state::rules::Machine;
+use machine_spec::Machine;
+use machine_spec::Model;
 use sheet_format::Lowered;
 use text_run::states::tell_state;
 use text_schedule::whole::Read;
@@ -42,7 +43,7 @@ fn tell_runs(i: usize, file: &[u8], moves: &[u8]) {
     tell_run(Machine::Source, file, moves);
     say_argument(i);
     say(b"tso\n");
-    tell_run(Machine::Tso, file, moves);
+    tell_run(Machine::Target(Model::Tso), file, moves);
 }
 
 // The header of the kernel file has the counts that the text goes by, as that of a sheet does.

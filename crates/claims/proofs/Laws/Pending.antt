@@ -8,7 +8,10 @@ use borrow.Author.Tests.{eqb-true}
 use Rattle.barrier_placement.proofs.Laws.Bools.{or-right}
 use Rattle.claims.proofs.Laws.Bools.{or-false, or-swap, or-mono}
 use Rattle.machine_spec.specs.Entries.{Entry, write, release, isSync, anySync, isNil, newest, without}
-use Rattle.machine_spec.specs.Rules.{Machine, source, target, tso, mayCommit}
+use Rattle.machine_spec.specs.declared.Machine.{Machine}
+use Rattle.machine_spec.specs.declared.Machine.the-variants.{Source, Target}
+use Rattle.machine_spec.specs.declared.Model.the-variants.{Tso}
+use Rattle.machine_spec.specs.Rules.{mayCommit}
 
 pub sync-snoc : (vol : ℕ → Bool) (es : List Entry) (e : Entry)
     → anySync vol (es ++ (e ∷ [])) ≡ isSync vol e || anySync vol es
@@ -46,8 +49,8 @@ nil-sync vol (x ∷ es) h = cc
 pub oldest-commits : (m : Machine) (vol : ℕ → Bool) (older : List Entry) (e : Entry) → isNil older ≡ true
     → mayCommit m vol older e ≡ true
 oldest-commits m vol (y ∷ older) e h = cc
-oldest-commits (target tso) vol [] e h = refl
-oldest-commits source vol [] e h = go (isSync vol e)
+oldest-commits (Target Tso) vol [] e h = refl
+oldest-commits Source vol [] e h = go (isSync vol e)
   where
     go : (b : Bool) → cond b true true ≡ true
     go true = refl

@@ -4,7 +4,7 @@ use mathlib.Core.List.{List, [], _∷_, _++_}
 use native.Mathlib.Omega.{arith}
 use lib.ListN.{length, length-append}
 use Rattle.machine_spec.specs.Schedule.{Move}
-use Rattle.machine_state.specs.declared.rules.Machine.{Machine as Coded}
+use Rattle.machine_spec.specs.declared.Machine.{Machine}
 use Rattle.machine_state.specs.States.{Held}
 use Rattle.machine_course.specs.declared.course.Course.{Course}
 use Rattle.machine_course.specs.Stands.{Stands, Standing, Judged}
@@ -25,7 +25,7 @@ module _ {n : ℕ} {rows : List ℕ} {x : Course} {h : Held} (c : CameTo n rows 
       record { file = c .file; machine = c .machine; moves = c .moves; rows = rows; stands = c .stands }
 
   pub one-more : (mv : Move) {y : Course} {e : Held}
-      → ((s : List ℕ) (m : Coded) (mvs : List Move) → Stands s m mvs rows x h → Stands s m (mvs ++ (mv ∷ [])) rows y e)
+      → ((s : List ℕ) (m : Machine) (mvs : List Move) → Stands s m mvs rows x h → Stands s m (mvs ++ (mv ∷ [])) rows y e)
       → CameTo (n + 1) rows y e
   one-more mv next = record {
     file = c .file;

@@ -15,8 +15,7 @@ use Rattle.sheet_format.specs.declared.Lowered.the-variants.{Wrote, Refuses}
 use Rattle.sheet_format.proofs.Answers.{BytesIn}
 use Rattle.machine_spec.specs.Schedule.{limit, legal}
 use Rattle.machine_spec.specs.Moves.{movesIn}
-use Rattle.machine_state.specs.declared.rules.Machine.{Machine as Coded}
-use Rattle.machine_state.specs.Machines.{machineIn}
+use Rattle.machine_spec.specs.declared.Machine.{Machine}
 use Rattle.machine_start.specs.Programs.{programBytes, programBy}
 use Rattle.lanes_answers.specs.Calls.{runInto, runFileBy}
 use Rattle.machine_start.specs.Setup.{ProgramIn, ranInto}
@@ -24,29 +23,29 @@ use Rattle.machine_start.proofs.Laws.Programs.{header-read}
 use Rattle.machine_start.proofs.Laws.Files.{file-verdict, ran-number}
 
 -- a refused file
-pub file-refused : (m : Coded) (s own : List ℕ) → 4112 ≤ length own → {n r : ℕ} {after : List ℕ}
-    → (Refuses n r, after) ≡ programBy (machineIn m) (verdict s) own
-    → (moves out : List ℕ) → (Refuses n r, out) ≡ runFileBy (machineIn m) (verdict s) moves out
+pub file-refused : (m : Machine) (s own : List ℕ) → 4112 ≤ length own → {n r : ℕ} {after : List ℕ}
+    → (Refuses n r, after) ≡ programBy m (verdict s) own
+    → (moves out : List ℕ) → (Refuses n r, out) ≡ runFileBy m (verdict s) moves out
 file-refused m s own big p moves out =
-    sym (ap (λ v. runFileBy (machineIn m) v moves out) (file-verdict m s own big p))
+    sym (ap (λ v. runFileBy m v moves out) (file-verdict m s own big p))
 
 -- a run that takes place: what it starts from, and its answer
-pub record Takes (m : Coded) (mask : ℕ) (rows moves s out : List ℕ) : Type 0 where
+pub record Takes (m : Machine) (mask : ℕ) (rows moves s out : List ℕ) : Type 0 where
   pub kernel : Program
   pub program : ProgramIn m mask rows moves s kernel
-  pub answers : ranInto m kernel moves out ≡ runFileBy (machineIn m) (verdict s) moves out
+  pub answers : ranInto m kernel moves out ≡ runFileBy m (verdict s) moves out
 
 -- ## an accepted file, whose program's bytes stand at the front of the rows
-module _ (m : Coded) {s own rows : List ℕ} (b : BytesIn (programBytes (machineIn m)) s own rows)
+module _ (m : Machine) {s own rows : List ℕ} (b : BytesIn (programBytes m) s own rows)
     (moves out : List ℕ) where
   abbrev k : Program
   k = b .kernel
 
   abbrev Answers : Lowered × List ℕ → Type 0
-  Answers a = a ≡ runFileBy (machineIn m) (verdict s) moves out
+  Answers a = a ≡ runFileBy m (verdict s) moves out
 
-  by-run : {a : Lowered × List ℕ} → runInto (machineIn m) k moves out ≡ a → Answers a
-  by-run e = sym (ap (λ v. runFileBy (machineIn m) v moves out) (b .accepts) ∙ e)
+  by-run : {a : Lowered × List ℕ} → runInto m k moves out ≡ a → Answers a
+  by-run e = sym (ap (λ v. runFileBy m v moves out) (b .accepts) ∙ e)
 
   pub short-buffer : length out < 2280 → Answers (Refuses 9 0, out)
   short-buffer h = by-run (rw (lt-ltb (length out) 2280 h))
@@ -57,11 +56,11 @@ module _ (m : Coded) {s own rows : List ℕ} (b : BytesIn (programBytes (machine
 
     -- the schedule, judged by the rows' first byte and the machine's highest choice
     module _ (even : ¬ length moves % 2 ≡ 1) {n c : ℕ} {ok : Bool} (ne : n ≡ getD rows 0 0)
-        (ce : c ≡ limit (machineIn m)) (judged : ok ≡ legal n c (movesIn moves)) where
-      lets : ok ≡ legal (length (k .lanes)) (limit (machineIn m)) (movesIn moves)
+        (ce : c ≡ limit m) (judged : ok ≡ legal n c (movesIn moves)) where
+      lets : ok ≡ legal (length (k .lanes)) (limit m) (movesIn moves)
       lets =
           let first = ap (λ x. getD x 0 0) (b .front)
-          ∙ header-read k m (drop (length (programBytes (machineIn m) k)) own) .0 in
+          ∙ header-read k m (drop (length (programBytes m k)) own) .0 in
           judged ∙ ap₂ (λ x y. legal x y (movesIn moves)) (ne ∙ first) ce
 
       pub illegal-moves : ok ≡ false → Answers (Refuses 10 0, out)
@@ -83,6 +82,6 @@ module _ (m : Coded) {s own rows : List ℕ} (b : BytesIn (programBytes (machine
             answers = by-run (rw (
               le-ltb (length out) 2280 room,
               ne-eqb (length moves % 2) 1 even,
-              ran-number s k (b .accepts) (machineIn m) (movesIn moves) let-through,
+              ran-number s k (b .accepts) m (movesIn moves) let-through,
             ));
           }

@@ -14,8 +14,7 @@ use Rattle.sheet_format.proofs.Answers.{BytesIn}
 use Rattle.machine_spec.specs.State.{startState}
 use Rattle.machine_spec.specs.Run.{Answer, startOf, programFor, runBy}
 use Rattle.sheet_rows.specs.Rows.{partsIn}
-use Rattle.machine_state.specs.declared.rules.Machine.{Machine as Coded}
-use Rattle.machine_state.specs.Machines.{machineIn}
+use Rattle.machine_spec.specs.declared.Machine.{Machine}
 use Rattle.machine_state.specs.States.{Held, stateIn}
 use Rattle.machine_run.specs.Runs.{ProgramAt}
 use Rattle.machine_start.specs.Programs.{programBytes}
@@ -23,10 +22,10 @@ use Rattle.machine_start.proofs.Laws.Programs.{header-read, program-at}
 use Rattle.machine_course.specs.declared.course.Course.{Course}
 use Rattle.machine_course.specs.Stands.{answerBy, Prepared, Stands, Sets, Started, RefusedStart, blocked}
 
-refused-stands : (m : Coded) (s rows : List ℕ) (n r : ℕ) {e : Held} → verdict s ≡ refused n r → RefusedStart s n e
+refused-stands : (m : Machine) (s rows : List ℕ) (n r : ℕ) {e : Held} → verdict s ≡ refused n r → RefusedStart s n e
     → Stands s m [] rows (blocked m n r) e
 refused-stands m s rows n r v st =
-    let is : answerBy m s [] ≡ runBy (machineIn m) s (refused n r) [] = ap (λ y. runBy (machineIn m) s y []) v in
+    let is : answerBy m s [] ≡ runBy m s (refused n r) [] = ap (λ y. runBy m s y []) v in
     record {
       sized = st .sized;
       few = omega arith;
@@ -43,13 +42,13 @@ refused-stands m s rows n r v st =
     clash k e = cc
 
 -- of what the code made
-pub begins-refused : (m : Coded) (s : List ℕ) {rows : List ℕ} {n r : ℕ} {x : Course} {e : Held} → verdict s ≡
+pub begins-refused : (m : Machine) (s : List ℕ) {rows : List ℕ} {n r : ℕ} {x : Course} {e : Held} → verdict s ≡
     refused n r
     → RefusedStart s n e → x ≡ blocked m n r → Stands s m [] rows x e
 begins-refused m s {rows} {n} {r} {x} {e} v st q =
     subst (λ y. Stands s m [] rows y e) (sym q) (refused-stands m s rows n r v st)
 
-module _ (m : Coded) {s own rows : List ℕ} (b : BytesIn (programBytes (machineIn m)) s own rows)
+module _ (m : Machine) {s own rows : List ℕ} (b : BytesIn (programBytes m) s own rows)
     (room : 4112 ≤ length own) {mask : ℕ} {x : Course} {e : Held} (me : mask ≡ word s 4) (sets : Sets m mask rows x)
     (st : Started (getD rows 0 0) (getD rows 1 0) (getD rows 2 0) e) where
   abbrev k : Program
@@ -61,14 +60,14 @@ module _ (m : Coded) {s own rows : List ℕ} (b : BytesIn (programBytes (machine
   header : (getD rows 0 0 ≡ length (k .lanes)) × (getD rows 1 0 ≡ k .locations) × (getD rows 2 0 ≡ k .locks)
   header =
       subst (λ y. (getD y 0 0 ≡ length (k .lanes)) × (getD y 1 0 ≡ k .locations) × (getD y 2 0 ≡ k .locks))
-      (sym (b .front)) (header-read k m (drop (length (programBytes (machineIn m) k)) own))
+      (sym (b .front)) (header-read k m (drop (length (programBytes m k)) own))
 
   programs : (t : ℕ) → t < length (k .lanes)
       → ProgramAt rows (getD (partsIn rows .from) t 0) (getD (partsIn rows .count) t 0)
-      (getD (programFor (machineIn m) k) t [])
+      (getD (programFor m k) t [])
   programs t h =
       subst (λ y. ProgramAt y (getD (partsIn y .from) t 0) (getD (partsIn y .count) t 0)
-      (getD (programFor (machineIn m) k) t []))
+      (getD (programFor m k) t []))
       (sym (b .front)) (program-at k law m own room t h)
 
   prepared : Prepared m k rows x e
@@ -80,10 +79,10 @@ module _ (m : Coded) {s own rows : List ℕ} (b : BytesIn (programBytes (machine
     locks = sets .locks ∙ header .2;
     held = st .lanes ∙ header .0;
     programs = λ t h.
-        subst (λ f. ProgramAt rows (getD f t 0) (getD (x .count) t 0) (getD (programFor (machineIn m) k) t []))
+        subst (λ f. ProgramAt rows (getD f t 0) (getD (x .count) t 0) (getD (programFor m k) t []))
         (sym (sets .first))
         (subst (λ f. ProgramAt rows (getD (partsIn rows .from) t 0) (getD f t 0)
-        (getD (programFor (machineIn m) k) t []))
+        (getD (programFor m k) t []))
         (sym (sets .count)) (programs t h));
   }
 
@@ -95,8 +94,8 @@ module _ (m : Coded) {s own rows : List ℕ} (b : BytesIn (programBytes (machine
 
   pub begins-accepted : Stands s m [] rows x e
   begins-accepted =
-      let is : answerBy m s [] ≡ runBy (machineIn m) s (accepted k) [] =
-      ap (λ y. runBy (machineIn m) s y []) (b .accepts) in
+      let is : answerBy m s [] ≡ runBy m s (accepted k) [] =
+      ap (λ y. runBy m s y []) (b .accepts) in
       record {
         sized = st .sized;
         few = omega (arith, sets .zeros .2, sets .zeros .3);

@@ -15,8 +15,7 @@ use Rattle.machine_spec.specs.State.{Outcome, ran, refused as stopped}
 use Rattle.machine_spec.specs.Run.{Answer, answerOf, startOf, programFor, runOn, runBy}
 use Rattle.machine_spec.specs.View.{finished}
 use Rattle.sheet_rows.proofs.Laws.Read.{rows-length}
-use Rattle.machine_state.specs.declared.rules.Machine.{Machine as Coded}
-use Rattle.machine_state.specs.Machines.{machineIn}
+use Rattle.machine_spec.specs.declared.Machine.{Machine}
 use Rattle.machine_state.specs.States.{Held, countOf, stateIn}
 use Rattle.machine_run.specs.Counts.{Counts}
 use Rattle.machine_start.proofs.Answered.{not-refused}
@@ -35,22 +34,22 @@ four-blocks (x ∷ y ∷ []) h = absurd (omega arith)
 four-blocks (x ∷ y ∷ z ∷ []) h = absurd (omega arith)
 four-blocks (x ∷ y ∷ z ∷ u ∷ s) h = refl
 
-module _ {s : List ℕ} {m : Coded} {mvs : List Move} {rows : List ℕ} {x : Course} {h : Held}
+module _ {s : List ℕ} {m : Machine} {mvs : List Move} {rows : List ℕ} {x : Course} {h : Held}
     (so : Stands s m mvs rows x h) where
   -- a refusal is not finished
   pub not-finished : (x .number ≡ 0 → ⊥) → false ≡ answerBy m s mvs .finished
   not-finished never = go (verdict s) refl
     where
       go : (v : Verdict) → verdict s ≡ v → false ≡ answerBy m s mvs .finished
-      go (refused n r) e = sym (ap (λ v. runBy (machineIn m) s v mvs .finished) e)
-      go (accepted k) e = which (legal (length (k .lanes)) (limit (machineIn m)) mvs) refl
+      go (refused n r) e = sym (ap (λ v. runBy m s v mvs .finished) e)
+      go (accepted k) e = which (legal (length (k .lanes)) (limit m) mvs) refl
         where
-          which : (b : Bool) → legal (length (k .lanes)) (limit (machineIn m)) mvs ≡ b
+          which : (b : Bool) → legal (length (k .lanes)) (limit m) mvs ≡ b
               → false ≡ answerBy m s mvs .finished
           which true l =
-              absurd (never (so .number ∙ ap (λ v. runBy (machineIn m) s v mvs .number) e
-              ∙ ran-number s k e (machineIn m) mvs l))
-          which false l = sym (ap (λ v. runBy (machineIn m) s v mvs .finished) e ∙ rw l refl)
+              absurd (never (so .number ∙ ap (λ v. runBy m s v mvs .number) e
+              ∙ ran-number s k e m mvs l))
+          which false l = sym (ap (λ v. runBy m s v mvs .finished) e ∙ rw l refl)
 
   -- ## a run that took place
   module _ (z : x .number ≡ 0) where
@@ -67,7 +66,7 @@ module _ {s : List ℕ} {m : Coded} {mvs : List Move} {rows : List ℕ} {x : Cou
     own = so .prepared k (here .accepts)
 
     abbrev prog : List (List Instr)
-    prog = programFor (machineIn m) k
+    prog = programFor m k
 
     pub lanes-few : countOf h 0 ≤ 4
     lanes-few = omega (arith, own .held, law .few-lanes)
@@ -83,11 +82,11 @@ module _ {s : List ℕ} {m : Coded} {mvs : List Move} {rows : List ℕ} {x : Cou
     pub finished-by : {f : Bool} → ((p : List (List Instr)) → Counts (countOf h 0) (x .count) p → f ≡ finished p
         (stateIn h))
         → f ≡ answerBy m s mvs .finished
-    finished-by judged = judged prog counts ∙ go (runOn (machineIn m) k mvs) refl
+    finished-by judged = judged prog counts ∙ go (runOn m k mvs) refl
       where
-        go : (o : Outcome) → runOn (machineIn m) k mvs ≡ o → finished prog (stateIn h) ≡ answerBy m s mvs .finished
-        go (stopped t p) e = absurd (not-refused s k (here .accepts) (machineIn m) mvs (here .legals) t p e)
+        go : (o : Outcome) → runOn m k mvs ≡ o → finished prog (stateIn h) ≡ answerBy m s mvs .finished
+        go (stopped t p) e = absurd (not-refused s k (here .accepts) m mvs (here .legals) t p e)
         go (ran r) e =
             let a : answerBy m s mvs ≡ answerOf prog (k .records) (startOf k) (ran r) =
-            ap (λ v. runBy (machineIn m) s v mvs) (here .accepts) ∙ rw (here .legals, e) refl in
+            ap (λ v. runBy m s v mvs) (here .accepts) ∙ rw (here .legals, e) refl in
             ap (finished prog) (so .state ∙ ap (λ (y : Answer). y .state) a) ∙ sym (ap (λ (y : Answer). y .finished) a)

@@ -17,8 +17,7 @@ use Rattle.sheet_format.specs.Read.{readRows}
 use Rattle.machine_spec.specs.Schedule.{Move, move, limit, legal}
 use Rattle.machine_spec.specs.State.{State, startState, Outcome, ran, refused, run, begin}
 use Rattle.machine_spec.specs.Run.{Answer, refusal, answerOf, startOf, programFor, runOn, runBy}
-use Rattle.machine_state.specs.declared.rules.Machine.{Machine as Coded}
-use Rattle.machine_state.specs.Machines.{machineIn}
+use Rattle.machine_spec.specs.declared.Machine.{Machine}
 use Rattle.machine_lane.specs.Lanes.{flags}
 use Rattle.machine_state.specs.declared.state.Moved.{Moved}
 use Rattle.machine_state.specs.declared.state.Moved.the-variants.{Waited, Done, ReleaseNotHeld}
@@ -42,7 +41,7 @@ last-at : (mvs : List Move) (mv : Move) → getElem? (mvs ++ (mv ∷ [])) (lengt
 last-at [] mv = refl
 last-at (x ∷ mvs) mv = last-at mvs mv
 
-module _ {s : List ℕ} {m : Coded} {mvs : List Move} {rows : List ℕ} {x : Course} {h : Held}
+module _ {s : List ℕ} {m : Machine} {mvs : List Move} {rows : List ℕ} {x : Course} {h : Held}
     (so : Stands s m mvs rows x h) (mv : Move) where
   abbrev after : List Move
   after = mvs ++ (mv ∷ [])
@@ -80,30 +79,30 @@ module _ {s : List ℕ} {m : Coded} {mvs : List Move} {rows : List ℕ} {x : Cou
     own = so .prepared k (here .accepts)
 
     abbrev prog : List (List Instr)
-    prog = programFor (machineIn m) k
+    prog = programFor m k
 
-    legal-after : legal n (limit (machineIn m)) after ≡ allowed n (limit (machineIn m)) mv
+    legal-after : legal n (limit m) after ≡ allowed n (limit m) mv
     legal-after =
-        legal-snoc n (limit (machineIn m)) mvs mv
-        ∙ ap (λ b. b && allowed n (limit (machineIn m)) mv) (here .legals)
+        legal-snoc n (limit m) mvs mv
+        ∙ ap (λ b. b && allowed n (limit m) mv) (here .legals)
 
     -- the code's test
-    test : {c : ℕ} {b : Bool} → c ≡ limit (machineIn (x .machine)) → b ≡ allowed (x .lanecount) c mv
-        → b ≡ allowed n (limit (machineIn m)) mv
-    test ce be = be ∙ ap₂ (λ p q. allowed p q mv) (own .lanes) (ce ∙ ap (λ y. limit (machineIn y)) (own .machine))
+    test : {c : ℕ} {b : Bool} → c ≡ limit (x .machine) → b ≡ allowed (x .lanecount) c mv
+        → b ≡ allowed n (limit m) mv
+    test ce be = be ∙ ap₂ (λ p q. allowed p q mv) (own .lanes) (ce ∙ ap (λ y. limit y) (own .machine))
 
-    answers-by : {a : Answer} → runBy (machineIn m) s (accepted k) after ≡ a → answerBy m s after ≡ a
-    answers-by e = ap (λ v. runBy (machineIn m) s v after) (here .accepts) ∙ e
+    answers-by : {a : Answer} → runBy m s (accepted k) after ≡ a → answerBy m s after ≡ a
+    answers-by e = ap (λ v. runBy m s v after) (here .accepts) ∙ e
 
     number-blames : x .rec ≡ 0
-    number-blames = so .blames ∙ go (runOn (machineIn m) k mvs) refl
+    number-blames = so .blames ∙ go (runOn m k mvs) refl
       where
-        go : (o : Outcome) → runOn (machineIn m) k mvs ≡ o → answerBy m s mvs .blames ≡ 0
-        go (ran r) e = ap (λ v. runBy (machineIn m) s v mvs .blames) (here .accepts) ∙ rw (here .legals, e) refl
-        go (refused t p) e = absurd (not-refused s k (here .accepts) (machineIn m) mvs (here .legals) t p e)
+        go : (o : Outcome) → runOn m k mvs ≡ o → answerBy m s mvs .blames ≡ 0
+        go (ran r) e = ap (λ v. runBy m s v mvs .blames) (here .accepts) ∙ rw (here .legals, e) refl
+        go (refused t p) e = absurd (not-refused s k (here .accepts) m mvs (here .legals) t p e)
 
     -- a move that is not legal
-    stops : {c : ℕ} {b : Bool} {e : Held} → c ≡ limit (machineIn (x .machine)) → b ≡ allowed (x .lanecount) c mv
+    stops : {c : ℕ} {b : Bool} {e : Held} → c ≡ limit (x .machine) → b ≡ allowed (x .lanecount) c mv
         → b ≡ false → Started (x .lanecount) (x .locations) (x .lockwords) e → Stands s m after rows (stopped x) e
     stops {e = e} ce be bad st =
         let illegal = legal-after ∙ sym (test ce be) ∙ bad in
@@ -137,9 +136,9 @@ module _ {s : List ℕ} {m : Coded} {mvs : List Move} {rows : List ℕ} {x : Cou
         same-kernel j v = let e : accepted k ≡ accepted j = sym (here .accepts) ∙ v in cc
 
     -- ## a legal move
-    module _ {c : ℕ} {b : Bool} (ce : c ≡ limit (machineIn (x .machine))) (be : b ≡ allowed (x .lanecount) c mv)
+    module _ {c : ℕ} {b : Bool} (ce : c ≡ limit (x .machine)) (be : b ≡ allowed (x .lanecount) c mv)
         (good : b ≡ true) where
-      lets : legal n (limit (machineIn m)) after ≡ true
+      lets : legal n (limit m) after ≡ true
       lets = legal-after ∙ sym (test ce be) ∙ good
 
       abbrev h₀ : Held
@@ -156,20 +155,20 @@ module _ {s : List ℕ} {m : Coded} {mvs : List Move} {rows : List ℕ} {x : Cou
           refl refl start-is lets (own .programs)
 
       same-run : (l : List Move)
-          → run (machineIn m) (flags (x .volatile)) prog (begin (stateIn h₀)) l ≡ runOn (machineIn m) k l
+          → run m (flags (x .volatile)) prog (begin (stateIn h₀)) l ≡ runOn m k l
       same-run l =
-          ap₂ (λ (v : ℕ → Bool) (y : State). run (machineIn m) v prog (begin y) l) (own .volatile) start-is
+          ap₂ (λ (v : ℕ → Bool) (y : State). run m v prog (begin y) l) (own .volatile) start-is
 
       -- what the moves so far came to
       so-far : Ends m (flags (x .volatile)) (take (length mvs) after) prog h₀ (Ran (x .done) (x .waited)) h
-      so-far = go (runOn (machineIn m) k mvs) refl
+      so-far = go (runOn m k mvs) refl
         where
-          go : (o : Outcome) → runOn (machineIn m) k mvs ≡ o
+          go : (o : Outcome) → runOn m k mvs ≡ o
               → Ends m (flags (x .volatile)) (take (length mvs) after) prog h₀ (Ran (x .done) (x .waited)) h
-          go (refused t p) e = absurd (not-refused s k (here .accepts) (machineIn m) mvs (here .legals) t p e)
+          go (refused t p) e = absurd (not-refused s k (here .accepts) m mvs (here .legals) t p e)
           go (ran r) e =
               let a : answerBy m s mvs ≡ answerOf prog (k .records) (startOf k) (ran r) =
-              ap (λ v. runBy (machineIn m) s v mvs) (here .accepts) ∙ rw (here .legals, e) refl in
+              ap (λ v. runBy m s v mvs) (here .accepts) ∙ rw (here .legals, e) refl in
               let st : r .state ≡ stateIn h = sym (so .state ∙ ap (λ (y : Answer). y .state) a) in
               let d : r .done ≡ x .done = sym (so .done ∙ ap (λ (y : Answer). y .done) a) in
               let w : r .waited ≡ x .waited = sym (so .waited ∙ ap (λ (y : Answer). y .waited) a) in
@@ -178,7 +177,7 @@ module _ {s : List ℕ} {m : Coded} {mvs : List Move} {rows : List ℕ} {x : Cou
                 lanes = own .held;
                 row = r .row;
                 outcome = same-run (take (length mvs) after)
-                    ∙ ap (runOn (machineIn m) k) (take-at mvs (mv ∷ []) (length mvs) refl) ∙ e
+                    ∙ ap (runOn m k) (take-at mvs (mv ∷ []) (length mvs) refl) ∙ e
                     ∙ λ i. ran (record { state = st i; row = r .row; done = d i; waited = w i });
               }
 
@@ -216,7 +215,7 @@ module _ {s : List ℕ} {m : Coded} {mvs : List Move} {rows : List ℕ} {x : Cou
               waits-rest)
 
           module _ (d : ℕ) (u : Counted q (x .done) d) where
-            came : runOn (machineIn m) k after ≡ course e (ends d u .row) d (j + 1 - d)
+            came : runOn m k after ≡ course e (ends d u .row) d (j + 1 - d)
             came = sym (same-run after) ∙ ends d u .outcome
 
             answer : answerBy m s after ≡ answerOf prog (k .records) (startOf k)
@@ -267,16 +266,16 @@ module _ {s : List ℕ} {m : Coded} {mvs : List Move} {rows : List ℕ} {x : Cou
                   refl refl refl)
                   z number-blames refl (omega (arith, waits-rest, done-few)) (omega (arith, done-few))
               go ReleaseNotHeld qe =
-                  absurd (not-refused s k (here .accepts) (machineIn m) after lets (mv .lane) _
+                  absurd (not-refused s k (here .accepts) m after lets (mv .lane) _
                   (sym (same-run after) ∙ run-refused runs j mv (last-at mvs mv) (x .done) (x .waited) h e q
                   (so .sized) made
                   so-far refl qe .outcome))
 
 -- ## the same of what the code made
 
-module _ {s : List ℕ} {m : Coded} {mvs : List Move} {rows : List ℕ} {x y : Course} {h e : Held}
+module _ {s : List ℕ} {m : Machine} {mvs : List Move} {rows : List ℕ} {x y : Course} {h e : Held}
     (so : Stands s m mvs rows x h) (mv : Move) (z : x .number ≡ 0) {c : ℕ} {b : Bool}
-    (ce : c ≡ limit (machineIn (x .machine))) (be : b ≡ allowed (x .lanecount) c mv) where
+    (ce : c ≡ limit (x .machine)) (be : b ≡ allowed (x .lanecount) c mv) where
   pub code-stops : b ≡ false → Started (x .lanecount) (x .locations) (x .lockwords) e → y ≡ stopped x
       → Stands s m (mvs ++ (mv ∷ [])) rows y e
   code-stops bad st q =

@@ -15,8 +15,7 @@ use Rattle.file_verdict.specs.Verdict.{Verdict, refused, accepted, verdict, ver
 use Rattle.file_format.specs.Accepted.{programOf}
 use Rattle.machine_spec.specs.Schedule.{Move, limit, legal}
 use Rattle.machine_spec.specs.Run.{runBy}
-use Rattle.machine_state.specs.declared.rules.Machine.{Machine as Coded}
-use Rattle.machine_state.specs.Machines.{machineIn}
+use Rattle.machine_spec.specs.declared.Machine.{Machine}
 use Rattle.machine_start.proofs.Laws.Files.{ran-number}
 use Rattle.machine_course.specs.Stands.{answerBy}
 
@@ -53,9 +52,9 @@ refused-number s n r = go (refusalOf s)
     go (BadTarget q) e = let z : 7 ≡ n = cc in omega arith
     go (LockFault q) e = let z : 8 ≡ n = cc in omega arith
 
-module _ (m : Coded) (s : List ℕ) (mvs : List Move) where
+module _ (m : Machine) (s : List ℕ) (mvs : List Move) where
   abbrev lets : Program → List Move → Bool
-  lets k l = legal (length (k .lanes)) (limit (machineIn m)) l
+  lets k l = legal (length (k .lanes)) (limit m) l
 
   -- an accepted file and a legal schedule
   pub record Under : Type 0 where
@@ -68,7 +67,7 @@ module _ (m : Coded) (s : List ℕ) (mvs : List Move) where
     where
       go : (v : Verdict) → verdict s ≡ v → Under
       go (refused n r) h =
-          let zero : n ≡ 0 = sym (ap (λ v. runBy (machineIn m) s v mvs .number) h) ∙ e in
+          let zero : n ≡ 0 = sym (ap (λ v. runBy m s v mvs .number) h) ∙ e in
           let one = refused-number s n r h in
           absurd (omega arith)
       go (accepted k) h = which (lets k mvs) refl
@@ -76,7 +75,7 @@ module _ (m : Coded) (s : List ℕ) (mvs : List Move) where
           which : (b : Bool) → lets k mvs ≡ b → Under
           which true l = record { kernel = k; accepts = h; legals = l }
           which false l =
-              let ten : _≡_ {A = ℕ} 10 0 = sym (ap (λ v. runBy (machineIn m) s v mvs .number) h ∙ rw l refl) ∙ e in
+              let ten : _≡_ {A = ℕ} 10 0 = sym (ap (λ v. runBy m s v mvs .number) h ∙ rw l refl) ∙ e in
               absurd (omega arith)
 
   -- an answer that is a refusal is that of every longer schedule
@@ -86,15 +85,15 @@ module _ (m : Coded) (s : List ℕ) (mvs : List Move) where
     where
       go : (v : Verdict) → verdict s ≡ v → answerBy m s mvs ≡ answerBy m s (mvs ++ (mv ∷ []))
       go (refused n r) h =
-          ap (λ v. runBy (machineIn m) s v mvs) h ∙ sym (ap (λ v. runBy (machineIn m) s v (mvs ++ (mv ∷ []))) h)
+          ap (λ v. runBy m s v mvs) h ∙ sym (ap (λ v. runBy m s v (mvs ++ (mv ∷ []))) h)
       go (accepted k) h = which (lets k mvs) refl
         where
           which : (b : Bool) → lets k mvs ≡ b → answerBy m s mvs ≡ answerBy m s (mvs ++ (mv ∷ []))
           which true l =
-              absurd (never (ap (λ v. runBy (machineIn m) s v mvs .number) h ∙ ran-number s k h (machineIn m) mvs l))
+              absurd (never (ap (λ v. runBy m s v mvs .number) h ∙ ran-number s k h m mvs l))
           which false l =
               let more : lets k (mvs ++ (mv ∷ [])) ≡ false =
-              legal-snoc (length (k .lanes)) (limit (machineIn m)) mvs mv
-              ∙ ap (λ b. b && allowed (length (k .lanes)) (limit (machineIn m)) mv) l in
-              ap (λ v. runBy (machineIn m) s v mvs) h ∙ rw (l, more) refl
-              ∙ sym (ap (λ v. runBy (machineIn m) s v (mvs ++ (mv ∷ []))) h)
+              legal-snoc (length (k .lanes)) (limit m) mvs mv
+              ∙ ap (λ b. b && allowed (length (k .lanes)) (limit m) mv) l in
+              ap (λ v. runBy m s v mvs) h ∙ rw (l, more) refl
+              ∙ sym (ap (λ v. runBy m s v (mvs ++ (mv ∷ []))) h)

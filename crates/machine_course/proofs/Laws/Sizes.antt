@@ -18,8 +18,7 @@ use Rattle.machine_spec.specs.Schedule.{Move, limit, legal}
 use Rattle.machine_spec.specs.Shape.{AllSmall}
 use Rattle.machine_spec.specs.State.{State, Outcome, ran, refused as stopped, startState, laneAt}
 use Rattle.machine_spec.specs.Run.{answerOf, startOf, programFor, runOn, runBy, runProgram, refusedStart}
-use Rattle.machine_state.specs.declared.rules.Machine.{Machine as Coded}
-use Rattle.machine_state.specs.Machines.{machineIn}
+use Rattle.machine_spec.specs.declared.Machine.{Machine}
 use Rattle.machine_start.proofs.Answered.{not-refused, shape}
 use Rattle.machine_start.proofs.Laws.Runs.{shaped-small}
 use Rattle.machine_state.specs.States.{Held, stateIn}
@@ -80,27 +79,27 @@ refused-fits s n r v = go (ltb n 3) refl
         let ok = header-valid s n r v (ltb-false n 3 e) in
         rw e (start-fits (laneCount s) (locations s) (locks s) (few-locations s ok) (few-locks s ok))
 
-module _ (m : Coded) (s : List ℕ) (mvs : List Move) where
+module _ (m : Machine) (s : List ℕ) (mvs : List Move) where
   abbrev answered : Verdict → State
-  answered v = runBy (machineIn m) s v mvs .state
+  answered v = runBy m s v mvs .state
 
-  accepted-fits : (k : Program) → verdict s ≡ accepted k → Fits (runProgram (machineIn m) k mvs .state)
-  accepted-fits k v = which (legal (length (k .lanes)) (limit (machineIn m)) mvs) refl
+  accepted-fits : (k : Program) → verdict s ≡ accepted k → Fits (runProgram m k mvs .state)
+  accepted-fits k v = which (legal (length (k .lanes)) (limit m) mvs) refl
     where
       law : Lawful k
       law = accepted-lawful s k v
 
-      which : (b : Bool) → legal (length (k .lanes)) (limit (machineIn m)) mvs ≡ b
-          → Fits (runProgram (machineIn m) k mvs .state)
+      which : (b : Bool) → legal (length (k .lanes)) (limit m) mvs ≡ b
+          → Fits (runProgram m k mvs .state)
       which false l =
           rw l (start-fits (length (k .lanes)) (k .locations) (k .locks) (law .few-locations) (law .few-locks))
-      which true l = rw l (go (runOn (machineIn m) k mvs) refl)
+      which true l = rw l (go (runOn m k mvs) refl)
         where
-          go : (o : Outcome) → runOn (machineIn m) k mvs ≡ o
-              → Fits (answerOf (programFor (machineIn m) k) (k .records) (startOf k) o .state)
-          go (stopped t p) e = absurd (not-refused s k v (machineIn m) mvs l t p e)
+          go : (o : Outcome) → runOn m k mvs ≡ o
+              → Fits (answerOf (programFor m k) (k .records) (startOf k) o .state)
+          go (stopped t p) e = absurd (not-refused s k v m mvs l t p e)
           go (ran r) e =
-              let shaped = shape s k v (machineIn m) mvs l r e in
+              let shaped = shape s k v m mvs l r e in
               record {
                 memory = omega (arith, shaped .memory-count, law .few-locations);
                 locks = omega (arith, shaped .locks-count, law .few-locks);
@@ -115,6 +114,6 @@ module _ (m : Coded) (s : List ℕ) (mvs : List Move) where
       go (accepted k) v = subst (λ w. Fits (answered w)) (sym v) (accepted-fits k v)
 
 -- so what a run so far holds does
-pub stands-fits : {s : List ℕ} {m : Coded} {mvs : List Move} {rows : List ℕ} {x : Course} {h : Held}
+pub stands-fits : {s : List ℕ} {m : Machine} {mvs : List Move} {rows : List ℕ} {x : Course} {h : Held}
     → Stands s m mvs rows x h → Fits (stateIn h)
 stands-fits {s} {m} {mvs} so = subst Fits (sym (so .state)) (answer-fits m s mvs)

@@ -6,7 +6,7 @@ use native.Mathlib.Omega.{arith}
 use lib.ListN.{length, getD, take, length-map, length-take}
 use lib.Seq.{take-suc}
 use Rattle.machine_spec.specs.Schedule.{Move, move}
-use Rattle.machine_state.specs.declared.rules.Machine.{Machine as Coded}
+use Rattle.machine_spec.specs.declared.Machine.{Machine}
 use Rattle.machine_state.specs.States.{Held}
 use Rattle.machine_course.specs.declared.moves.Move.{Move as Declared}
 use Rattle.machine_course.specs.declared.course.Course.{Course}
@@ -20,12 +20,12 @@ movesOf-snoc (x ∷ l) d = ap (λ r. moveIn x ∷ r) (movesOf-snoc l d)
 
 -- what the first i moves made of y and h
 abbrev pub Made : List ℕ → List Declared → Course → Held → Course → Held → Type 0
-Made rows ds y h x e = (s : List ℕ) (m : Coded) → Stands s m [] rows y h → Stands s m (movesOf ds) rows x e
+Made rows ds y h x e = (s : List ℕ) (m : Machine) → Stands s m [] rows y h → Stands s m (movesOf ds) rows x e
 
 -- what one move makes of x and e
 abbrev pub Moves : List ℕ → Declared → Course → Held → Course → Held → Type 0
 Moves rows d x e r z =
-    (s : List ℕ) (m : Coded) (mvs : List Move) → Stands s m mvs rows x e
+    (s : List ℕ) (m : Machine) (mvs : List Move) → Stands s m mvs rows x e
     → Stands s m (mvs ++ (move (d .lane) (d .choice) ∷ [])) rows r z
 
 pub made-more : (rows : List ℕ) (ds : List Declared) (i : ℕ) (d : Declared) {y x r : Course} {h e z : Held}

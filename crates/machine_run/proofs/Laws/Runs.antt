@@ -16,12 +16,11 @@ use Rattle.machine_spec.specs.Step.{Turn, waits, refuses, passes, does, turn}
 use Rattle.machine_spec.specs.Schedule.{Move, move}
 use Rattle.machine_spec.specs.State.{Lane, Loaded, Run, Outcome, ran, refused, coreOf, loadRow, applyTurn}
 use Rattle.machine_spec.specs.State.{moveTurn, advance, run, begin}
-use Rattle.machine_state.specs.declared.rules.Machine.{Machine as Coded}
+use Rattle.machine_spec.specs.declared.Machine.{Machine}
 use Rattle.machine_run.specs.declared.run.Ended.{Ended}
 use Rattle.machine_run.specs.declared.run.Ended.the-variants.{Ran, Refused}
 use Rattle.machine_state.specs.declared.state.Moved.{Moved}
 use Rattle.machine_state.specs.declared.state.Moved.the-variants.{Waited, Done, ReleaseNotHeld}
-use Rattle.machine_state.specs.Machines.{machineIn}
 use Rattle.machine_state.specs.Ready.{LaneReady, Movable}
 use Rattle.machine_run.specs.Runs.{Runs, outcomeBy, Ends}
 use Rattle.machine_state.specs.States.{Held, laneOf, countOf, stateIn, Sized}
@@ -29,11 +28,11 @@ use Rattle.machine_step.specs.Turns.{turns, Took}
 use Rattle.machine_state.proofs.Laws.Lanes.{lane-in}
 
 -- the turn of the text's move
-pub turn-in : (m : Coded) (f : ℕ → Bool) (prog : List (List Instr)) (s : Held) (t c : ℕ) → Sized s → t < countOf s 0
+pub turn-in : (m : Machine) (f : ℕ → Bool) (prog : List (List Instr)) (s : Held) (t c : ℕ) → Sized s → t < countOf s 0
     → countOf s 0 ≤ 4
-    → moveTurn (machineIn m) f prog (stateIn s) (move t c) ≡ turns m f (getD prog t []) s t c
+    → moveTurn m f prog (stateIn s) (move t c) ≡ turns m f (getD prog t []) s t c
 turn-in m f prog s t c z h k =
-    ap (λ (l : Lane). turn (machineIn m) f (suc t) (getD prog t []) (l .control) (coreOf (stateIn s) l) c)
+    ap (λ (l : Lane). turn m f (suc t) (getD prog t []) (l .control) (coreOf (stateIn s) l) c)
     (lane-in s t z h k)
 
 -- the answer after one move more of lane t, which stood at p
@@ -62,21 +61,21 @@ module _ (prog : List (List Instr)) (d w t p : ℕ) (row : List Loaded) (s e : H
       (l, ap (λ x. ran (record { state = x; row = l; done = suc d; waited = w })) (sym (h .state)))
 
 -- a refused run stays refused
-stays : (m : Coded) (f : ℕ → Bool) (prog : List (List Instr)) (t p : ℕ) (mvs : List Move)
-    → run (machineIn m) f prog (refused t p) mvs ≡ refused t p
+stays : (m : Machine) (f : ℕ → Bool) (prog : List (List Instr)) (t p : ℕ) (mvs : List Move)
+    → run m f prog (refused t p) mvs ≡ refused t p
 stays m f prog t p [] = refl
 stays m f prog t p (mv ∷ mvs) = stays m f prog t p mvs
 
-module _ (m : Coded) (f : ℕ → Bool) (mvs : List Move) (prog : List (List Instr)) (s : Held) where
+module _ (m : Machine) (f : ℕ → Bool) (mvs : List Move) (prog : List (List Instr)) (s : Held) where
   abbrev upTo : ℕ → Outcome
-  upTo k = run (machineIn m) f prog (begin (stateIn s)) (take k mvs)
+  upTo k = run m f prog (begin (stateIn s)) (take k mvs)
 
-  one-more : (k : ℕ) (mv : Move) → getElem? mvs k ≡ some mv → upTo (suc k) ≡ advance (machineIn m) f prog (upTo k) mv
+  one-more : (k : ℕ) (mv : Move) → getElem? mvs k ≡ some mv → upTo (suc k) ≡ advance m f prog (upTo k) mv
   one-more k mv e =
       let at = some-at mvs k mv mv e in
-      ap (run (machineIn m) f prog (begin (stateIn s))) (take-suc mvs k mv (at .0))
-      ∙ foldl-append (advance (machineIn m) f prog) (begin (stateIn s)) (take k mvs) (getD mvs k mv ∷ [])
-      ∙ ap (advance (machineIn m) f prog (upTo k)) (at .1)
+      ap (run m f prog (begin (stateIn s))) (take-suc mvs k mv (at .0))
+      ∙ foldl-append (advance m f prog) (begin (stateIn s)) (take k mvs) (getD mvs k mv ∷ [])
+      ∙ ap (advance m f prog (upTo k)) (at .1)
 
   pub ends-more : (k d w t c : ℕ) (e z : Held) (q : Moved) → Sized e → t < countOf s 0 → countOf s 0 ≤ 4 → getElem?
       mvs k ≡ some (move t c)
@@ -94,7 +93,7 @@ module _ (m : Coded) (f : ℕ → Bool) (mvs : List Move) (prog : List (List Ins
         lanes = made .lanes ∙ so .lanes;
         row = turned .0;
         outcome = one-more k (move t c) at
-            ∙ ap (λ o. advance (machineIn m) f prog o (move t c)) (so .outcome)
+            ∙ ap (λ o. advance m f prog o (move t c)) (so .outcome)
             ∙ ap₂ (applyTurn r t) stands (turn-in m f prog e t c sized here only)
             ∙ turned .1;
       }
@@ -105,9 +104,9 @@ module _ (m : Coded) (f : ℕ → Bool) (mvs : List Move) (prog : List (List Ins
     sized = so .sized;
     lanes = so .lanes;
     row = [];
-    outcome = ap (run (machineIn m) f prog (begin (stateIn s))) (sym (take-append-drop k mvs))
-        ∙ foldl-append (advance (machineIn m) f prog) (begin (stateIn s)) (take k mvs) (drop k mvs)
-        ∙ ap (λ o. run (machineIn m) f prog o (drop k mvs)) (so .outcome)
+    outcome = ap (run m f prog (begin (stateIn s))) (sym (take-append-drop k mvs))
+        ∙ foldl-append (advance m f prog) (begin (stateIn s)) (take k mvs) (drop k mvs)
+        ∙ ap (λ o. run m f prog o (drop k mvs)) (so .outcome)
         ∙ stays m f prog t (rank (getD prog t []) p) (drop k mvs);
   }
 
@@ -134,7 +133,7 @@ counted-answer {q} k d x t p (inr w) h =
     ap (λ y. answerAfter y d (k - d) t p) (w .0) ∙ ap₂ Ran one same
 
 -- ## a schedule that the code can run
-module _ {m : Coded} {f : ℕ → Bool} {sheet first count : List ℕ} {mvs : List Move} {s : Held}
+module _ {m : Machine} {f : ℕ → Bool} {sheet first count : List ℕ} {mvs : List Move} {s : Held}
     {prog : List (List Instr)} (h : Runs m f sheet first count mvs s prog) (k : ℕ) (mv : Move)
     (at : getElem? mvs k ≡ some mv) where
   abbrev rows : List Instr

@@ -17,8 +17,7 @@ use Rattle.machine_spec.specs.Run.{answerOf, startOf, programFor, runOn, runPro
 use Rattle.machine_spec.specs.View.{finished, viewOf}
 use Rattle.machine_spec.specs.Shape.{EntrySmall, AllSmall, Shaped}
 use Rattle.sheet_rows.proofs.Laws.Read.{rows-length}
-use Rattle.machine_state.specs.declared.rules.Machine.{Machine as Coded}
-use Rattle.machine_state.specs.Machines.{machineIn}
+use Rattle.machine_spec.specs.declared.Machine.{Machine}
 use Rattle.machine_state.specs.States.{Held, countOf, stateIn}
 use Rattle.machine_run.specs.declared.run.Ended.{Ended}
 use Rattle.machine_run.specs.declared.run.Ended.the-variants.{Ran, Refused}
@@ -49,10 +48,10 @@ shaped-small {k} {s = s} law shaped = record {
       (shaped .entries t));
 }
 
-module _ {m : Coded} {vol : ℕ → Bool} {rows first count : List ℕ} {mvs : List Move} {h : Held} {s : List ℕ}
+module _ {m : Machine} {vol : ℕ → Bool} {rows first count : List ℕ} {mvs : List Move} {h : Held} {s : List ℕ}
     {k : Program} (b : Begins m vol rows first count mvs h s k) where
   abbrev prog : List (List Instr)
-  prog = programFor (machineIn m) k
+  prog = programFor m k
 
   law : Lawful k
   law = accepted-lawful s k (b .schedule .accepts)
@@ -75,19 +74,19 @@ module _ {m : Coded} {vol : ℕ → Bool} {rows first count : List ℕ} {mvs : L
     each = λ t l. ap length (b .programs t l .rows) ∙ rows-length (getD count t 0) (drop (getD first t 0) rows);
   }
 
-  same-run : run (machineIn m) vol prog (begin (stateIn h)) mvs ≡ runOn (machineIn m) k mvs
+  same-run : run m vol prog (begin (stateIn h)) mvs ≡ runOn m k mvs
   same-run =
-      ap₂ (λ (v : ℕ → Bool) (x : State). run (machineIn m) v prog (begin x) mvs) (b .volatile) (b .start)
+      ap₂ (λ (v : ℕ → Bool) (x : State). run m v prog (begin x) mvs) (b .volatile) (b .start)
 
   -- ## its end
 
   module _ {q : Ended} {e : Held} (so : Ends m vol mvs prog h q e) where
-    came : {o : Ended} → q ≡ o → runOn (machineIn m) k mvs ≡ outcomeBy prog e (so .row) o
+    came : {o : Ended} → q ≡ o → runOn m k mvs ≡ outcomeBy prog e (so .row) o
     came r = sym same-run ∙ so .outcome ∙ ap (outcomeBy prog e (so .row)) r
 
     pub never-refused : {t p : ℕ} → q ≡ Refused t p → ⊥
     never-refused {t} {p} r =
-        not-refused s k (b .schedule .accepts) (machineIn m) mvs (b .schedule .lets) t (rank (getD prog t []) p)
+        not-refused s k (b .schedule .accepts) m mvs (b .schedule .lets) t (rank (getD prog t []) p)
         (came r)
 
     pub few-ended : countOf e 0 ≤ 4
@@ -95,7 +94,7 @@ module _ {m : Coded} {vol : ℕ → Bool} {rows first count : List ℕ} {mvs : L
 
     module _ {d w : ℕ} (r : q ≡ Ran d w) where
       shaped : Shaped k (viewOf (so .row) (finished prog (stateIn e)) (stateIn e))
-      shaped = shape s k (b .schedule .accepts) (machineIn m) mvs (b .schedule .lets) _ (came r)
+      shaped = shape s k (b .schedule .accepts) m mvs (b .schedule .lets) _ (came r)
 
       pub small : Small (stateIn e)
       small = shaped-small law shaped
@@ -103,7 +102,7 @@ module _ {m : Coded} {vol : ℕ → Bool} {rows first count : List ℕ} {mvs : L
       -- f is what `ended` says of the lanes' positions
       pub record-is : {f : Bool}
           → ((p : List (List Instr)) → Counts (countOf e 0) count p → f ≡ finished p (stateIn e))
-          → recordOf f d w (stateIn e) ≡ stateBytes (runProgram (machineIn m) k mvs)
+          → recordOf f d w (stateIn e) ≡ stateBytes (runProgram m k mvs)
       record-is judged =
           ap (λ x. recordOf x d w (stateIn e))
           (judged prog (subst (λ n. Counts n count prog) (sym (so .lanes ∙ b .lanes)) begins-counts))

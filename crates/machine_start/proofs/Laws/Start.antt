@@ -14,9 +14,8 @@ use Rattle.machine_spec.specs.Run.{programFor}
 use Rattle.machine_spec.specs.Moves.{movesIn}
 use Rattle.sheet_rows.specs.declared.parts.Parts.{Parts}
 use Rattle.sheet_rows.specs.Rows.{partsIn}
-use Rattle.machine_state.specs.declared.rules.Machine.{Machine as Coded}
+use Rattle.machine_spec.specs.declared.Machine.{Machine}
 use Rattle.machine_lane.specs.Lanes.{startLane}
-use Rattle.machine_state.specs.Machines.{machineIn}
 use Rattle.machine_state.specs.States.{Held, stateIn, Block, Sized}
 use Rattle.machine_run.specs.Runs.{ProgramAt}
 use Rattle.machine_start.specs.Programs.{programBytes}
@@ -72,7 +71,7 @@ zeroed-state n ls ks a b c =
     λ i. record { lanes = lanes i; memory = memory i; locks = locks i }
 
 -- ## what is read of the rows
-module _ {m : Coded} {mask : ℕ} {rows moves s : List ℕ} {k : Program} (p : ProgramIn m mask rows moves s k) where
+module _ {m : Machine} {mask : ℕ} {rows moves s : List ℕ} {k : Program} (p : ProgramIn m mask rows moves s k) where
   law : Lawful k
   law = accepted-lawful s k (p .schedule .accepts)
 
@@ -84,11 +83,11 @@ module _ {m : Coded} {mask : ℕ} {rows moves s : List ℕ} {k : Program} (p : P
   header : (getD rows 0 0 ≡ length (k .lanes)) × (getD rows 1 0 ≡ k .locations) × (getD rows 2 0 ≡ k .locks)
   header =
       subst (λ b. (getD b 0 0 ≡ length (k .lanes)) × (getD b 1 0 ≡ k .locations) × (getD b 2 0 ≡ k .locks))
-      (sym (p .front)) (header-read k m (drop (length (programBytes (machineIn m) k)) (p .own)))
+      (sym (p .front)) (header-read k m (drop (length (programBytes m k)) (p .own)))
 
   -- the program of lane t lies in the part of the bytes b that q says
   abbrev Lies : List ℕ → Parts → ℕ → Type 0
-  Lies b q t = ProgramAt b (getD (q .from) t 0) (getD (q .count) t 0) (getD (programFor (machineIn m) k) t [])
+  Lies b q t = ProgramAt b (getD (q .from) t 0) (getD (q .count) t 0) (getD (programFor m k) t [])
 
   programs : (q : Parts) → q ≡ partsIn rows → (t : ℕ) → t < length (k .lanes) → Lies rows q t
   programs q e t h =

@@ -9,21 +9,26 @@ use lib.Dec.{eqb}
 use lib.ListN.{length, getD, take, length-take}
 use lib.Seq.{getD-take}
 use Rattle.machine_spec.specs.Entries.{Entry, isSync, isNil}
+use Rattle.machine_spec.specs.declared.Machine.{Machine}
+use Rattle.machine_spec.specs.declared.Machine.the-variants.{Source, Target}
+use Rattle.machine_spec.specs.declared.Model.{Model}
+use Rattle.machine_spec.specs.declared.Model.the-variants.{Tso}
 use Rattle.machine_spec.specs.Rules.{mayCommit}
-use Rattle.machine_state.specs.declared.rules.Machine.{Machine}
-use Rattle.machine_state.specs.declared.rules.Machine.the-variants.{Source, Tso}
 use Rattle.machine_lane.specs.Lanes.{entryOf, entriesOf, noEntry}
 use Rattle.machine_state.specs.States.{Held, CELLS, VALUES, rowAt, wordAt, storedIn, laneOf}
-use Rattle.machine_state.specs.Machines.{machineIn}
 use Rattle.machine_lane.proofs.Laws.Entries.{entries-at}
 
-pub oldest-may : (m : Machine) (f : ℕ → Bool) (e : Entry) → true ≡ mayCommit (machineIn m) f [] e
+pub oldest-may : (m : Machine) (f : ℕ → Bool) (e : Entry) → true ≡ mayCommit m f [] e
 oldest-may Source f e = go (isSync f e)
   where
     go : (b : Bool) → true ≡ cond b true true
     go true = refl
     go false = refl
-oldest-may Tso f e = refl
+oldest-may (Target Tso) f e = refl
+
+-- on x86-TSO nothing else does
+pub target-may : (k : Model) (f : ℕ → Bool) (older : List Entry) (e : Entry) → mayCommit (Target k) f older e ≡ isNil older
+target-may Tso f older e = refl
 
 -- what is pending at an index
 pub pending-at : (s : Held) (t i : ℕ) → i < length (laneOf s t .pending)

@@ -5,7 +5,7 @@ use mathlib.Core.Bool.{Bool}
 use Rattle.sheet_format.specs.Layout.{Instr}
 use Rattle.sheet_rows.specs.declared.read.Row.{Row}
 use Rattle.sheet_format.specs.Read.{instrBy}
-use Rattle.machine_state.specs.declared.rules.Machine.{Machine as Coded}
+use Rattle.machine_spec.specs.declared.Machine.{Machine}
 use Rattle.machine_state.specs.declared.state.Moved.{Moved}
 use Rattle.machine_state.specs.Ready.{Ready}
 use Rattle.machine_state.specs.States.{Held}
@@ -18,6 +18,6 @@ of-row e = ap (λ (r : Row). instrBy (r .code) (r .a) (r .b) (r .word)) e
 pub ready-as : {r : Held} {t : ℕ} {i j : Instr} → i ≡ j → Ready r t j → Ready r t i
 ready-as {r} {t} e h = subst (Ready r t) (sym e) h
 
-pub carried-as : (m : Coded) (f : ℕ → Bool) {i j : Instr} {t : ℕ} {s e : Held} {q : Moved} → i ≡ j
+pub carried-as : (m : Machine) (f : ℕ → Bool) {i j : Instr} {t : ℕ} {s e : Held} {q : Moved} → i ≡ j
     → Carried m f i t s q e → Carried m f j t s q e
 carried-as m f {t = t} {s} {e} {q} p h = subst (λ i. Carried m f i t s q e) p h

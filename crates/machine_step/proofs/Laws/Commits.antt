@@ -7,24 +7,23 @@ use mathlib.Core.Option.{Option}
 use lib.ListN.{length, getD, getElem?, take}
 use Rattle.file_format.proofs.Laws.Lists.{at-some, at-beyond}
 use Rattle.machine_spec.specs.Entries.{Entry, without}
+use Rattle.machine_spec.specs.declared.Machine.{Machine}
 use Rattle.machine_spec.specs.Rules.{mayCommit}
 use Rattle.machine_spec.specs.Step.{Turn, landed, freed, commit}
-use Rattle.machine_state.specs.declared.rules.Machine.{Machine as Coded}
 use Rattle.machine_state.specs.declared.state.Moved.{Moved}
 use Rattle.machine_state.specs.declared.state.Moved.the-variants.{Waited, Done}
 use Rattle.machine_lane.specs.Lanes.{entryOf, noEntry, withPending}
-use Rattle.machine_state.specs.Machines.{machineIn}
 use Rattle.machine_state.specs.States.{Held, CELLS, VALUES, wordAt, laneOf, coreIn, stateIn, Sized, Became, Shared}
 use Rattle.machine_step.specs.Turns.{commits, Took}
 use Rattle.machine_state.proofs.Laws.Rules.{pending-at}
 use Rattle.machine_step.proofs.Laws.Turns.{took-wait, took-does}
 
-module _ (m : Coded) (f : ℕ → Bool) (s : Held) (t i : ℕ) where
+module _ (m : Machine) (f : ℕ → Bool) (s : Held) (t i : ℕ) where
   abbrev entries : List Entry
   entries = laneOf s t .pending
 
   abbrev turnOn : Option Entry → Turn
-  turnOn e = commit (machineIn m) f (laneOf s t .control) (coreIn s t) i e
+  turnOn e = commit m f (laneOf s t .control) (coreIn s t) i e
 
   from : {e : Option Entry} {q : Moved} {z : Held} → getElem? entries i ≡ e → Took s t (turnOn e) q z
       → Took s t (commits m f s t i) q z
@@ -33,12 +32,12 @@ module _ (m : Coded) (f : ℕ → Bool) (s : Held) (t i : ℕ) where
   pub commit-past : length entries ≤ i → Sized s → Took s t (commits m f s t i) Waited s
   commit-past h k = from (at-beyond entries i h) (took-wait s t k)
 
-  pub commit-waits : i < length entries → mayCommit (machineIn m) f (take i entries) (getD entries i noEntry) ≡ false
+  pub commit-waits : i < length entries → mayCommit m f (take i entries) (getD entries i noEntry) ≡ false
       → Sized s → Took s t (commits m f s t i) Waited s
   commit-waits h may k = from (at-some entries i noEntry h) (rw may (took-wait s t k))
 
   pub commit-does : (d z : Held) → i < length entries
-      → mayCommit (machineIn m) f (take i entries) (getD entries i noEntry) ≡ true
+      → mayCommit m f (take i entries) (getD entries i noEntry) ≡ true
       → Shared s (landed (stateIn s .memory) (entryOf (wordAt s t CELLS i) (wordAt s t VALUES i)))
       (freed (stateIn s .locks) (entryOf (wordAt s t CELLS i) (wordAt s t VALUES i))) d
       → Became d t (withPending (laneOf s t) (without i entries)) z

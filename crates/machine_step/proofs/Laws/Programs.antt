@@ -11,7 +11,7 @@ use Rattle.file_format.proofs.Laws.Lists.{at-beyond}
 use Rattle.sheet_rows.proofs.Laws.Read.{rows-length}
 use Rattle.sheet_format.specs.Layout.{Instr}
 use Rattle.sheet_format.specs.Read.{readInstr, readRows}
-use Rattle.machine_state.specs.declared.rules.Machine.{Machine as Coded}
+use Rattle.machine_spec.specs.declared.Machine.{Machine}
 use Rattle.machine_state.specs.declared.state.Moved.{Moved}
 use Rattle.machine_state.specs.declared.state.Moved.the-variants.{Waited}
 use Rattle.machine_state.specs.Ready.{Ready, Movable}
@@ -45,7 +45,7 @@ ready-at h e = record {
 }
 
 -- ## a choice that is made: 0 at an instruction and at the end, and another
-module _ (m : Coded) (f : ℕ → Bool) (prog : List Instr) (s : Held) (t : ℕ) where
+module _ (m : Machine) (f : ℕ → Bool) (prog : List Instr) (s : Held) (t : ℕ) where
   pub made-carry : {i : Option Instr} {q : Moved} {e : Held} → getElem? prog (laneOf s t .control .pos) ≡ i
       → Took s t (carries m f s t i) q e → Took s t (turns m f prog s t 0) q e
   made-carry {i} {q} {e} h k = subst (λ x. Took s t (carries m f s t x) q e) (sym h) k

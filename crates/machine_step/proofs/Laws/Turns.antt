@@ -11,10 +11,9 @@ use Rattle.sheet_format.specs.Layout.{op}
 use Rattle.machine_spec.specs.Entries.{write, release}
 use Rattle.machine_spec.specs.Step.{Control, Core, waits, refuses, passes, does, permits}
 use Rattle.machine_spec.specs.State.{laneOf as placed, setLane}
-use Rattle.machine_state.specs.declared.rules.Machine.{Machine as Coded}
+use Rattle.machine_spec.specs.declared.Machine.{Machine}
 use Rattle.machine_state.specs.declared.state.Moved.the-variants.{Waited, Done, ReleaseNotHeld}
 use Rattle.machine_lane.specs.Lanes.{entryOf, laneIn}
-use Rattle.machine_state.specs.Machines.{machineIn}
 use Rattle.machine_state.specs.States.{Held, storedIn, laneOf, coreIn, stateIn, Sized, withLane, Became, Shared}
 use Rattle.machine_step.specs.Turns.{Took, Carried}
 
@@ -22,8 +21,8 @@ pub took-wait : (s : Held) (t : ℕ) → Sized s → Took s t waits Waited s
 took-wait s t h = record { answer = refl; sized = h; lanes = refl; state = refl }
 
 -- an operation that is not permitted
-pub not-permitted : (m : Coded) (f : ℕ → Bool) (s : Held) (t : ℕ) (o : Op)
-    → permits (machineIn m) f (coreIn s t) o ≡ false → Sized s → Carried m f (op o) t s Waited s
+pub not-permitted : (m : Machine) (f : ℕ → Bool) (s : Held) (t : ℕ) (o : Op)
+    → permits m f (coreIn s t) o ≡ false → Sized s → Carried m f (op o) t s Waited s
 not-permitted m f s t o e h = rw e (took-wait s t h)
 
 pub took-refusal : (s : Held) (t : ℕ) → Sized s → Took s t refuses ReleaseNotHeld s

@@ -25,8 +25,8 @@ use denote.Triple.Spec.{Meets, tripleOf}
 use denote.Triple.Table.{entered, cited}
 use denote.Triple.Walked.{goes-none-slice, goes-none, Walks, walked, walk-meets}
 use denote.Exit.{yes}
-use Rattle.machine_state.proofs.rules.Machine as E
-use Rattle.machine_state.proofs.rules.Machine.Laws as E′
+use Rattle.machine_spec.proofs.Machine as E
+use Rattle.machine_spec.proofs.Machine.Laws as E′
 use Rattle.machine_course.proofs.moves.Move as Mv
 use Rattle.machine_course.proofs.course.no_rows.Symbol as no-rows-def
 use Rattle.machine_course.proofs.course.no_rows.Symbol.{name as #no-rows}

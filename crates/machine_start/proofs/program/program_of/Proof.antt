@@ -1,12 +1,21 @@
 -- `machine_start::program::program_of` meets its contract.
-use mathlib.Core.Path.{sym, ap, _∙_}
-use Rattle.file_verdict.specs.Verdict.{verdict}
-use Rattle.machine_state.specs.declared.rules.Machine.{Machine}
-use Rattle.machine_state.specs.Machines.{machineIn}
+use Prim.Native.Nat.{ℕ}
+use mathlib.Core.Path.{_≡_, refl, sym, ap, _∙_}
+use mathlib.Core.List.{List}
+use Rattle.file_verdict.specs.Verdict.{Verdict, verdict}
+use Rattle.sheet_format.specs.Levels.{level2}
+use Rattle.sheet_format.specs.Bytes.{lowerBy}
+use Rattle.machine_spec.specs.declared.Machine.{Machine}
+use Rattle.machine_spec.specs.declared.Machine.the-variants.{Target}
+use Rattle.machine_spec.specs.declared.Model.{Model}
+use Rattle.machine_spec.specs.declared.Model.the-variants.{Tso}
 use Rattle.machine_start.specs.Programs.{programBy}
 use borrow.Author.Needs.{needs}
 use Rattle.machine_start.proofs.program.program_of.Statement.{statement}
 use Rattle.machine_start.proofs.program.program_of.Tie as tie
+
+target-program : (k : Model) (v : Verdict) (b : List ℕ) → lowerBy level2 v b ≡ programBy (Target k) v b
+target-program Tso v b = refl
 
 enum-told : tie.Need-enum-told
 enum-told c = search needs
@@ -28,7 +37,7 @@ returns c =
     let t = c .before .before .before .before in
     let a = t .before .before .before .before .args in
     c .before .before .chain-file .ensures
-    ∙ ap (λ (m : Machine). programBy (machineIn m) (verdict (a .file .now)) (a .rows .now))
+    ∙ ap (λ (m : Machine). programBy m (verdict (a .file .now)) (a .rows .now))
     (sym (t .enum-told .given .1))
 
 same-length-2 : tie.Need-same-length-2
@@ -39,7 +48,8 @@ returns-2 c =
     let t = c .before .before .before .before in
     let a = t .before .before .before .before .args in
     c .before .before .lower2 .ensures
-    ∙ ap (λ (m : Machine). programBy (machineIn m) (verdict (a .file .now)) (a .rows .now))
+    ∙ target-program (t .enum-told2 .given .0 .0) (verdict (a .file .now)) (a .rows .now)
+    ∙ ap (λ (m : Machine). programBy m (verdict (a .file .now)) (a .rows .now))
     (sym (t .enum-told2 .given .1))
 
 pub program-of-spec : {M : Type 1} → statement M

@@ -3,11 +3,11 @@ use Prim.Native.Nat.{_<_}
 use mathlib.Core.Path.{_≡_, ap, sym, _∙_}
 use mathlib.Core.Bool.{not}
 use native.Mathlib.Omega.{arith}
-use lib.ListN.{getD}
+use lib.ListN.{getD, take}
 use Rattle.machine_lane.specs.Lanes.{flags, noEntry, entryOf}
 use Rattle.machine_state.specs.States.{VALUES, wordAt, laneOf}
 use Rattle.machine_state.proofs.Laws.States.{pending-count}
-use Rattle.machine_state.proofs.Laws.Rules.{oldest-may, pending-at, some-older}
+use Rattle.machine_state.proofs.Laws.Rules.{oldest-may, target-may, pending-at, some-older}
 use borrow.Author.Needs.{needs}
 use Rattle.machine_state.proofs.rules.may_commit.Statement.{statement}
 use Rattle.machine_state.proofs.rules.may_commit.Tie as tie
@@ -35,8 +35,8 @@ is-sync-requires c κs = search needs
 has-older-requires : tie.Need-has-older-requires
 has-older-requires c κs = search needs
 
-enum-told-2 : tie.Need-enum-told-2
-enum-told-2 c = search needs
+enum-known-machine : tie.Need-enum-known-machine
+enum-known-machine c = search needs
 
 returns-2 : tie.Need-returns-2
 returns-2 c =
@@ -63,12 +63,15 @@ returns-3 c =
 
 returns-4 : tie.Need-returns-4
 returns-4 c =
-    let s = c .before .before .before .before in
+    let s = c .before .before .before .before .before in
     let a = s .args in
-    rw (c .enum-told2 .given .1)
-    (sym (some-older (laneOf (a .state .now) (a .t) .pending) (a .index) (c .before .before .if1 .left) (s .pre .1)))
+    let es = laneOf (a .state .now) (a .t) .pending in
+    let one = target-may (c .before .machine .given .0 .0) (flags (a .volatile .now)) (take (a .index) es)
+    (getD es (a .index) noEntry) in
+    rw (c .before .machine .given .1)
+    (sym (one ∙ some-older es (a .index) (c .before .before .before .if1 .left) (s .pre .1)))
 
 pub may-commit-spec : {M : Type 1} → statement M
 may-commit-spec =
-    tie.close (tie.spec returns enum-told word-at-requires is-sync-requires has-older-requires enum-told-2
+    tie.close (tie.spec returns enum-told word-at-requires is-sync-requires has-older-requires enum-known-machine
     returns-2 returns-3 returns-4)

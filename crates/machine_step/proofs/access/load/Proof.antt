@@ -4,7 +4,6 @@ use lib.ListN.{set}
 use Rattle.file_format.specs.declared.accepted.Op.the-variants.{Load}
 use Rattle.machine_spec.specs.Rules.{sees}
 use Rattle.machine_lane.specs.Lanes.{flags}
-use Rattle.machine_state.specs.Machines.{machineIn}
 use Rattle.machine_state.specs.States.{laneOf}
 use Rattle.machine_lane.proofs.Laws.Lanes.{lane-eq}
 use Rattle.machine_state.proofs.Laws.Rules.{denied, granted}
@@ -47,7 +46,7 @@ returns-2 c =
     let c4 = c .before .before .before .before in
     let c8 = c4 .before .before .before .before in
     let test = granted (c8 .may-load .ensures) (c4 .before .before .before .if1 .left) in
-    let seen = sees (machineIn (a .machine)) (flags (a .volatile .now)) (laneOf w (a .t) .pending) (a .x) in
+    let seen = sees (a .machine) (flags (a .volatile .now)) (laneOf w (a .t) .pending) (a .x) in
     let value = c4 .sees .ensures ∙ ap seen (c4 .before .memory-at .ensures) in
     rw test (took-does w w _ (a .t) _ _ (kept w h)
     (became (lane-eq (c .before .before .next-position .ensures) (ap (set (laneOf w (a .t) .regs) (a .a)) value)

@@ -8,7 +8,6 @@ use lib.ListN.{getD, set}
 use Rattle.file_format.specs.declared.accepted.Op.the-variants.{Lock}
 use Rattle.machine_spec.specs.Rules.{mayLock}
 use Rattle.machine_lane.specs.Lanes.{flags, placedAt}
-use Rattle.machine_state.specs.Machines.{machineIn}
 use Rattle.machine_state.specs.States.{laneOf, stateIn}
 use Rattle.machine_lane.proofs.Laws.Lanes.{lane-eq}
 use Rattle.machine_state.proofs.Laws.Rules.{denied, granted}
@@ -27,7 +26,7 @@ returns c =
     let a = s .args in
     let w = a .state .now in
     let h = s .pre .lies .sized in
-    let may = mayLock (machineIn (a .machine)) (flags (a .volatile .now)) (laneOf w (a .t) .pending) in
+    let may = mayLock (a .machine) (flags (a .volatile .now)) (laneOf w (a .t) .pending) in
     let held = ne-eqb _ 0 (λ e. c .if1 .taken (c .before .lock-at .ensures ∙ e)) in
     not-permitted (a .machine) _ w (a .t) (Lock (a .l)) (ap (λ b. may && b) held ∙ and-false may) h
 

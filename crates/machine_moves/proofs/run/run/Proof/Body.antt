@@ -34,8 +34,8 @@ use denote.Struct.Laws as LL
 use denote.Triple.Call.{calls-at}
 use denote.Triple.Clauses.{ensured, lasts}
 use Rattle.machine_spec.specs.Schedule.{Move as Text}
-use Rattle.machine_state.specs.declared.rules.Machine.{Machine}
-use Rattle.machine_state.proofs.rules.Machine as E
+use Rattle.machine_spec.specs.declared.Machine.{Machine}
+use Rattle.machine_spec.proofs.Machine as E
 use Rattle.machine_state.specs.States.{Held, Sized}
 use Rattle.machine_course.specs.declared.moves.Move.{Move}
 use Rattle.machine_course.specs.declared.course.Course.{Course}

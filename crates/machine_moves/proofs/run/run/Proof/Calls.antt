@@ -29,9 +29,9 @@ use denote.Triple.Entry.{Vals}
 use denote.Triple.Spec.{tripleOf}
 use denote.Triple.Walked.{says, Stays, stay-none-slice, stay-none, walkOf, ends-at}
 use denote.Exit.{yes}
-use Rattle.machine_state.specs.declared.rules.Machine.{Machine}
-use Rattle.machine_state.proofs.rules.Machine as E
-use Rattle.machine_state.proofs.rules.Machine.Laws as E′
+use Rattle.machine_spec.specs.declared.Machine.{Machine}
+use Rattle.machine_spec.proofs.Machine as E
+use Rattle.machine_spec.proofs.Machine.Laws as E′
 use Rattle.machine_state.specs.States.{Held, Sized}
 use Rattle.machine_course.specs.declared.moves.Move.{Move}
 use Rattle.machine_course.specs.declared.course.Course.{Course}

@@ -26,9 +26,9 @@ use denote.Ref.{RefT}
 use denote.Slice.{ShrSlice, Room}
 use denote.Enum.Laws as EL
 use denote.Triple.Entry.{onEntry}
-use Rattle.machine_state.specs.declared.rules.Machine.{Machine}
-use Rattle.machine_state.proofs.rules.Machine as E
-use Rattle.machine_state.proofs.rules.Machine.Laws as E′
+use Rattle.machine_spec.specs.declared.Machine.{Machine}
+use Rattle.machine_spec.proofs.Machine as E
+use Rattle.machine_spec.proofs.Machine.Laws as E′
 use Rattle.machine_course.specs.declared.moves.Move.{Move}
 use Rattle.machine_course.proofs.moves.Move as Mv
 use Rattle.machine_moves.proofs.run.run as run-it
