@@ -1,6 +1,6 @@
 -- What is claimed of every kernel file that is accepted: that each record belongs to one lane, demands 2 and 3, that
--- number 11 is never met, and the bounds of sheets and states. proofs/Theorem.antt proves it. The last record, `Claims`,
--- has all of it. A line `name: meaning` tells what a name of another file means.
+-- number 11 is never met, and the bounds of sheets and states. The last record, `Claims`, has all of it, and
+-- proofs/Theorem.antt proves it. A line `name: meaning` tells what a name of another file means.
 use mathlib.Core.Path.{_≡_}
 use mathlib.Core.Bool.{Bool, true, false, _&&_}
 use mathlib.Core.List.{List, [], _∷_, map}
@@ -36,7 +36,7 @@ use Rattle.claims.specs.Direct.{direct}
 
 -- getD xs i d: the i-th of a list, from 0, and d where there is none
 -- getElem? xs i: `some` of the i-th, and `none` where there is none
--- Program: an accepted kernel; for each lane `.lanes` has its operations in chain order, `.records` their record numbers
+-- Program: an accepted kernel; for each lane `.lanes` has the operations in chain order, `.records` their records
 -- verdict s: whether the bytes s are accepted, and as which kernel
 
 -- ## the records
