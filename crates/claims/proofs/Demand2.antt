@@ -1,38 +1,47 @@
--- Demand 2 of every accepted kernel file, at each level; and that the sheet is whole, each byte of it below 256.
+-- Demand 2 of every accepted kernel file, at each level: its barriers, where they stand, and its codes; and that the
+-- sheet is whole, each byte of it below 256, and that each record belongs to one lane.
 use mathlib.Core.Path.{_≡_, refl, ap, _∙_, sym, subst}
 use mathlib.Core.Bool.{Bool, true, false, _&&_, true≢false}
 use mathlib.Core.List.{List, [], _∷_, _++_, map}
+use mathlib.Core.Option.{some}
 use Prim.Native.Nat.{ℕ, _<_}
 use native.Mathlib.Omega.{arith}
-use lib.ListN.{length, getD, drop, List·getD-map, List·getD-append}
+use lib.ListN.{length, getD, getElem?, drop, List·getD-map, List·getD-append}
 use Rattle.file_format.specs.declared.accepted.Op.{Op}
 use Rattle.file_format.specs.Accepted.{Program}
 use Rattle.file_verdict.specs.Verdict.{accepted, verdict}
 use Rattle.file_format.specs.Lawful.{Lawful}
 use Rattle.file_wellformed.proofs.Lawful.{accepted-lawful}
+use Rattle.file_wellformed.proofs.Once.{entry-range, record-placed, record-once}
 use Rattle.barrier_placement.specs.declared.cookbook.Barrier.{Barrier}
 use Rattle.barrier_placement.specs.declared.cookbook.Barrier.the-variants.{LL}
 use Rattle.barrier_placement.specs.Chain.{Chain, Path, Between}
 use Rattle.barrier_placement.specs.Steps.{steps}
-use Rattle.barrier_placement.specs.Place.{stands}
+use Rattle.barrier_placement.specs.Place.{stands, chosen}
 use Rattle.barrier_placement.specs.Sentence.{Sentence}
 use Rattle.barrier_placement.proofs.Correct.{correct}
+use Rattle.barrier_placement.proofs.Unique.{unique}
 use Rattle.barrier_placement.proofs.Laws.Bools.{and-true}
 use Rattle.barrier_placement.proofs.Laws.Chosen.{chosen-only}
 use Rattle.barrier_placement.specs.Sheet.{Item, bar, item, NextItem, ItemPair, Alone, lowered as loweredBy}
 use Rattle.barrier_placement.proofs.Laws.Layout.{locate, inside-lane, bar-at}
 use Rattle.barrier_placement.proofs.SheetCorrect.{items-covered, items-alone}
-use Rattle.sheet_format.specs.Layout.{Instr, op, barrier, Placed, operations, start, aim, cells, sheet}
+use Rattle.sheet_format.specs.Layout.{Instr, op, barrier, Placed, operations, start, aim, cells, sheet, has}
 use Rattle.sheet_format.specs.Levels.{Level, keeps, placed, placedLanes, sheetLanes, volatileIn}
 use Rattle.sheet_format.specs.Bytes.{sheetBytes, lowerBy}
 use Rattle.sheet_format.specs.Read.{readSheet}
 use Rattle.sheet_format.specs.Items.{items, operationAt, keepsAt, keptBefore}
+use Rattle.sheet_format.specs.Codes.{Code, codesIn}
+use Rattle.sheet_format.specs.Before.{barriersBefore, standsBefore}
 use Rattle.sheet_format.proofs.LoweredLanes.{placed-operations, items-lowered}
 use Rattle.sheet_format.proofs.ReadBack.{lawful-back}
+use Rattle.sheet_format.proofs.Codes.{lawful-codes}
+use Rattle.sheet_format.proofs.Before.{chosen-ext, has-chosen, lane-before}
 use Rattle.sheet_format.proofs.SmallBytes.{sheet-bytes-small}
 use Rattle.sheet_format.proofs.Laws.Written.{written-all}
 use Rattle.sheet_format.proofs.Laws.Targets.{targets-within}
-use Rattle.claims.specs.Claims.{laneOf, laneItems, operationsIn, Demand2, lowered, Fitting}
+use Rattle.claims.specs.Claims.{Records, laneOf, laneItems, operationsIn, Demand2, kernelLane, chainOf, Placement}
+use Rattle.claims.specs.Claims.{lowered, Fitting}
 use Rattle.claims.proofs.KernelLanes.{forward, lane-placed}
 
 abbrev Covered : Level → List Item → Type 0
@@ -91,12 +100,31 @@ module _ (l : Level) (k : Program) (w : Lawful k) (bytes : List ℕ) (same : rea
     lane-absent : Absent l (laneItems (volatileIn k) bytes t)
     lane-absent = subst (Absent l) (sym lane-lowered) (kept-only l (volatileIn k) ops)
 
+    lane-kept : (p : ℕ) → barriersBefore (laneOf bytes t) p ≡ keptBefore l (volatileIn k) ops p
+    lane-kept p = ap (λ x. barriersBefore x p) lane-read ∙ lane-before l (volatileIn k) ops p
+
+    lane-stands : (b : Barrier) (p : ℕ) → standsBefore b (laneOf bytes t) p ≡ (keepsAt l ops b p && stands chain b p)
+    lane-stands b p = ap (has b) (lane-kept p) ∙ has-chosen (λ a. keepsAt l ops a p && stands chain a p) b
+
+    lane-ordered : (p : ℕ) → barriersBefore (laneOf bytes t) p ≡ chosen (λ b. standsBefore b (laneOf bytes t) p)
+    lane-ordered p = lane-kept p ∙ chosen-ext (λ b. sym (lane-stands b p))
+
 sheet-demand2 : (l : Level) (k : Program) → Lawful k → (bytes : List ℕ) → readSheet bytes ≡ sheetLanes l k
     → Demand2 l (volatileIn k) bytes
 sheet-demand2 l k w bytes same = record {
   covered = lane-covered l k w bytes same;
   needed = lane-needed l k w bytes same;
   absent = lane-absent l k w bytes same;
+}
+
+sheet-placement : (l : Level) (k : Program) → Lawful k → (bytes : List ℕ) → readSheet bytes ≡ sheetLanes l k
+    → Placement l k bytes
+sheet-placement l k w bytes same = record {
+  solved = λ t b. (stands (chainOf k t) b, sentence l k w bytes same t b);
+  exactly = λ t b B solves p. lane-stands l k w bytes same t b p
+      ∙ ap (λ x. keepsAt l (kernelLane k t) b p && x)
+      (unique (chainOf k t) b (stands (chainOf k t) b) B (sentence l k w bytes same t b) solves p);
+  ordered = lane-ordered l k w bytes same;
 }
 
 operations-bars : (bs : List Barrier) (is : List Instr) → operationsIn (map barrier bs ++ is) ≡ operationsIn is
@@ -113,6 +141,13 @@ module _ (s : List ℕ) (k : Program) (e : verdict s ≡ accepted k) where
   w : Lawful k
   w = accepted-lawful s k e
 
+  pub records : Records s k
+  records = record {
+    numbered = entry-range s k e;
+    somewhere = record-placed s k e;
+    once = record-once s k e;
+  }
+
   -- what lowering leaves in a buffer that is long enough, and what is read of it
   lowered-bytes : Fitting (λ l buffer. lowered l s buffer
       ≡ sheetBytes l k ++ drop (length (sheetBytes l k)) buffer) k
@@ -124,6 +159,15 @@ module _ (s : List ℕ) (k : Program) (e : verdict s ≡ accepted k) where
 
   pub demand2 : Fitting (λ l buffer. Demand2 l (volatileIn k) (lowered l s buffer)) k
   demand2 l buffer h = sheet-demand2 l k w (lowered l s buffer) (lowered-back l buffer h)
+
+  pub placement : Fitting (λ l buffer. Placement l k (lowered l s buffer)) k
+  placement l buffer h = sheet-placement l k w (lowered l s buffer) (lowered-back l buffer h)
+
+  pub codes : Fitting (λ l buffer. (t p c : ℕ) → getElem? (getD (codesIn (lowered l s buffer)) t []) p ≡ some c
+      → Code l c) k
+  codes l buffer h t p c c-is =
+      lawful-codes l k w (drop (length (sheetBytes l k)) buffer) t p c
+      (subst (λ b. getElem? (getD (codesIn b) t []) p ≡ some c) (lowered-bytes l buffer h) c-is)
 
   -- every operation stands in the sheet, in order
   pub whole : Fitting (λ l buffer. (t : ℕ)

@@ -16,16 +16,17 @@ use Rattle.barrier_placement.specs.declared.cookbook.Class.the-variants.{VL, VS
 use Rattle.barrier_placement.specs.declared.cookbook.Barrier.{Barrier}
 use Rattle.barrier_placement.specs.declared.cookbook.Barrier.the-variants.{LL, LS, SS, SL}
 use Rattle.barrier_placement.specs.declared.steps.Step.the-variants.{Access, Other, Skip as SkipStep}
-use Rattle.barrier_placement.specs.Cookbook.{cell, same}
+use Rattle.barrier_placement.specs.Cookbook.{cell}
 use Rattle.barrier_placement.specs.Chain.{Chain, at, Next, Path, edge, more, Between, Forward}
 use Rattle.file_format.specs.Accepted.{jump}
 use Rattle.barrier_placement.specs.Steps.{classOf, stepOf, steps}
-use Rattle.barrier_placement.specs.Place.{keep, chosen, stands}
+use Rattle.barrier_placement.specs.Place.{chosen, stands}
 use Rattle.barrier_placement.specs.Sentence.{Sentence}
 use Rattle.barrier_placement.proofs.Correct.{correct}
 use Rattle.sheet_format.specs.Layout.{Placed, operations, has}
 use Rattle.sheet_format.specs.Levels.{Level, keeps, placeFrom, placed}
 use Rattle.sheet_format.proofs.LoweredLanes.{placed-operations}
+use Rattle.sheet_format.proofs.Before.{has-chosen}
 use Rattle.machine_spec.specs.declared.Model.{Model}
 use Rattle.claims.proofs.Fenced.{publishes, acquires, drains, opens, needs, levelOf, Edge, falls, jumps}
 use Rattle.claims.proofs.Fenced.{Open, starts, goes-on, Fenced, AllFenced}
@@ -45,29 +46,6 @@ placed-before l s p (o ∷ os) zero x e =
 placed-before l s p (o ∷ os) (suc i) x e =
     let q : p + suc i ≡ suc p + i = omega arith in
     rw q (placed-before l s (suc p) os i x e)
-
--- a barrier is among the chosen ones exactly when the test picks it
-keep-off : (b a : Barrier) (t : Bool) (bs : List Barrier) → same b a ≡ false → has b (keep t a bs) ≡ has b bs
-keep-off b a true bs e = rw e
-keep-off b a false bs e = refl
-
-keep-on : (b a : Barrier) (t : Bool) (bs : List Barrier) → same b a ≡ true → has b bs ≡ false → has b (keep t a bs) ≡ t
-keep-on b a true bs e h = rw e
-keep-on b a false bs e h = h
-
-has-chosen : (f : Barrier → Bool) (b : Barrier) → has b (chosen f) ≡ f b
-has-chosen f LL =
-    keep-on LL LL (f LL) _ refl
-    (keep-off LL LS (f LS) _ refl ∙ keep-off LL SS (f SS) _ refl ∙ keep-off LL SL (f SL) _ refl)
-has-chosen f LS =
-    keep-off LS LL (f LL) _ refl
-    ∙ keep-on LS LS (f LS) _ refl (keep-off LS SS (f SS) _ refl ∙ keep-off LS SL (f SL) _ refl)
-has-chosen f SS =
-    keep-off SS LL (f LL) _ refl ∙ keep-off SS LS (f LS) _ refl
-    ∙ keep-on SS SS (f SS) _ refl (keep-off SS SL (f SL) _ refl)
-has-chosen f SL =
-    keep-off SL LL (f LL) _ refl ∙ keep-off SL LS (f LS) _ refl ∙ keep-off SL SS (f SS) _ refl
-    ∙ keep-on SL SL (f SL) [] refl refl
 
 -- ## the paper's sentence
 

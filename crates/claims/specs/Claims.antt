@@ -1,23 +1,30 @@
--- What is claimed of every kernel file that is accepted: demands 2 and 3, that number 11 is never met, and the bounds
--- of sheets and states. proofs/Theorem.antt proves it.
+-- What is claimed of every kernel file that is accepted: that each record belongs to one lane, demands 2 and 3, that
+-- number 11 is never met, and the bounds of sheets and states. The last record, `Claims`, has all of it, and
+-- proofs/Theorem.antt proves it. A line `name: meaning` tells what a name of another file means.
 use mathlib.Core.Path.{_≡_}
-use mathlib.Core.Bool.{Bool, true, false}
+use mathlib.Core.Bool.{Bool, true, false, _&&_}
 use mathlib.Core.List.{List, [], _∷_, map}
 use mathlib.Core.Logic.{_↔_}
-use mathlib.Core.Option.{none}
+use mathlib.Core.Option.{none, some}
 use Prim.Native.Nat.{ℕ, _≤_, _<_}
-use lib.ListN.{length, getD}
+use lib.ListN.{length, getD, getElem?}
 use Rattle.file_format.specs.declared.accepted.Op.{Op}
+use Rattle.file_format.specs.Fields.{recordCount}
 use Rattle.file_format.specs.Accepted.{Program}
 use Rattle.file_verdict.specs.Verdict.{verdict}
 use Rattle.barrier_placement.specs.declared.cookbook.Barrier.{Barrier}
-use Rattle.barrier_placement.specs.Chain.{Path, Between}
+use Rattle.barrier_placement.specs.Chain.{Chain, Path, Between}
+use Rattle.barrier_placement.specs.Steps.{steps}
+use Rattle.barrier_placement.specs.Sentence.{Sentence}
+use Rattle.barrier_placement.specs.Place.{chosen}
 use Rattle.barrier_placement.specs.Sheet.{Item, bar, item, NextItem, ItemPair, Alone}
 use Rattle.sheet_format.specs.Layout.{Instr, op, barrier, start, aim}
 use Rattle.sheet_format.specs.Levels.{Level, keeps, placed, volatileIn}
 use Rattle.sheet_format.specs.Bytes.{sheetBytes, lowerBy}
 use Rattle.sheet_format.specs.Read.{readSheet}
-use Rattle.sheet_format.specs.Items.{items}
+use Rattle.sheet_format.specs.Items.{items, operationAt}
+use Rattle.sheet_format.specs.Codes.{Code, codesIn}
+use Rattle.sheet_format.specs.Before.{barriersBefore, standsBefore}
 use Rattle.machine_spec.specs.declared.Machine.the-variants.{Source, Target}
 use Rattle.machine_spec.specs.declared.Model.the-variants.{Tso}
 use Rattle.machine_spec.specs.Schedule.{Move, limit, legal}
@@ -28,7 +35,30 @@ use Rattle.claims.specs.Schedules.{sourceSchedule, targetSchedule}
 use Rattle.claims.specs.Stuck.{Stuck, AllHalted}
 use Rattle.claims.specs.Direct.{direct}
 
+-- getD xs i d: the i-th of a list, from 0, and d where there is none
+-- getElem? xs i: `some` of the i-th, and `none` where there is none
+-- Program: an accepted kernel; for each lane `.lanes` has the operations in chain order, `.records` their records
+-- verdict s: whether the bytes s are accepted, and as which kernel
+
+-- ## the records
+
+-- place p of lane t has record i
+abbrev pub RecordAt : Program → ℕ → ℕ → ℕ → Type 0
+RecordAt k t p i = getElem? (getD (k .records) t []) p ≡ some i
+
+-- each record of the file, 1 to N, belongs to one lane, once, and the lanes have no other
+pub record Records (s : List ℕ) (k : Program) : Type 0 where
+  pub numbered : (t p i : ℕ) → RecordAt k t p i → (1 ≤ i) × (i ≤ recordCount s)
+  pub somewhere : (i : ℕ) → 1 ≤ i → i ≤ recordCount s → (t : ℕ) × (p : ℕ) × RecordAt k t p i
+  pub once : (t u p q i : ℕ) → RecordAt k t p i → RecordAt k u q i → (t ≡ u) × (p ≡ q)
+
 -- ## demand 2: the barriers of a written sheet
+
+-- Level: level 1, the barrier sheet, or level 2, the x86 sheet
+-- keeps l o b: the level keeps a barrier b that stands before the operation o; level 1 all, level 2 only SL
+-- volatileIn k x: the kernel's mask has location x volatile
+-- readSheet: the instructions of each lane, `op o` or `barrier b`, by the header's counts
+-- items: each instruction as a barrier `bar b`, the class of an access, or the target of a SKIP
 
 -- lane t of a written sheet, read from its bytes
 abbrev pub laneOf : List ℕ → ℕ → List Instr
@@ -44,6 +74,12 @@ operationsIn [] = []
 operationsIn (op o ∷ is) = o ∷ operationsIn is
 operationsIn (barrier b ∷ is) = operationsIn is
 
+-- Path R m n: a way from position m to n in one or more steps R
+-- NextItem x: one step in the lane x, register values ignored: to the next position, or from a SKIP to its target
+-- Between π x: x stands on the path, strictly between its ends
+-- ItemPair x b m n: at m and n of the lane x stand accesses whose cell in the cookbook's table is b
+-- Alone x b m: on some path between two such accesses m is the only position with a b
+
 -- of the bytes of a sheet at level l
 pub record Demand2 (l : Level) (vol : ℕ → Bool) (bytes : List ℕ) : Type 0 where
   -- on every path from one access to another whose cell is b stands a b between them, where the level keeps b before
@@ -58,7 +94,44 @@ pub record Demand2 (l : Level) (vol : ℕ → Bool) (bytes : List ℕ) : Type 0 
   pub absent : (t : ℕ) (b : Barrier) → ((o : Op) → keeps l o b ≡ false) → (m : ℕ)
       → item (laneItems vol bytes t) m ≡ bar b → ⊥
 
+-- lane t of the kernel, and as placement sees it: the class of each access, the target of each SKIP
+abbrev pub kernelLane : Program → ℕ → List Op
+kernelLane k t = getD (k .lanes) t []
+
+abbrev pub chainOf : Program → ℕ → Chain
+chainOf k t = steps (volatileIn k) (kernelLane k t)
+
+-- Sentence s b B: the paper's sentence on placement, of a set B of positions of the chain s: j is in B exactly when
+--   some path leads from an access i, whose cell with j is b, to j, and none strictly between them on it is in B
+-- operationAt os p: the p-th operation
+-- barriersBefore is p: the barriers that stand directly before the p-th operation of a lane as read from a sheet
+-- standsBefore b is p: b is one of them
+-- chosen f: those of LL, LS, SS, SL, in this order and each once, that the test f picks
+
+-- where the barriers of a sheet at level l stand
+pub record Placement (l : Level) (k : Program) (bytes : List ℕ) : Type 0 where
+  -- for each lane t and barrier b the sentence has a solution B
+  pub solved : (t : ℕ) (b : Barrier) → (B : ℕ → Bool) × Sentence (chainOf k t) b B
+  -- and b stands directly before the p-th operation exactly when the sentence puts it there and the level keeps it
+  -- there; behind the last operation stands none
+  pub exactly : (t : ℕ) (b : Barrier) (B : ℕ → Bool) → Sentence (chainOf k t) b B → (p : ℕ)
+      → standsBefore b (laneOf bytes t) p ≡ (keeps l (operationAt (kernelLane k t) p) b && B p)
+  -- several before one operation stand in the order LL, LS, SS, SL
+  pub ordered : (t p : ℕ) → barriersBefore (laneOf bytes t) p ≡ chosen (λ b. standsBefore b (laneOf bytes t) p)
+
 -- ## demand 3: the two machines
+
+-- source, target tso: the house machine, over the kernel; the chip, over the level 2 sheet
+-- programFor m k: the instructions of each lane that the machine carries out
+-- startOf k: the start state; begin: a run from it, with no move done yet
+-- runSource s, runTso s: the answer of the run over a schedule; `.number` is 0 or that of a refusal, `.state` the end
+-- shown: what is compared of an answer: loaded values in order, finished, registers, memory, lock words, pending lists
+-- countsAs m k mvs: the schedule mvs, or the empty one where 10 refuses it
+-- sourceSchedule: the moves of a tso schedule but those that wait or pass a barrier
+-- targetSchedule: the moves of a direct source schedule, and before each operation those that pass its barriers
+-- direct: the move after each STORE or UNLOCK commits that entry
+-- Stuck: no lane has a permitted move, at choices 0 and 1
+-- AllHalted: nothing is pending, and each lane has ended or stands at a LOCK whose lock word is not 0
 
 -- both runs took place, and share what is compared
 pub record Shares (a b : Answer) : Type 0 where
@@ -97,6 +170,8 @@ pub record Demand3 (s : List ℕ) (k : Program) : Type 0 where
 
 -- ## number 11
 
+-- legal: each move names a lane below T and a choice up to the machine's limit, so that 10 does not refuse
+
 -- a schedule that is not refused with 10 runs to its end: no run meets an UNLOCK whose lock its lane does not hold
 pub record Runs (s : List ℕ) (k : Program) : Type 0 where
   pub source-runs : (mvs : List Move) → legal (length (k .lanes)) (limit Source) mvs ≡ true
@@ -105,6 +180,10 @@ pub record Runs (s : List ℕ) (k : Program) : Type 0 where
       → runTso s mvs .number ≡ 0
 
 -- ## bounds
+
+-- Shaped: in each lane 8 registers and at most 64 entries pending, of locations below L and locks below K; L memory
+--   values and K lock words; each value below 2^32, each lock word at most T
+-- Within: no lane stands past the end of its program
 
 -- after every schedule the state fits a record of fixed length, and each lane stands within its program: the chain of
 -- the source machine, the sheet part of the tso machine
@@ -116,6 +195,9 @@ pub record Bounds (s : List ℕ) (k : Program) : Type 0 where
 
 -- ## all of it, of a kernel file s that stands for the kernel k
 
+-- sheetBytes l k: the bytes of the sheet
+-- lowerBy: the answer, and the buffer after; where the sheet fits, its bytes in front and behind them what was there
+
 -- what a lowering at level l leaves in a buffer
 abbrev pub lowered : Level → List ℕ → List ℕ → List ℕ
 lowered l s buffer = lowerBy l (verdict s) buffer .1
@@ -124,8 +206,19 @@ lowered l s buffer = lowerBy l (verdict s) buffer .1
 abbrev pub Fitting : (Level → List ℕ → Type 0) → Program → Type 0
 Fitting P k = (l : Level) (buffer : List ℕ) → length (sheetBytes l k) ≤ length buffer → P l buffer
 
+-- codesIn bytes: the operation code, the first byte, of each row of each lane
+-- Code l c: c is one of an operation, 1 to 7, or at level 1 one of 11 to 14, at level 2 just 15
+-- placed l vol os: the operations of a lane, each with its barriers
+-- start ps p: the position in the lane's part at which the barriers before the p-th operation begin
+-- aim r: puts r of the target for a SKIP's target
+
 pub record Claims (s : List ℕ) (k : Program) : Type 0 where
+  pub records : Records s k
   pub demand2 : Fitting (λ l buffer. Demand2 l (volatileIn k) (lowered l s buffer)) k
+  pub placement : Fitting (λ l buffer. Placement l k (lowered l s buffer)) k
+  -- every row has an operation code of its level
+  pub codes : Fitting (λ l buffer. (t p c : ℕ) → getElem? (getD (codesIn (lowered l s buffer)) t []) p ≡ some c
+      → Code l c) k
   -- the sheet has every operation of the kernel in order, each SKIP aimed at its target's first barrier
   pub whole : Fitting (λ l buffer. (t : ℕ)
       → operationsIn (laneOf (lowered l s buffer) t)

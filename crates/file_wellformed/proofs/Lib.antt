@@ -5,3 +5,6 @@ pub mod Adequate
 pub mod Named
 pub mod Front
 pub mod Longest
+-- each record belongs to one lane
+pub mod Walks
+pub mod Once

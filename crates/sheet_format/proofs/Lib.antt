@@ -2,6 +2,8 @@
 pub mod Laws
 pub mod Fitting
 pub mod ReadBack
+pub mod Codes
+pub mod Before
 pub mod LoweredLanes
 pub mod Sizes
 pub mod Relowered

@@ -8,4 +8,7 @@ pub mod Put
 pub mod Read
 pub mod Relower
 pub mod Items
+-- the operation codes in a sheet, and the barriers before each operation
+pub mod Codes
+pub mod Before
 pub mod Examples
