@@ -121,7 +121,7 @@ pub record Placement (l : Level) (k : Program) (bytes : List ℕ) : Type 0 where
 
 -- ## demand 3: the two machines
 
--- source, target tso: the house machine, over the kernel; the chip, over the level 2 sheet
+-- Source, Target Tso: the house machine, over the kernel; the chip, over the level 2 sheet
 -- programFor m k: the instructions of each lane that the machine carries out
 -- startOf k: the start state; begin: a run from it, with no move done yet
 -- runSource s, runTso s: the answer of the run over a schedule; `.number` is 0 or that of a refusal, `.state` the end

@@ -14,6 +14,7 @@ use native.Mathlib.Decide.{ℕ-discrete, decLe, decLt}
 use borrow.Author.Tests.{eqb-true, eqb-false, not-false}
 use Rattle.file_format.specs.Fields.{laneCount, recordCount, head, heads, next}
 use Rattle.file_format.specs.Linkage.{chain, walkLane, linkageFrom, badLinkage, chainTooLong}
+use Rattle.file_format.specs.Structured.{Structured}
 use Rattle.file_format.specs.Accepted.{Program, recordsAt, programOf}
 use Rattle.file_format.proofs.Laws.Lists.{some-at}
 use Rattle.file_format.proofs.Laws.Search.{nothing-found, nothing-named}
@@ -22,7 +23,7 @@ use Rattle.file_format.proofs.Laws.Linkage.{chain-suc, chain-stop, last-one}
 use Rattle.file_format.proofs.Laws.Lanes.{lane-records}
 use Rattle.file_format.proofs.Bounded.{chain-range}
 use Rattle.file_verdict.specs.Verdict.{accepted, verdict}
-use Rattle.file_verdict.proofs.Laws.Verdict.{Structured, sound, accepted-as}
+use Rattle.file_verdict.proofs.Laws.Verdict.{sound, accepted-as}
 use Rattle.file_wellformed.proofs.Walks.{At, Walk, Flagged, none-at, walk}
 
 -- ## the walk along the lanes
@@ -37,7 +38,7 @@ module _ (s : List ℕ) (ok : Structured s) where
   in-range : (t p i : ℕ) → t < 4 → At (laneOf t) p i → Numbered i
   in-range t p i h e =
       let x = some-at (laneOf t) p i 0 e in
-      subst Numbered (x .1) (chain-range s (ok .records) 257 (head s t) p (head-range s (ok .header) t h) (x .0))
+      subst Numbered (x .1) (chain-range s (ok .fields .records) 257 (head s t) p (head-range s (ok .fields .header) t h) (x .0))
 
   -- what the lanes from t up to 3 say, where met are the flags before them
   record Lanes (met : List Bool) (t : ℕ) : Type 0 where
@@ -114,7 +115,7 @@ module _ (s : List ℕ) (ok : Structured s) where
       go true b e ih =
           let range : Flagged met (laneOf t) = λ p i f.
           let x = in-range t p i small f in
-          (x .0, omega (arith, x .1, room, few-records s (ok .header))) in
+          (x .0, omega (arith, x .1, room, few-records s (ok .fields .header))) in
           let w = walk met (laneOf t) range (eqb-true (walkLane s met t .twice) 0 b) in
           lanes-suc met (walkLane s met t .met) t small w (ih (omega arith) (w .size ∙ room) e)
 
@@ -148,7 +149,7 @@ module _ (s : List ℕ) (ok : Structured s) where
   lane-whole t h =
       let ends : getD (chain s 65 (head s t)) 64 0 ≡ 0 =
       nothing-named (λ n. getD (chain s 65 (head s n)) 64 0) 0 4 t (ok .chains) (omega arith) (omega arith) in
-      lane-records s (ok .header) t h
+      lane-records s (ok .fields .header) t h
       ∙ sym (chain-split 64 193 (head s t)
       ∙ ap (λ l. chain s 64 (head s t) ++ l) (chain-stop s 193 _ ends)
       ∙ append-nil (chain s 64 (head s t)))
@@ -177,7 +178,7 @@ module _ (s : List ℕ) (ok : Structured s) where
   own-placed i n = go (all-lanes .found i n)
     where
       small : i < 257
-      small = omega (arith, n .1, few-records s (ok .header))
+      small = omega (arith, n .1, few-records s (ok .fields .header))
 
       go : (getD (replicate 257 false) i false ≡ true) ⊎ ((u : ℕ) × (p : ℕ) × (u < 4) × At (laneOf u) p i)
           → (t : ℕ) × (p : ℕ) × RecordAt t p i

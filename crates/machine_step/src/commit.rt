@@ -48,12 +48,13 @@ pub fn commit(
     if !may_commit(machine, volatile, state, t, index) {
         return Moved::Waited;
     }
-    let own = take(state, t);
+    // the list is committed before anything is written: the compiler then copies it once less
+    let rest = take(state, t).commit(index);
     settle(
         word_at(state, t, CELLS, index),
         word_at(state, t, VALUES, index),
         state,
     );
-    put_list(own.commit(index), t, state);
+    put_list(rest, t, state);
     Moved::Done
 }
