@@ -42,6 +42,13 @@ returns-2 c =
 take-requires : tie.Need-take-requires
 take-requires c κs = search needs
 
+commit-requires : tie.Need-commit-requires
+commit-requires c κs =
+    let c5 = c .before .before .before .before .before in
+    let s = c5 .before .before .before .before in
+    subst (λ (l : Lane). s .args .index < length (laneIn l .pending)) (sym (c .take .ensures))
+    (omega (arith, c5 .if1 .left, c5 .before .count .ensures .0))
+
 word-at-requires : tie.Need-word-at-requires
 word-at-requires c κs = search needs
 
@@ -49,36 +56,29 @@ word-at-requires-2 : tie.Need-word-at-requires-2
 word-at-requires-2 c κs = search needs
 
 settle-requires : tie.Need-settle-requires
-settle-requires c κs = search needs
-
-commit-requires : tie.Need-commit-requires
-commit-requires c κs =
-    let c6 = c .before .before .before .before .before .before in
-    let c11 = c6 .before .before .before .before .before in
-    let s = c11 .before .before .before .before in
-    subst (λ (l : Lane). s .args .index < length (laneIn l .pending)) (sym (c6 .take .ensures))
-    (omega (arith, c11 .if1 .left, c11 .before .count .ensures .0))
+settle-requires c κs =
+    let c8 = c .before .before .before .before .before .before .before .before in
+    c8 .before .before .before .before .before .before .before .pre .sized
 
 put-list-requires : tie.Need-put-list-requires
 put-list-requires c κs =
     let c8 = c .before .before .before .before .before .before .before .before in
     let s = c8 .before .before .before .before .before .before .before .before .before in
-    record { lane = s .pre .lane; sized = c .before .before .settle .ensures .sized }
+    record { lane = s .pre .lane; sized = c .before .settle .ensures .sized }
 
 returns-3 : tie.Need-returns-3
 returns-3 c =
-    let c3 = c .before .before .before in
-    let c9 = c3 .before .before .before .before .before .before in
+    let c2 = c .before .before in
+    let c9 = c2 .before .before .before .before .before .before .before in
     let c14 = c9 .before .before .before .before .before in
     let s = c14 .before .before .before .before in
     let a = s .args in
     let w = a .state .now in
-    let entry = ap₂ entryOf (c3 .before .before .before .before .word-at .ensures)
-    (c3 .before .before .word-at2 .ensures) in
+    let entry = ap₂ entryOf (c2 .before .before .before .before .word-at .ensures) (c2 .before .before .word-at2 .ensures) in
     let settled = shared (ap (landed (stateIn w .memory)) entry) (ap (freed (stateIn w .locks)) entry)
-    (c3 .settle .ensures) in
+    (c2 .settle .ensures) in
     let rest : Lane → List Entry = λ l. without (a .index) (laneIn l .pending) in
-    let left = ap (λ l. l .pending) (c .before .before .commit .ensures) ∙ ap rest (c9 .take .ensures) in
+    let left = ap (λ l. l .pending) (c2 .before .before .before .before .before .before .commit .ensures) ∙ ap rest (c9 .take .ensures) in
     commit-does (a .machine) _ w (a .t) (a .index) _ _
     (omega (arith, c14 .if1 .left, c14 .before .count .ensures .0))
     (granted (c9 .before .before .before .may-commit .ensures) (c9 .before .before .if2 .left))
@@ -86,5 +86,5 @@ returns-3 c =
 
 pub commit-spec : {M : Type 1} → statement M
 commit-spec =
-    tie.close (tie.spec count-requires returns may-commit-requires returns-2 take-requires word-at-requires
-    word-at-requires-2 settle-requires commit-requires put-list-requires returns-3)
+    tie.close (tie.spec count-requires returns may-commit-requires returns-2 take-requires commit-requires
+    word-at-requires word-at-requires-2 settle-requires put-list-requires returns-3)
