@@ -25,6 +25,9 @@ ghost use Rattle.barrier_pass.specs.Classes.{classByte, callTable};
 // A digit for each set of barriers, from the last on: how many instructions an operation makes with them.
 const WIDTHS: u64 = 0x5443_4332_4332_3221;
 
+// Times this, a set of barriers stands in the place of each class.
+const IN_EACH_CLASS: u16 = 0x1111;
+
 // The barriers that stand before a step of class x, given what is due there.
 fn stands_at(x: u8, due: u16) -> u16
     requires { ⌜ x ≤ 4 ⌝ }
@@ -48,14 +51,13 @@ fn raises(calls: &[u16], x: u8) -> u16
 }
 
 // What is due after a step: what was due before it but for the barriers that stand there, and what the step calls for.
-// Times 4369, a set of barriers stands in the place of each class.
 fn after(stood: u16, due: u16, new: u16) -> u16
     requires { ⌜ stood < 16 ⌝ }
     ensures { λ r. ⌜
         ((b : Barrier) (c : Class) → dueIn r b c ≡ ((not (bit stood (bitOf b)) && dueIn due b c) || dueIn new b c))
         ⌝ }
 {
-    let met = due & (stood * 4369);
+    let met = due & (stood * IN_EACH_CLASS);
     (due ^ met) | new
 }
 

@@ -13,6 +13,15 @@ use sheet_rows::put::put_row;
 use sheet_rows::put::store_eight;
 use sheet_rows::read::word_at;
 
+// The codes of the barriers.
+const LL: u8 = 11;
+
+const LS: u8 = 12;
+
+const SS: u8 = 13;
+
+const SL: u8 = 14;
+
 // Writes a barrier's row from `at` on; the position behind it where it stands, else `at`, and what follows is written
 // over it: faster than a test, which could not be predicted.
 fn put_barrier(out: &mut [u8], at: usize, stands: bool, code: u8) -> usize
@@ -29,10 +38,10 @@ fn put_barriers(out: &mut [u8], at: usize, set: u16) -> usize
     requires { ⌜ at + length (barrierRows set) + 8 ≤ length (now out) ⌝ }
     ensures { λ r. ⌜ Begins (now (out .entry)) at (barrierRows set) (now (out .exit)) r ⌝ }
 {
-    let behind_ll = put_barrier(out, at, bit_at(set, 0), 11);
-    let behind_ls = put_barrier(out, behind_ll, bit_at(set, 1), 12);
-    let behind_ss = put_barrier(out, behind_ls, bit_at(set, 2), 13);
-    put_barrier(out, behind_ss, bit_at(set, 3), 14)
+    let behind_ll = put_barrier(out, at, bit_at(set, 0), LL);
+    let behind_ls = put_barrier(out, behind_ll, bit_at(set, 1), LS);
+    let behind_ss = put_barrier(out, behind_ls, bit_at(set, 2), SS);
+    put_barrier(out, behind_ss, bit_at(set, 3), SL)
 }
 
 // Writes an operation's row from `at` on, a SKIP's aimed at where its target begins in the sheet. The row is copied

@@ -17,11 +17,16 @@ use sheet_rows::number::wide;
 use sheet_rows::put::put_row;
 use sheet_rows::read::whole_row;
 
+// The code of SL at level 1, and what it becomes.
+const SL: u8 = 14;
+
+const MFENCE: u8 = 15;
+
 // The code of a row that stays: SL becomes MFENCE.
 fn code_of(code: u8) -> u8
     ensures { λ r. ⌜ r ≡ cond (eqb code 14) 15 code ⌝ }
 {
-    if code == 14 { 15 } else { code }
+    if code == SL { MFENCE } else { code }
 }
 
 // The new position of a target; the end, n, stands for every position behind it.
