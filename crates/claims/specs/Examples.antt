@@ -1,5 +1,5 @@
--- The words of the claims by computation: which source runs are direct, the schedules that match, and when a machine has
--- no permitted move.
+-- The words of the claims by computation: which source runs are direct, the schedules that match, and when a machine
+-- has no permitted move.
 use mathlib.Core.Path.{_≡_, refl}
 use mathlib.Core.Bool.{Bool, true, false}
 use mathlib.Core.List.{List, [], _∷_, map}

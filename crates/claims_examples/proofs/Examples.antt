@@ -1,4 +1,5 @@
--- The starred examples and the kernel of four lanes hold: each row by computation, and the two that speak of every schedule by a search.
+-- The starred examples and the kernel of four lanes hold: each row by computation, and the two that speak of every
+-- schedule by a search.
 use mathlib.Core.Path.{refl}
 use Rattle.file_format.specs.Search.{lowest, firstOf}
 use Rattle.file_format.specs.Rules.{headerRule, headRule, badRecord, recordRule}

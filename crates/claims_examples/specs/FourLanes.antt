@@ -1,5 +1,5 @@
--- The kernel of examples/four-lanes.kernel, its schedule, and what reference/ answers of them: both sheets, the listing,
--- and the state records that the schedule leaves on the two machines.
+-- The kernel of examples/four-lanes.kernel, its schedule, and what reference/ answers of them: both sheets, the
+-- listing, and the state records that the schedule leaves on the two machines.
 use Prim.Native.Nat.{ℕ, _-_}
 use mathlib.Core.List.{List, [], _∷_, _++_}
 use lib.ListN.{length, replicate}

@@ -95,7 +95,10 @@ calls =
     ∷ (called (callRunSource kernel (0 ∷ 64 ∷ []) (output 2280)), record { answer = 2280; after = oneWaited })
     ∷ (called (callRunSource kernel (0 ∷ 65 ∷ []) (output 2280)), record { answer = 10 * 2 ^ 32; after = output 2280 })
     ∷ (called (callRunTso kernel (0 ∷ 1 ∷ []) (output 2280)), record { answer = 2280; after = oneWaited })
-    ∷ (called (callRunSource kernel (0 ∷ 0 ∷ 0 ∷ []) (output 2280)), record { answer = 10 * 2 ^ 32; after = output 2280 })
+    ∷ (
+      called (callRunSource kernel (0 ∷ 0 ∷ 0 ∷ []) (output 2280)),
+      record { answer = 10 * 2 ^ 32; after = output 2280 },
+    )
     -- SET, STORE, a LOCK that waits, the commit, LOCK, UNLOCK: its release is pending
     ∷ (
       called (callRunSource kernel (0 ∷ 0 ∷ 0 ∷ 0 ∷ 0 ∷ 0 ∷ 0 ∷ 1 ∷ 0 ∷ 0 ∷ 0 ∷ 0 ∷ []) (output 2281)),
