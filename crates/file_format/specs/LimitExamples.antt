@@ -1,5 +1,5 @@
--- The limits of the fields of a header and of a record, by computation: of each the smallest value that breaks its rule,
--- and the largest that keeps it.
+-- The limits of the fields of a header and of a record, by computation: of each the smallest value that breaks its
+-- rule, and the largest that keeps it.
 use Prim.Native.Nat.{ℕ, _+_, _*_}
 use mathlib.Core.Path.{_≡_, refl}
 use mathlib.Core.Bool.{Bool, true, false}
