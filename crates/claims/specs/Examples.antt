@@ -1,15 +1,20 @@
--- The words of the claims by computation: which source runs are direct, the schedules that match, and when a machine
--- has no permitted move.
+-- The words of the claims by computation: lanes as placement sees them, which source runs are direct, the schedules
+-- that match, and when a machine has no permitted move.
 use mathlib.Core.Path.{_≡_, refl}
 use mathlib.Core.Bool.{Bool, true, false}
 use mathlib.Core.List.{List, [], _∷_, map}
 use mathlib.Core.Option.{Option, none, some}
 use Prim.Native.Nat.{ℕ, zero, suc}
+use native.Mathlib.Omega.{arith}
 use lib.Dec.{eqb}
 use Rattle.file_format.specs.declared.accepted.Op.{Op}
 use Rattle.file_format.specs.declared.accepted.Op.the-variants.{Set, Add, Load, Store, Lock, Unlock, Skip}
 use Rattle.barrier_placement.specs.declared.cookbook.Barrier.the-variants.{SL}
+use Rattle.barrier_placement.specs.declared.cookbook.Class.the-variants.{PL, PS, VL, VS}
+use Rattle.barrier_placement.specs.declared.steps.Step.the-variants.{Access, Skip as Jump, Other}
+use Rattle.barrier_placement.specs.Sheet.{bar, op as step}
 use Rattle.sheet_format.specs.Layout.{Instr, op, barrier}
+use Rattle.sheet_format.specs.Items.{items}
 use Rattle.machine_spec.specs.Entries.{write}
 use Rattle.machine_spec.specs.Rules.{source, target, tso}
 use Rattle.machine_spec.specs.Schedule.{Move, move}
@@ -32,6 +37,16 @@ chains =
 -- two lanes, two locations, one lock
 abbrev start : State
 start = startState 2 (0 ∷ 0 ∷ []) 1
+
+-- ## a lane as placement sees it
+
+items-hold :
+    items vol
+    (op (Set 0 1) ∷ op (Store 0 0) ∷ op (Store 0 1) ∷ barrier SL ∷ op (Load 1 1) ∷ op (Load 1 0) ∷ op (Skip 1 8)
+    ∷ op (Add 1 0) ∷ [])
+    ≡ step Other ∷ step (Access PS) ∷ step (Access VS) ∷ bar SL ∷ step (Access VL) ∷ step (Access PL) ∷ step (Jump 8)
+    ∷ step Other ∷ []
+items-hold = refl
 
 -- ## direct runs
 
