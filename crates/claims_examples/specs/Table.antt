@@ -165,7 +165,7 @@ table =
     ∷ refused-by level1 (lane (LOCK ∷ LOCK ∷ [])) 100 8 2
     -- 9 SETs and length 123: 3
     ∷ refused-by level1 (take 123 (lane (sets 9))) 100 3 0
-    -- not of the paper: four lanes, with every field of the header at its largest but N; the answers are reference/'s
+    -- not of the paper: four lanes, 16 locations and four locks; the answers are reference/'s
     ∷ writes level1 fourLanes fourLanes1
     ∷ writes level2 fourLanes fourLanes2
     ∷ prints fourLanes fourLanesText

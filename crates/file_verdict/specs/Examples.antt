@@ -1,5 +1,5 @@
 -- Verdicts computed from bytes: rows for the refusals, for faults that come together, and for what is accepted. The
--- rows on the length of a chain alone stand in the crate `lawful` (Longest).
+-- rows on the length of a chain alone stand in the crate `file_wellformed` (Longest).
 use Prim.Native.Nat.{ℕ, zero, suc}
 use mathlib.Core.Path.{_≡_, refl}
 use mathlib.Core.List.{List, [], _∷_, _++_, map}
