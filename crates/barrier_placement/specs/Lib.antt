@@ -1,5 +1,5 @@
 -- Placement: the cookbook table, a lane as a chain of steps, the paper's sentence, the computed placement, and lowered
--- lanes.
+-- lanes. CookbookExamples spells the paper's table.
 pub mod Cookbook
 pub mod Chain
 pub mod Steps
@@ -8,3 +8,4 @@ pub mod Place
 pub mod Placed
 pub mod Sheet
 pub mod Plan
+pub mod CookbookExamples

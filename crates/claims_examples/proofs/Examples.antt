@@ -1,4 +1,5 @@
--- The starred examples hold: each row by computation, and the two that speak of every schedule by a search.
+-- The starred examples and the kernel of four lanes hold: each row by computation, and the two that speak of every
+-- schedule by a search.
 use mathlib.Core.Path.{refl}
 use Rattle.file_format.specs.Search.{lowest, firstOf}
 use Rattle.file_format.specs.Rules.{headerRule, headRule, badRecord, recordRule}
@@ -11,6 +12,9 @@ use Rattle.file_verdict.specs.Verdict.{structureThen, refusalOf}
 use Rattle.barrier_placement.specs.Place.{stands, due, rowsTo}
 use Rattle.sheet_format.specs.Bytes.{sheetBytes}
 use Rattle.sheet_format.specs.Read.{readSheet}
+use Rattle.sheet_format.specs.Put.{inTurn}
+use Rattle.machine_record.specs.Lanes.{entriesBytes, stateLane}
+use Rattle.machine_record.specs.Record.{headBytes, recordOf}
 use lib.Count.{onesIn}
 use Rattle.text_put.specs.Decimal.{digits, decimal}
 use Rattle.text_listing.specs.Line.{instrText, lineOf, firstLine}
@@ -24,10 +28,12 @@ unfolding table refusalOf structureThen headerRule headRule badRecord recordRule
     lowest firstOf badLinkage linkageFrom chain member walkOf chainTooLong badTarget unreachableTarget lockFault
     position
     opOf opsFrom recordAt faultPosition faultAt partedBy heldFrom same stands due rowsTo sheetBytes readSheet
+    inTurn entriesBytes stateLane headBytes recordOf
     digits decimal instrText lineOf firstLine onesIn ones laneLines sheetLines listing
 examples =
     refl ▸ refl ▸ refl ▸ refl ▸ never-on-tso ▸ never-on-source
     ▸ refl ▸ refl ▸ refl ▸ refl
     ▸ refl ▸ refl ▸ refl ▸ refl ▸ refl ▸ refl ▸ refl ▸ refl ▸ refl
     ▸ refl ▸ refl ▸ refl ▸ refl ▸ refl ▸ refl ▸ refl ▸ refl ▸ refl
+    ▸ refl ▸ refl ▸ refl ▸ refl ▸ refl
     ▸ end

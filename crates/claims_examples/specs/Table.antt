@@ -1,4 +1,5 @@
--- The starred examples of paper 01 as one table over the bytes of kernel files. Its one theorem is proofs/Examples.
+-- The starred examples of paper 01 as one table over the bytes of kernel files, and behind them a kernel of four lanes
+-- through every call. Its one theorem is proofs/Examples.
 use Prim.Native.Nat.{ℕ, zero, suc, _+_, _-_, _/_}
 use mathlib.Core.Path.{_≡_}
 use mathlib.Core.Bool.{Bool, true, false, _&&_}
@@ -16,8 +17,11 @@ use Rattle.machine_spec.specs.declared.Machine.the-variants.{Source, Target}
 use Rattle.machine_spec.specs.declared.Model.the-variants.{Tso}
 use Rattle.machine_spec.specs.Schedule.{Move, move}
 use Rattle.machine_spec.specs.Run.{Answer, runBy}
+use Rattle.machine_record.specs.Record.{stateBytes}
 use Rattle.claims_examples.specs.Kernels.{rec, recBytes, fileHeader, storeBuffering, lane, skipTo, sets}
 use Rattle.claims_examples.specs.Kernels.{PL, PS, VL, VS, LOCK, UNLOCK}
+use Rattle.claims_examples.specs.FourLanes.{fourLanes, fourLanes1, fourLanes2, fourLanesText, fourLanesMoves}
+use Rattle.claims_examples.specs.FourLanes.{fourLanesSource, fourLanesTso}
 
 pub data Example : Type 0 where
   -- lowering into so many bytes is refused, by number and record
@@ -32,6 +36,8 @@ pub data Example : Type 0 where
   fills : Level → (kernel : List ℕ) → (size : ℕ) → Example
   -- the schedule is carried out and finishes, with these values of register 1, lane after lane
   ends : Machine → (kernel : List ℕ) → List Move → List ℕ → Example
+  -- the schedule leaves this state record
+  leaves : Machine → (kernel : List ℕ) → List Move → (bytes : List ℕ) → Example
   -- no schedule finishes with register 1 zero in every lane
   never : Machine → (kernel : List ℕ) → Example
 
@@ -79,6 +85,7 @@ Holds (shows l s is) = instructions (lowerBy l (verdict s) (output 100)) ≡ is
 Holds (fills l s n) = lowerBy l (verdict s) (output n) .0 ≡ Wrote n
 Holds (ends m s mvs rs) =
     endOf (runBy m s (verdict s) mvs) ≡ record { number = 0; finished = true; values = rs }
+Holds (leaves m s mvs b) = stateBytes (runBy m s (verdict s) mvs) ≡ b
 Holds (never m s) = (mvs : List Move) → endsAllZero (runBy m s (verdict s) mvs) ≡ false
 
 -- every row holds
@@ -160,4 +167,10 @@ table =
     ∷ refused-by level1 (lane (LOCK ∷ LOCK ∷ [])) 100 8 2
     -- 9 SETs and length 123: 3
     ∷ refused-by level1 (take 123 (lane (sets 9))) 100 3 0
+    -- not of the paper: four lanes, 16 locations and four locks; the answers are reference/'s
+    ∷ writes level1 fourLanes fourLanes1
+    ∷ writes level2 fourLanes fourLanes2
+    ∷ prints fourLanes fourLanesText
+    ∷ leaves source fourLanes fourLanesMoves fourLanesSource
+    ∷ leaves (target tso) fourLanes fourLanesMoves fourLanesTso
     ∷ []

@@ -1,6 +1,6 @@
 -- The kernel file up to its verdict. Fields to Targets define the checks of its structure, Structured what they leave,
 -- Accepted the kernel that a sound file stands for, Held the held-set rule, Stored what the code holds, Lawful what an
--- accepted kernel satisfies.
+-- accepted kernel satisfies. LimitExamples computes the limits of each field.
 pub mod Search
 pub mod Fields
 pub mod Rules
@@ -11,3 +11,4 @@ pub mod Accepted
 pub mod Held
 pub mod Stored
 pub mod Lawful
+pub mod LimitExamples

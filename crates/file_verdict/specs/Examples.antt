@@ -1,5 +1,5 @@
 -- Verdicts computed from bytes: rows for the refusals, for faults that come together, and for what is accepted. The
--- rows on the length of a chain alone stand in the crate `lawful` (Longest).
+-- rows on the length of a chain alone stand in the crate `file_wellformed` (Longest).
 use Prim.Native.Nat.{ℕ, zero, suc}
 use mathlib.Core.Path.{_≡_, refl}
 use mathlib.Core.List.{List, [], _∷_, _++_, map}
@@ -15,9 +15,10 @@ use Rattle.file_format.specs.Rules.{headerRule, headRule, badRecord, recordRule
 use Rattle.file_format.specs.Rules.{limitA, limitB, limitConstant, limitTarget}
 use Rattle.file_format.specs.Linkage.{chain, walkOf, badLinkage, linkageFrom, chainTooLong}
 use Rattle.file_format.specs.Targets.{member, badTarget, unreachableTarget, position}
-use Rattle.file_format.specs.Accepted.{opOf, opsFrom}
+use Rattle.file_format.specs.Accepted.{Program, opOf, opsFrom}
 use Rattle.file_format.specs.Held.{heldFrom, same, partedBy, faultAt, faultPosition, recordAt, lockFault}
-use Rattle.file_verdict.specs.Verdict.{structureThen, refusalOf}
+use Rattle.file_verdict.specs.Verdict.{structureThen, refusalOf, numberOf, recordOf}
+use Rattle.file_verdict.specs.Verdict.{refused, accepted, verdictFrom}
 
 -- a header of one lane, with its counts of locations, locks and records, and the head of lane 0
 unfoldable pub header : ℕ → ℕ → ℕ → ℕ → List ℕ
@@ -60,9 +61,17 @@ table =
     ∷ (header 1 0 1 1 ++ entry 1 0 0 1, BadLinkage 1)
     ∷ (header 1 0 2 1 ++ entry 1 0 0 0 ++ entry 1 0 0 0, BadLinkage 2)
     ∷ (header2 1 0 2 1 2 ++ entry 1 0 0 2 ++ entry 1 0 0 0, BadLinkage 2)
+    -- the lowest left over; a record met twice comes before it
+    ∷ (header 1 0 3 2 ++ entry 1 0 0 0 ++ entry 1 0 0 0 ++ entry 1 0 0 0, BadLinkage 1)
+    ∷ (header 1 0 3 3 ++ entry 1 0 0 0 ++ entry 1 0 0 3 ++ entry 1 0 0 2, BadLinkage 3)
+    -- lane 0 is record 66; the chain of lane 1 is 65, 1, 2, .., and record 64 is its 65th
+    ∷ (header2 1 0 66 66 65 ++ sets 1 64 ++ entry 1 0 0 1 ++ entry 1 0 0 0, ChainTooLong 64)
     -- a target that stands earlier, and one in another lane
     ∷ (header 1 0 2 1 ++ entry 1 0 0 2 ++ skip 0 1 0, BadTarget 2)
     ∷ (header2 1 0 2 1 2 ++ skip 0 2 0 ++ entry 1 0 0 0, BadTarget 1)
+    -- two SKIPs to themselves, the higher one first in the chain; a target that follows directly, and the end
+    ∷ (header 1 0 2 2 ++ skip 0 1 0 ++ skip 0 2 1, BadTarget 1)
+    ∷ (header 1 0 2 2 ++ skip 0 0 0 ++ skip 0 1 1, Accepted)
     -- LOCK twice; UNLOCK of a free lock; the end with a lock held, also by a SKIP
     ∷ (header 1 1 2 1 ++ entry 5 0 0 2 ++ entry 5 0 0 0, LockFault 2)
     ∷ (header 1 1 1 1 ++ entry 6 0 0 0, LockFault 1)
@@ -70,6 +79,10 @@ table =
     ∷ (header 1 1 3 1 ++ entry 5 0 0 2 ++ skip 0 0 3 ++ entry 6 0 0 0, LockFault 3)
     -- two ways disagree: at the record where they meet
     ∷ (header 1 1 4 1 ++ skip 0 3 2 ++ entry 5 0 0 3 ++ entry 1 0 0 4 ++ entry 6 0 0 0, LockFault 3)
+    -- a SKIP past both LOCK and UNLOCK; two locks held at once; UNLOCK of another lock than the one held
+    ∷ (header 1 1 4 1 ++ skip 0 4 2 ++ entry 5 0 0 3 ++ entry 6 0 0 4 ++ entry 1 0 0 0, Accepted)
+    ∷ (header 1 2 4 1 ++ entry 5 0 0 2 ++ entry 5 0 1 3 ++ entry 6 0 0 4 ++ entry 6 0 1 0, Accepted)
+    ∷ (header 1 2 2 1 ++ entry 5 0 0 2 ++ entry 6 0 1 0, LockFault 2)
     -- the end of lane 0 comes before the records of lane 1
     ∷ (header2 1 1 2 1 2 ++ entry 5 0 0 0 ++ entry 6 0 0 0, LockFault 1)
     -- two faults at once, of each check and the next: the order of the table decides. Rows above have 1 and 2, 3 and 4
@@ -88,3 +101,24 @@ unfolding refusalOf structureThen headerRule headRule badRecord recordRule limit
     position
     opOf opsFrom recordAt faultPosition faultAt partedBy heldFrom same header header2 entry skip sets table
 examples = refl
+
+-- the paper's number of each, and the record that it names
+every : List Refusal
+every =
+    Accepted ∷ TruncatedHeader ∷ BadHeader ∷ BadLength ∷ BadRecord 91 ∷ BadLinkage 92 ∷ ChainTooLong 93 ∷ BadTarget 94
+    ∷ LockFault 95 ∷ []
+
+numbers-hold : map numberOf every ≡ 0 ∷ 1 ∷ 2 ∷ 3 ∷ 4 ∷ 5 ∷ 6 ∷ 7 ∷ 8 ∷ []
+unfolding every
+numbers-hold = refl
+
+records-hold : map recordOf every ≡ 0 ∷ 0 ∷ 0 ∷ 0 ∷ 91 ∷ 92 ∷ 93 ∷ 94 ∷ 95 ∷ []
+unfolding every
+records-hold = refl
+
+-- the verdict of a refusal, whatever the kernel
+verdicts-hold : (k : Program) → map (λ r. verdictFrom r k) every
+    ≡ accepted k ∷ refused 1 0 ∷ refused 2 0 ∷ refused 3 0 ∷ refused 4 91 ∷ refused 5 92 ∷ refused 6 93 ∷ refused 7 94
+    ∷ refused 8 95 ∷ []
+unfolding every
+verdicts-hold k = refl

@@ -60,6 +60,10 @@ registers = replicate 8 0 ++ 2 ∷ 1 ∷ replicate 22 0
 abbrev counted : ℕ → List ℕ
 counted f = f ∷ 0 ∷ 0 ∷ 0 ∷ 1 ∷ 0 ∷ 0 ∷ 0 ∷ 5 ∷ replicate 7 0 ++ 1 ∷ replicate 7 0
 
+-- at the start, with one move that waited
+abbrev oneWaited : List ℕ
+oneWaited = replicate 16 0 ++ 1 ∷ replicate 2263 0
+
 calls : List (Called × Called)
 calls =
     -- the kernel's sheets have 72 and 56 bytes
@@ -87,6 +91,14 @@ calls =
     ∷ (called (callRunTso kernel (0 ∷ []) (output 2280)), record { answer = 10 * 2 ^ 32; after = output 2280 })
     ∷ (called (callRunTso kernel (0 ∷ 2 ∷ []) (output 2280)), record { answer = 10 * 2 ^ 32; after = output 2280 })
     ∷ (called (callRunSource kernel (1 ∷ 0 ∷ []) (output 2280)), record { answer = 10 * 2 ^ 32; after = output 2280 })
+    -- choice 64 and 65 of the source machine, choice 1 of the tso machine, and an odd number of bytes
+    ∷ (called (callRunSource kernel (0 ∷ 64 ∷ []) (output 2280)), record { answer = 2280; after = oneWaited })
+    ∷ (called (callRunSource kernel (0 ∷ 65 ∷ []) (output 2280)), record { answer = 10 * 2 ^ 32; after = output 2280 })
+    ∷ (called (callRunTso kernel (0 ∷ 1 ∷ []) (output 2280)), record { answer = 2280; after = oneWaited })
+    ∷ (
+      called (callRunSource kernel (0 ∷ 0 ∷ 0 ∷ []) (output 2280)),
+      record { answer = 10 * 2 ^ 32; after = output 2280 },
+    )
     -- SET, STORE, a LOCK that waits, the commit, LOCK, UNLOCK: its release is pending
     ∷ (
       called (callRunSource kernel (0 ∷ 0 ∷ 0 ∷ 0 ∷ 0 ∷ 0 ∷ 0 ∷ 1 ∷ 0 ∷ 0 ∷ 0 ∷ 0 ∷ []) (output 2281)),

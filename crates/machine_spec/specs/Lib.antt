@@ -1,6 +1,7 @@
 -- The two machines: Entries pending lists, Rules what tells the machines apart, Step one lane's move, Schedule rows of
 -- moves, Moves their bytes, State states and runs over schedules, View what is compared of a run, Run answers from the
--- bytes of a kernel file, Shape the bounds of a state. Examples computes turns and runs, AnswerExamples refusals.
+-- bytes of a kernel file, Shape the bounds of a state. Examples computes turns and runs, AnswerExamples refusals,
+-- ViewExamples what is compared.
 pub mod Entries
 pub mod Rules
 pub mod Step
@@ -12,3 +13,4 @@ pub mod Run
 pub mod Shape
 pub mod Examples
 pub mod AnswerExamples
+pub mod ViewExamples
