@@ -16,7 +16,8 @@ use Rattle.barrier_placement.specs.Sheet.{bar, op as step}
 use Rattle.sheet_format.specs.Layout.{Instr, op, barrier}
 use Rattle.sheet_format.specs.Items.{items}
 use Rattle.machine_spec.specs.Entries.{write}
-use Rattle.machine_spec.specs.Rules.{source, target, tso}
+use Rattle.machine_spec.specs.declared.Machine.the-variants.{Source, Target}
+use Rattle.machine_spec.specs.declared.Model.the-variants.{Tso}
 use Rattle.machine_spec.specs.Schedule.{Move, move}
 use Rattle.machine_spec.specs.State.{Lane, State, startState, begin, moveTurn}
 use Rattle.claims.specs.Schedules.{sourceSchedule, targetSchedule}
@@ -86,14 +87,14 @@ fenced = (op (Store 0 1) ∷ barrier SL ∷ op (Load 1 1) ∷ []) ∷ []
 
 -- from tso to source: a move that waits at MFENCE, and the one that passes it, are left out
 source-matches :
-    sourceSchedule tso vol fenced (begin (startState 1 (0 ∷ 0 ∷ []) 0))
+    sourceSchedule Tso vol fenced (begin (startState 1 (0 ∷ 0 ∷ []) 0))
     (move 0 0 ∷ move 0 0 ∷ move 0 1 ∷ move 0 0 ∷ move 0 0 ∷ [])
     ≡ move 0 0 ∷ move 0 1 ∷ move 0 0 ∷ []
 source-matches = refl
 
 -- from source to tso: MFENCE is passed before the LOAD
 tso-matches :
-    targetSchedule tso vol fenced (begin (startState 1 (0 ∷ 0 ∷ []) 0)) (move 0 0 ∷ move 0 1 ∷ move 0 0 ∷ [])
+    targetSchedule Tso vol fenced (begin (startState 1 (0 ∷ 0 ∷ []) 0)) (move 0 0 ∷ move 0 1 ∷ move 0 0 ∷ [])
     ≡ move 0 0 ∷ move 0 1 ∷ move 0 0 ∷ move 0 0 ∷ []
 tso-matches = refl
 
@@ -119,7 +120,7 @@ second = record { control = record { pos = 1 }; regs = []; pending = [] }
 abbrev deadlock : State
 deadlock = record { lanes = second ∷ second ∷ []; memory = []; locks = 1 ∷ 2 ∷ [] }
 
-deadlock-stuck : Stuck (target tso) vol crossed deadlock
+deadlock-stuck : Stuck (Target Tso) vol crossed deadlock
 deadlock-stuck zero l = (refl, refl)
 deadlock-stuck (suc zero) l = (refl, refl)
 deadlock-stuck (suc (suc t)) l = absurd (omega arith)
@@ -139,6 +140,6 @@ waiting =
     }
 
 waiting-goes-on :
-    map (λ (mv : Move). isDone (moveTurn (target tso) vol fenced waiting mv)) (move 0 0 ∷ move 0 1 ∷ [])
+    map (λ (mv : Move). isDone (moveTurn (Target Tso) vol fenced waiting mv)) (move 0 0 ∷ move 0 1 ∷ [])
     ≡ false ∷ true ∷ []
 waiting-goes-on = refl

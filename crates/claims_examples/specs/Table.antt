@@ -171,6 +171,6 @@ table =
     ∷ writes level1 fourLanes fourLanes1
     ∷ writes level2 fourLanes fourLanes2
     ∷ prints fourLanes fourLanesText
-    ∷ leaves source fourLanes fourLanesMoves fourLanesSource
-    ∷ leaves (target tso) fourLanes fourLanesMoves fourLanesTso
+    ∷ leaves Source fourLanes fourLanesMoves fourLanesSource
+    ∷ leaves (Target Tso) fourLanes fourLanesMoves fourLanesTso
     ∷ []

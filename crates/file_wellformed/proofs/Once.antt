@@ -38,7 +38,8 @@ module _ (s : List ℕ) (ok : Structured s) where
   in-range : (t p i : ℕ) → t < 4 → At (laneOf t) p i → Numbered i
   in-range t p i h e =
       let x = some-at (laneOf t) p i 0 e in
-      subst Numbered (x .1) (chain-range s (ok .fields .records) 257 (head s t) p (head-range s (ok .fields .header) t h) (x .0))
+      subst Numbered (x .1)
+      (chain-range s (ok .fields .records) 257 (head s t) p (head-range s (ok .fields .header) t h) (x .0))
 
   -- what the lanes from t up to 3 say, where met are the flags before them
   record Lanes (met : List Bool) (t : ℕ) : Type 0 where

@@ -9,7 +9,9 @@ use Rattle.barrier_placement.specs.Place.{stands, due, rowsTo}
 use Rattle.sheet_format.specs.Bytes.{sheetBytes}
 use Rattle.sheet_format.specs.Read.{readSheet}
 use Rattle.machine_spec.specs.Entries.{write, release}
-use Rattle.machine_spec.specs.Rules.{Machine, source, target, tso}
+use Rattle.machine_spec.specs.declared.Machine.{Machine}
+use Rattle.machine_spec.specs.declared.Machine.the-variants.{Source, Target}
+use Rattle.machine_spec.specs.declared.Model.the-variants.{Tso}
 use Rattle.machine_spec.specs.Schedule.{Move, move}
 use Rattle.machine_spec.specs.State.{Loaded}
 use Rattle.machine_spec.specs.Run.{runProgram, shown, countsAs}
@@ -37,7 +39,7 @@ opening =
     move 0 0 ∷ move 0 0 ∷ move 0 0 ∷ move 0 0 ∷ move 0 0 ∷ move 1 0 ∷ move 1 0 ∷ move 1 1 ∷ []
 
 -- the LOAD of lane 1, and the UNLOCK of lane 0, whose release is pending
-source-shows : shown (runProgram source kernel (opening ++ move 1 0 ∷ move 0 0 ∷ [])) ≡ record {
+source-shows : shown (runProgram Source kernel (opening ++ move 1 0 ∷ move 0 0 ∷ [])) ≡ record {
   row = took 0 4 5 ∷ took 1 2 9 ∷ [];
   finished = true;
   regs = (0 ∷ 5 ∷ 5 ∷ 0 ∷ 0 ∷ 0 ∷ 0 ∷ 0 ∷ []) ∷ (9 ∷ 0 ∷ 0 ∷ 9 ∷ 0 ∷ 0 ∷ 0 ∷ 0 ∷ []) ∷ [];
@@ -48,7 +50,7 @@ source-shows : shown (runProgram source kernel (opening ++ move 1 0 ∷ move 0 0
 source-shows = refl
 
 -- MFENCE first, which is not counted in the LOAD's place; lane 0 has not ended
-tso-shows : shown (runProgram (target tso) kernel (opening ++ move 1 0 ∷ move 1 0 ∷ move 0 1 ∷ [])) ≡ record {
+tso-shows : shown (runProgram (Target Tso) kernel (opening ++ move 1 0 ∷ move 1 0 ∷ move 0 1 ∷ [])) ≡ record {
   row = took 0 4 5 ∷ took 1 2 9 ∷ [];
   finished = false;
   regs = (0 ∷ 5 ∷ 5 ∷ 0 ∷ 0 ∷ 0 ∷ 0 ∷ 0 ∷ []) ∷ (9 ∷ 0 ∷ 0 ∷ 9 ∷ 0 ∷ 0 ∷ 0 ∷ 0 ∷ []) ∷ [];
@@ -64,21 +66,21 @@ tso-shows = refl
 abbrev number : Machine → Move → ℕ
 number m mv = runProgram m kernel (mv ∷ []) .number
 
-source-limits : map (number source) (move 0 64 ∷ move 0 65 ∷ move 1 64 ∷ move 2 0 ∷ []) ≡ 0 ∷ 10 ∷ 0 ∷ 10 ∷ []
+source-limits : map (number Source) (move 0 64 ∷ move 0 65 ∷ move 1 64 ∷ move 2 0 ∷ []) ≡ 0 ∷ 10 ∷ 0 ∷ 10 ∷ []
 source-limits = refl
 
-tso-limits : map (number (target tso)) (move 0 1 ∷ move 0 2 ∷ move 1 1 ∷ move 2 0 ∷ []) ≡ 0 ∷ 10 ∷ 0 ∷ 10 ∷ []
+tso-limits : map (number (Target Tso)) (move 0 1 ∷ move 0 2 ∷ move 1 1 ∷ move 2 0 ∷ []) ≡ 0 ∷ 10 ∷ 0 ∷ 10 ∷ []
 unfolding readSheet sheetBytes stands due rowsTo
 tso-limits = refl
 
 -- a legal schedule counts as itself, another as the empty one
 source-counts :
-    map (countsAs source kernel) ((move 1 64 ∷ move 0 2 ∷ []) ∷ (move 0 0 ∷ move 0 65 ∷ []) ∷ (move 2 0 ∷ []) ∷ [])
+    map (countsAs Source kernel) ((move 1 64 ∷ move 0 2 ∷ []) ∷ (move 0 0 ∷ move 0 65 ∷ []) ∷ (move 2 0 ∷ []) ∷ [])
     ≡ (move 1 64 ∷ move 0 2 ∷ []) ∷ [] ∷ [] ∷ []
 source-counts = refl
 
 tso-counts :
-    map (countsAs (target tso) kernel) ((move 1 1 ∷ move 0 0 ∷ []) ∷ (move 0 0 ∷ move 0 2 ∷ []) ∷ (move 2 0 ∷ []) ∷ [])
+    map (countsAs (Target Tso) kernel) ((move 1 1 ∷ move 0 0 ∷ []) ∷ (move 0 0 ∷ move 0 2 ∷ []) ∷ (move 2 0 ∷ []) ∷ [])
     ≡ (move 1 1 ∷ move 0 0 ∷ []) ∷ [] ∷ [] ∷ []
 tso-counts = refl
 
@@ -94,6 +96,6 @@ sum =
       lanes = (Set 6 4294967295 ∷ Set 7 3 ∷ Add 6 7 ∷ []) ∷ [];
     }
 
-add-holds : shown (runProgram source sum (move 0 0 ∷ move 0 0 ∷ move 0 0 ∷ [])) .regs
+add-holds : shown (runProgram Source sum (move 0 0 ∷ move 0 0 ∷ move 0 0 ∷ [])) .regs
     ≡ (0 ∷ 0 ∷ 0 ∷ 0 ∷ 0 ∷ 0 ∷ 2 ∷ 3 ∷ []) ∷ []
 add-holds = refl

@@ -73,4 +73,5 @@ module _ {s order place ends : List ℕ} (st : Structured s) (o : Ordered s orde
       → l₃ ≡ over (chainBytes (programOf s)) buffer
   chains-from en els eks em buffer room =
       chains-put s (st .fields .header) first-is (lane-count-is st o 1 (omega arith))
-      (lane-count-is st o 2 (omega arith)) (lane-count-is st o 3 (omega arith)) en els eks em buffer (omega (arith, chains-counted))
+      (lane-count-is st o 2 (omega arith)) (lane-count-is st o 3 (omega arith)) en els eks em buffer
+      (omega (arith, chains-counted))

@@ -25,7 +25,8 @@ module _ {n : ℕ} {rows : List ℕ} {x : Course} {h : Held} (c : CameTo n rows 
       record { file = c .file; machine = c .machine; moves = c .moves; rows = rows; stands = c .stands }
 
   pub one-more : (mv : Move) {y : Course} {e : Held}
-      → ((s : List ℕ) (m : Machine) (mvs : List Move) → Stands s m mvs rows x h → Stands s m (mvs ++ (mv ∷ [])) rows y e)
+      → ((s : List ℕ) (m : Machine) (mvs : List Move) → Stands s m mvs rows x h
+      → Stands s m (mvs ++ (mv ∷ [])) rows y e)
       → CameTo (n + 1) rows y e
   one-more mv next = record {
     file = c .file;

@@ -27,7 +27,8 @@ oldest-may Source f e = go (isSync f e)
 oldest-may (Target Tso) f e = refl
 
 -- on x86-TSO nothing else does
-pub target-may : (k : Model) (f : ℕ → Bool) (older : List Entry) (e : Entry) → mayCommit (Target k) f older e ≡ isNil older
+pub target-may : (k : Model) (f : ℕ → Bool) (older : List Entry) (e : Entry)
+    → mayCommit (Target k) f older e ≡ isNil older
 target-may Tso f older e = refl
 
 -- what is pending at an index

@@ -74,11 +74,13 @@ returns-3 c =
     let s = c14 .before .before .before .before in
     let a = s .args in
     let w = a .state .now in
-    let entry = ap₂ entryOf (c2 .before .before .before .before .word-at .ensures) (c2 .before .before .word-at2 .ensures) in
+    let entry = ap₂ entryOf (c2 .before .before .before .before .word-at .ensures)
+    (c2 .before .before .word-at2 .ensures) in
     let settled = shared (ap (landed (stateIn w .memory)) entry) (ap (freed (stateIn w .locks)) entry)
     (c2 .settle .ensures) in
     let rest : Lane → List Entry = λ l. without (a .index) (laneIn l .pending) in
-    let left = ap (λ l. l .pending) (c2 .before .before .before .before .before .before .commit .ensures) ∙ ap rest (c9 .take .ensures) in
+    let left = ap (λ l. l .pending) (c2 .before .before .before .before .before .before .commit .ensures)
+    ∙ ap rest (c9 .take .ensures) in
     commit-does (a .machine) _ w (a .t) (a .index) _ _
     (omega (arith, c14 .if1 .left, c14 .before .count .ensures .0))
     (granted (c9 .before .before .before .may-commit .ensures) (c9 .before .before .if2 .left))
