@@ -8,8 +8,8 @@ use lib.Dec.{eqb}
 use lib.ListN.{length, getD, take, drop, replicate}
 use Rattle.file_verdict.specs.Verdict.{verdict}
 use Rattle.sheet_format.specs.Levels.{Level, level1, level2}
-use Rattle.sheet_format.specs.declared.Lowered.{Lowered}
-use Rattle.sheet_format.specs.declared.Lowered.the-variants.{Wrote, Refuses}
+use Rattle.sheet_format.specs.declared.WriteResult.{WriteResult}
+use Rattle.sheet_format.specs.declared.WriteResult.the-variants.{Wrote, Refuses}
 use Rattle.sheet_format.specs.Bytes.{lowerBy}
 use Rattle.text_listing.specs.Listing.{printed}
 use Rattle.machine_spec.specs.declared.Machine.{Machine}
@@ -50,11 +50,11 @@ abbrev rows : ℕ → List ℕ → List (ℕ × ℕ)
 rows zero b = []
 rows (suc n) b = (getD b 0 0, getD b 4 0) ∷ rows n (drop 8 b)
 
-abbrev instructionsIn : Lowered → List ℕ → List (ℕ × ℕ)
+abbrev instructionsIn : WriteResult → List ℕ → List (ℕ × ℕ)
 instructionsIn (Wrote n) b = rows ((n - 16) / 8) (drop 16 b)
 instructionsIn (Refuses n r) b = []
 
-abbrev instructions : Lowered × List ℕ → List (ℕ × ℕ)
+abbrev instructions : WriteResult × List ℕ → List (ℕ × ℕ)
 instructions r = instructionsIn (r .0) (r .1)
 
 abbrev pub register1 : Answer → List ℕ

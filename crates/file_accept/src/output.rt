@@ -8,7 +8,7 @@ use crate::accept::accept;
 use bytes::copy;
 use file_verdict::number::number_of;
 use file_verdict::number::record_of;
-use sheet_format::Lowered;
+use sheet_format::WriteResult;
 use sheet_rows::parts::parts_of;
 
 // How many bytes the rows take that begin with their header.
@@ -23,19 +23,19 @@ fn size_of(rows: &[u8]) -> usize
 }
 
 // The chains at the front of `out`; a refusal, 9 for a buffer that is too short, leaves `out` as it was.
-pub fn chain_file(file: &[u8], out: &mut [u8]) -> Lowered
+pub fn chain_file(file: &[u8], out: &mut [u8]) -> WriteResult
     ensures { λ r. ⌜ (r, now (out .exit)) ≡ chainBy (verdict (now (file .entry))) (now (out .entry)) ⌝ }
 {
     let mut rows = [0u8; 2064];
     let refusal = accept(file, &mut rows);
     let number = number_of(refusal);
     if number != 0 {
-        return Lowered::Refuses(number, record_of(refusal));
+        return WriteResult::Refuses(number, record_of(refusal));
     }
     let size = size_of(&rows);
     if out.len() < size {
-        return Lowered::Refuses(9, 0);
+        return WriteResult::Refuses(9, 0);
     }
     copy(&rows[..size], out);
-    Lowered::Wrote(size)
+    WriteResult::Wrote(size)
 }

@@ -5,7 +5,7 @@ use lib.ListN.{length}
 use Rattle.file_format.specs.Fields.{head}
 use Rattle.file_format.specs.Accepted.{Program, opsAt}
 use Rattle.file_verdict.specs.Verdict.{Verdict}
-use Rattle.sheet_format.specs.declared.Lowered.{Lowered}
+use Rattle.sheet_format.specs.declared.WriteResult.{WriteResult}
 use Rattle.sheet_format.specs.Layout.{Instr, op}
 use Rattle.sheet_format.specs.Levels.{level1}
 use Rattle.sheet_format.specs.Bytes.{joined, laneBytes, headerBy, answerBy}
@@ -22,7 +22,7 @@ chainBytes k =
     ++ joined (map (laneBytes level1) (chainLanes k))
 
 -- the answer on a file, and the output buffer after
-abbrev pub chainBy : Verdict → List ℕ → Lowered × List ℕ
+abbrev pub chainBy : Verdict → List ℕ → WriteResult × List ℕ
 chainBy = answerBy chainBytes
 
 -- ## the same of the file's records

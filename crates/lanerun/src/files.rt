@@ -1,5 +1,5 @@
 // The kernel file and the schedule that the arguments name.
-use crate::tell::run_moves;
+use crate::tell::run_and_tell;
 use console::files::read_named;
 use console::print::say;
 use console::print::say_number;
@@ -43,7 +43,7 @@ fn run_text(machine: Machine, file: &[u8], text: &[u8]) {
     let mut moves = io::large_buffer();
     let answer = read_schedule(text, &mut moves);
     match answer {
-        Read::Moves(size) => run_moves(machine, file, &moves[..size]),
+        Read::Moves(size) => run_and_tell(machine, file, &moves[..size]),
         Read::Malformed(line) => say_malformed(line),
         Read::TooLong => say(b"schedule longer than 65535 bytes\n"),
     }

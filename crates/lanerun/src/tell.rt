@@ -16,19 +16,19 @@ use machine_course::fold::fold_move;
 use machine_course::record::write_record;
 use machine_spec::Machine;
 use machine_state::state::State;
-use sheet_format::Lowered;
+use sheet_format::WriteResult;
 use text_run::moves::tell_move;
 use text_run::states::tell_state;
 
 // The whole schedule first: a refusal carries out nothing.
-pub(crate) fn run_moves(machine: Machine, file: &[u8], moves: &[u8])
+pub(crate) fn run_and_tell(machine: Machine, file: &[u8], moves: &[u8])
     requires { ⌜ length (now moves) ≤ 65536 ⌝ }
 {
     let mut end = [0u8; 2280];
     let answer = run_file(machine, file, moves, &mut end);
     match answer {
-        Lowered::Wrote(_) => tell_run(machine, file, moves, &end),
-        Lowered::Refuses(number, rec) => say_refusal(number, rec),
+        WriteResult::Wrote(_) => tell_run(machine, file, moves, &end),
+        WriteResult::Refuses(number, rec) => say_refusal(number, rec),
     }
 }
 

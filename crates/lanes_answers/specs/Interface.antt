@@ -3,8 +3,8 @@ use Prim.Native.Nat.{ℕ, _+_, _*_, _^_, _≤_}
 use mathlib.Core.List.{List}
 use Rattle.file_verdict.specs.Verdict.{Verdict, verdict}
 use Rattle.sheet_format.specs.Levels.{Level, level1, level2}
-use Rattle.sheet_format.specs.declared.Lowered.{Lowered}
-use Rattle.sheet_format.specs.declared.Lowered.the-variants.{Wrote, Refuses}
+use Rattle.sheet_format.specs.declared.WriteResult.{WriteResult}
+use Rattle.sheet_format.specs.declared.WriteResult.the-variants.{Wrote, Refuses}
 use Rattle.sheet_format.specs.Bytes.{lowerBy}
 use Rattle.machine_spec.specs.declared.Machine.{Machine}
 use Rattle.machine_spec.specs.declared.Machine.the-variants.{Source, Target}
@@ -15,12 +15,12 @@ use Rattle.lanes_answers.specs.Calls.{runFileBy}
 abbrev pub packed : ℕ → ℕ → ℕ
 packed n r = n * 2 ^ 32 + r
 
-abbrev pub packedLowering : Lowered → ℕ
+abbrev pub packedLowering : WriteResult → ℕ
 packedLowering (Wrote n) = n
 packedLowering (Refuses n r) = packed n r
 
 -- an answer that fits 64 bits so
-abbrev pub Small : Lowered → Type 0
+abbrev pub Small : WriteResult → Type 0
 Small (Wrote n) = Unit {0}
 Small (Refuses n r) = (n ≤ 10) × (r ≤ 256)
 

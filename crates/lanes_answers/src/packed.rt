@@ -1,15 +1,15 @@
 // What C is given of an answer.
 ghost use mathlib.Core.Path.{_≡_};
 ghost use Rattle.lanes_answers.specs.Interface.{Small, packedLowering};
-use sheet_format::Lowered;
+use sheet_format::WriteResult;
 
 // The answer as one number: the bytes written, or number × 2^32 + record.
-pub fn packed(answer: Lowered) -> u64
+pub fn packed(answer: WriteResult) -> u64
     requires { ⌜ Small answer ⌝ }
     ensures { λ r. ⌜ r ≡ packedLowering answer ⌝ }
 {
     match answer {
-        Lowered::Wrote(n) => n as u64,
-        Lowered::Refuses(number, rec) => number as u64 * 4294967296 + rec as u64,
+        WriteResult::Wrote(n) => n as u64,
+        WriteResult::Refuses(number, rec) => number as u64 * 4294967296 + rec as u64,
     }
 }

@@ -1,6 +1,6 @@
 // Prints the level 2 sheet of the kernel file on standard input, or its refusal. Of a file that is longer than every
 // kernel, which is refused by its header or its length, the first 3,089 bytes are enough.
-use sheet_format::Lowered;
+use sheet_format::WriteResult;
 
 const STDIN: i32 = 0;
 
@@ -12,8 +12,8 @@ fn main() {
     let mut text = io::large_buffer();
     let answer = text_kernel::print_kernel(&file[..n], &mut text);
     match answer {
-        Lowered::Wrote(size) => print(&text, size),
-        Lowered::Refuses(_, _) => return,
+        WriteResult::Wrote(size) => print(&text, size),
+        WriteResult::Refuses(_, _) => return,
     }
 }
 

@@ -8,7 +8,7 @@ use Rattle.machine_spec.specs.Schedule.{Move, move}
 use Rattle.machine_spec.specs.State.{State}
 use Rattle.machine_spec.specs.Run.{Answer}
 use Rattle.machine_lane.specs.Lanes.{laneIn}
-use Rattle.machine_state.specs.States.{Held, stateIn}
+use Rattle.machine_state.specs.States.{Blocks, stateIn}
 use Rattle.machine_record.specs.SmallStates.{Small}
 use Rattle.machine_course.specs.declared.moves.Move.{Move as Declared}
 use Rattle.machine_course.specs.declared.finish.End.{End}
@@ -29,13 +29,13 @@ pub record Fits (s : State) : Type 0 where
   pub locks : length (s .locks) ≤ 4
   pub small : Small s
 
-abbrev pub Holds : Held → End → Type 0
+abbrev pub Holds : Blocks → End → Type 0
 Holds s e = endState e ≡ stateIn s
 
 -- r is the answer a
 pub record Answers (r : Ran) (a : Answer) : Type 0 where
   pub number : r .number ≡ a .number
-  pub blames : r .rec ≡ a .blames
+  pub rec : r .rec ≡ a .rec
   pub state : endState (r .end) ≡ a .state
   pub finished : r .finished ≡ a .finished
   pub done : r .done ≡ a .done

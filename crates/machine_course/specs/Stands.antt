@@ -15,7 +15,7 @@ use Rattle.machine_lane.specs.Lanes.{flags}
 use Rattle.machine_spec.specs.declared.Machine.{Machine}
 use Rattle.machine_state.specs.declared.state.Moved.{Moved}
 use Rattle.machine_state.specs.declared.state.Moved.the-variants.{Waited, Done, ReleaseNotHeld}
-use Rattle.machine_state.specs.States.{Held, countOf, stateIn, Sized}
+use Rattle.machine_state.specs.States.{Blocks, countOf, stateIn, Sized}
 use Rattle.machine_run.specs.Runs.{ProgramAt}
 use Rattle.machine_course.specs.declared.course.Course.{Course}
 
@@ -24,7 +24,7 @@ abbrev pub answerBy : Machine → List ℕ → List Move → Answer
 answerBy m s mvs = runBy m s (verdict s) mvs
 
 -- x has the program of the accepted kernel k, whose bytes are in the rows; the store h has its lanes
-pub record Prepared (m : Machine) (k : Program) (rows : List ℕ) (x : Course) (h : Held) : Type 0 where
+pub record Prepared (m : Machine) (k : Program) (rows : List ℕ) (x : Course) (h : Blocks) : Type 0 where
   pub machine : x .machine ≡ m
   pub volatile : flags (x .volatile) ≡ volatileIn k
   pub lanes : x .lanecount ≡ length (k .lanes)
@@ -35,19 +35,19 @@ pub record Prepared (m : Machine) (k : Program) (rows : List ℕ) (x : Course) (
       → ProgramAt rows (getD (x .first) t 0) (getD (x .count) t 0) (getD (programFor m k) t [])
 
 -- the moves mvs on the file s came to x and the store h
-pub record Stands (s : List ℕ) (m : Machine) (mvs : List Move) (rows : List ℕ) (x : Course) (h : Held) : Type 0 where
+pub record Stands (s : List ℕ) (m : Machine) (mvs : List Move) (rows : List ℕ) (x : Course) (h : Blocks) : Type 0 where
   pub sized : Sized h
   pub few : x .done + x .waited ≤ length mvs
   pub counted : x .number ≡ 0 → x .done + x .waited ≡ length mvs
   pub number : x .number ≡ answerBy m s mvs .number
-  pub blames : x .rec ≡ answerBy m s mvs .blames
+  pub rec : x .rec ≡ answerBy m s mvs .rec
   pub done : x .done ≡ answerBy m s mvs .done
   pub waited : x .waited ≡ answerBy m s mvs .waited
   pub state : stateIn h ≡ answerBy m s mvs .state
   pub prepared : (k : Program) → verdict s ≡ accepted k → Prepared m k rows x h
 
 -- some moves on some file, so few that one more can be counted
-pub record Standing (rows : List ℕ) (x : Course) (h : Held) : Type 0 where
+pub record Standing (rows : List ℕ) (x : Course) (h : Blocks) : Type 0 where
   pub file : List ℕ
   pub machine : Machine
   pub moves : List Move
@@ -55,7 +55,7 @@ pub record Standing (rows : List ℕ) (x : Course) (h : Held) : Type 0 where
   pub small : length moves < 2 ^ 62
 
 -- some moves on some file
-pub record Judged (x : Course) (h : Held) : Type 0 where
+pub record Judged (x : Course) (h : Blocks) : Type 0 where
   pub file : List ℕ
   pub machine : Machine
   pub moves : List Move
@@ -137,12 +137,12 @@ pub record Sets (m : Machine) (mask : ℕ) (rows : List ℕ) (x : Course) : Type
 -- ## the start
 
 -- e is the start of n lanes, ls locations and ks locks, where an array has room for them
-pub record Started (n ls ks : ℕ) (e : Held) : Type 0 where
+pub record Started (n ls ks : ℕ) (e : Blocks) : Type 0 where
   pub sized : Sized e
   pub lanes : countOf e 0 ≡ n
   pub state : n ≤ 4 → ls ≤ 64 → ks ≤ 64 → stateIn e ≡ startState n (replicate ls 0) ks
 
 -- that of a file that is refused with number n
-pub record RefusedStart (s : List ℕ) (n : ℕ) (e : Held) : Type 0 where
+pub record RefusedStart (s : List ℕ) (n : ℕ) (e : Blocks) : Type 0 where
   pub sized : Sized e
   pub state : (r : ℕ) → verdict s ≡ refused n r → stateIn e ≡ refusedStart s n

@@ -12,7 +12,7 @@ use crate::start::start;
 use machine_spec::Machine;
 use machine_start::program::program_of;
 use machine_state::state::State;
-use sheet_format::Lowered;
+use sheet_format::WriteResult;
 use sheet_rows::read::byte_at;
 use sheet_rows::read::word_at;
 
@@ -51,11 +51,11 @@ pub fn begin(machine: Machine, file: &[u8], rows: &mut Rows, state: &mut State) 
 {
     let answer = program_of(machine, file, rows);
     match answer {
-        Lowered::Refuses(number, rec) => {
+        WriteResult::Refuses(number, rec) => {
             start_refused(file, number, state);
             blocked(machine, number, rec)
         }
-        Lowered::Wrote(_) => {
+        WriteResult::Wrote(_) => {
             start_rows(rows, state);
             underway(machine, word_at(file, 4), rows)
         }

@@ -9,7 +9,7 @@ use lib.Dec.{eqb}
 use lib.ListN.{length, getD, getElem?, take, drop}
 use Rattle.file_format.specs.Fields.{byte}
 use Rattle.file_format.proofs.Laws.Lists.{at-some}
-use Rattle.sheet_format.specs.Bytes.{word, quad}
+use Rattle.sheet_format.specs.Bytes.{wordBytes, quadBytes}
 use Rattle.sheet_format.specs.Put.{inTurn}
 use Rattle.machine_spec.specs.Entries.{Entry, write, release}
 use Rattle.machine_spec.specs.Shape.{EntrySmall, AllSmall}
@@ -31,30 +31,31 @@ use Rattle.machine_record.proofs.Laws.Has.{has-word, has-low, has-quad}
 module _ (l : Lane) where
   -- what stands before its registers, and they
   abbrev front : List ℕ
-  front = word (l .control .pos) ++ word (length (l .pending))
+  front = wordBytes (l .control .pos) ++ wordBytes (length (l .pending))
 
   abbrev registers : List ℕ
-  registers = inTurn (λ r. quad (getD (l .regs) r 0)) 8
+  registers = inTurn (λ r. quadBytes (getD (l .regs) r 0)) 8
 
   abbrev entries : List ℕ
   entries = entriesBytes 64 (l .pending)
 
-  lane-position : Has (stateLane l) 0 (word (l .control .pos))
+  lane-position : Has (stateLane l) 0 (wordBytes (l .control .pos))
   unfolding stateLane
   lane-position =
-      has-front (word (length (l .pending)) ++ registers ++ entries) (has-whole (word (l .control .pos))) (omega arith)
+      has-front (wordBytes (length (l .pending)) ++ registers ++ entries)
+      (has-whole (wordBytes (l .control .pos))) (omega arith)
 
-  lane-count : Has (stateLane l) 2 (word (length (l .pending)))
+  lane-count : Has (stateLane l) 2 (wordBytes (length (l .pending)))
   unfolding stateLane
   lane-count =
-      has-behind (word (l .control .pos))
-      (has-front (registers ++ entries) (has-whole (word (length (l .pending)))) (omega arith))
+      has-behind (wordBytes (l .control .pos))
+      (has-front (registers ++ entries) (has-whole (wordBytes (length (l .pending)))) (omega arith))
 
-  lane-register : (r : ℕ) → r < 8 → Has (stateLane l) (4 + 4 * r) (quad (getD (l .regs) r 0))
+  lane-register : (r : ℕ) → r < 8 → Has (stateLane l) (4 + 4 * r) (quadBytes (getD (l .regs) r 0))
   unfolding stateLane inTurn
   lane-register r h =
       has-behind front
-      (has-front entries (has-turn (λ i. quad (getD (l .regs) i 0)) 4 (λ j. refl) 8 r h) (omega arith))
+      (has-front entries (has-turn (λ i. quadBytes (getD (l .regs) i 0)) 4 (λ j. refl) 8 r h) (omega arith))
 
   lane-place : (i : ℕ) → i < 64 → Has (stateLane l) (36 + 8 * i) (placeBytes (getElem? (l .pending) i))
   unfolding stateLane entriesBytes inTurn
@@ -72,7 +73,7 @@ flag-back false = refl
 entry-back : {s : List ℕ} {from : ℕ} (e : Entry) → EntrySmall 16 4 e → Has s from (entryBytes e) → entryIn s from ≡ e
 entry-back {s} {from} (write x v) small h =
     let kind : byte s from ≡ 1 = rw (add-zero from) at (h .at 0 (omega arith)) in
-    let within = has-within h (has-behind (1 ∷ x ∷ 0 ∷ 0 ∷ []) (has-whole (quad v))) (omega arith) in
+    let within = has-within h (has-behind (1 ∷ x ∷ 0 ∷ 0 ∷ []) (has-whole (quadBytes v))) (omega arith) in
     rw (kind, h .at 1 (omega arith), has-quad within (small .1)) refl
 entry-back {s} {from} (release l) small h =
     let kind : byte s from ≡ 2 = rw (add-zero from) at (h .at 0 (omega arith)) in
@@ -99,18 +100,18 @@ module _ (a : Answer) where
       let turn = has-turn (λ i. getD (a .state .locks) i 0 ∷ []) 1 (λ j. refl) 4 l h in
       has-behind (take 4 head) (has-front (drop 8 head) (rw (one-mul l) at turn) (omega arith))
 
-  head-memory : (x : ℕ) → x < 16 → Has head (memoryFrom x) (quad (getD (a .state .memory) x 0))
+  head-memory : (x : ℕ) → x < 16 → Has head (memoryFrom x) (quadBytes (getD (a .state .memory) x 0))
   unfolding headBytes inTurn
   head-memory x h =
-      has-behind (take 24 head) (has-turn (λ i. quad (getD (a .state .memory) i 0)) 4 (λ j. refl) 16 x h)
+      has-behind (take 24 head) (has-turn (λ i. quadBytes (getD (a .state .memory) i 0)) 4 (λ j. refl) 16 x h)
 
-  head-done : Has head doneFrom (quad (a .done))
+  head-done : Has head doneFrom (quadBytes (a .done))
   unfolding headBytes inTurn
-  head-done = has-behind (take 8 head) (has-front (drop 12 head) (has-whole (quad (a .done))) (omega arith))
+  head-done = has-behind (take 8 head) (has-front (drop 12 head) (has-whole (quadBytes (a .done))) (omega arith))
 
-  head-waited : Has head waitedFrom (quad (a .waited))
+  head-waited : Has head waitedFrom (quadBytes (a .waited))
   unfolding headBytes inTurn
-  head-waited = has-behind (take 16 head) (has-front (drop 20 head) (has-whole (quad (a .waited))) (omega arith))
+  head-waited = has-behind (take 16 head) (has-front (drop 20 head) (has-whole (quadBytes (a .waited))) (omega arith))
 
   -- of the counts of moves, the low halves
   pub done-low : fieldsIn (stateBytes a) .done ≡ a .done % 2 ^ 32
@@ -140,10 +141,10 @@ module _ (a : Answer) where
         (has-turn (λ j. stateLane (laneAt (a .state) j)) laneSize (λ j. lane-length (laneAt (a .state) j)) 4 t there))
         has (omega arith)
 
-    position-in : Has (stateBytes a) (positionFrom t) (word (lane .control .pos))
+    position-in : Has (stateBytes a) (positionFrom t) (wordBytes (lane .control .pos))
     position-in = rw (add-zero (laneFrom t)) at (in-lane (lane-position lane) (omega arith))
 
-    register-in : (r : ℕ) → r < 8 → Has (stateBytes a) (registerFrom t r) (quad (getD (lane .regs) r 0))
+    register-in : (r : ℕ) → r < 8 → Has (stateBytes a) (registerFrom t r) (quadBytes (getD (lane .regs) r 0))
     register-in r h =
         let e : laneFrom t + (4 + 4 * r) ≡ registerFrom t r = omega arith in
         rw e at (in-lane (lane-register lane r h) (omega arith))

@@ -3,15 +3,15 @@ use Prim.Native.Nat.{ℕ}
 use mathlib.Core.List.{List, _∷_, _++_}
 use mathlib.Core.Option.{Option, none, some}
 use lib.ListN.{length, getD, getElem?, replicate}
-use Rattle.sheet_format.specs.Bytes.{word, quad}
+use Rattle.sheet_format.specs.Bytes.{wordBytes, quadBytes}
 use Rattle.sheet_format.specs.Put.{inTurn}
 use Rattle.machine_spec.specs.Entries.{Entry, write, release}
 use Rattle.machine_spec.specs.State.{Lane}
 
 -- kind (1 store, 2 release), location or lock, two zero bytes, value
 abbrev pub entryBytes : Entry → List ℕ
-entryBytes (write x v) = 1 ∷ x ∷ 0 ∷ 0 ∷ quad v
-entryBytes (release l) = 2 ∷ l ∷ 0 ∷ 0 ∷ quad 0
+entryBytes (write x v) = 1 ∷ x ∷ 0 ∷ 0 ∷ quadBytes v
+entryBytes (release l) = 2 ∷ l ∷ 0 ∷ 0 ∷ quadBytes 0
 
 -- a place for an entry: zero where there is none
 abbrev pub placeBytes : Option Entry → List ℕ
@@ -25,5 +25,5 @@ entriesBytes n es = inTurn (λ i. placeBytes (getElem? es i)) n
 -- position, number of pending entries, registers, entries
 unfoldable pub stateLane : Lane → List ℕ
 stateLane l =
-    word (l .control .pos) ++ word (length (l .pending)) ++ inTurn (λ i. quad (getD (l .regs) i 0)) 8
+    wordBytes (l .control .pos) ++ wordBytes (length (l .pending)) ++ inTurn (λ i. quadBytes (getD (l .regs) i 0)) 8
     ++ entriesBytes 64 (l .pending)

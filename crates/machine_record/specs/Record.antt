@@ -3,7 +3,7 @@ use Prim.Native.Nat.{ℕ, _/_, _^_}
 use mathlib.Core.Bool.{Bool, cond}
 use mathlib.Core.List.{List, [], _∷_, _++_}
 use lib.ListN.{getD}
-use Rattle.sheet_format.specs.Bytes.{quad}
+use Rattle.sheet_format.specs.Bytes.{quadBytes}
 use Rattle.sheet_format.specs.Put.{inTurn}
 use Rattle.machine_spec.specs.State.{State, laneAt}
 use Rattle.machine_spec.specs.Run.{Answer}
@@ -11,7 +11,7 @@ use Rattle.machine_record.specs.Lanes.{stateLane}
 
 -- 64 bits
 abbrev pub double : ℕ → List ℕ
-double n = quad n ++ quad (n / 2 ^ 32)
+double n = quadBytes n ++ quadBytes (n / 2 ^ 32)
 
 abbrev pub flag : Bool → ℕ
 flag b = cond b 1 0
@@ -22,7 +22,7 @@ headBytes finished done waited memory locks =
     flag finished ∷ 0 ∷ 0 ∷ 0
     ∷ inTurn (λ i. getD locks i 0 ∷ []) 4
     ++ double done ++ double waited
-    ++ inTurn (λ i. quad (getD memory i 0)) 16
+    ++ inTurn (λ i. quadBytes (getD memory i 0)) 16
 
 -- what comes before the lanes, and the lanes; what the kernel does not have is zero
 unfoldable pub recordOf : Bool → ℕ → ℕ → State → List ℕ

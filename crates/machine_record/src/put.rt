@@ -3,7 +3,7 @@ ghost use mathlib.Core.Path.{_≡_};
 ghost use mathlib.Core.List.{[], _∷_, _++_};
 ghost use Prim.Native.Nat.{_+_, _*_, _≤_};
 ghost use lib.ListN.{length, getD};
-ghost use Rattle.sheet_format.specs.Bytes.{word, quad};
+ghost use Rattle.sheet_format.specs.Bytes.{wordBytes, quadBytes};
 ghost use Rattle.sheet_format.specs.Put.{Puts, inTurn};
 use sheet_rows::number::low;
 use sheet_rows::number::wide;
@@ -22,7 +22,7 @@ pub fn put_four(out: &mut [u8], at: usize, a: u8, b: u8, c: u8, d: u8) -> usize
 // Two numbers of 16 bits.
 pub fn put_words(out: &mut [u8], at: usize, a: usize, b: usize) -> usize
     requires { ⌜ at + 4 ≤ length (now out) ⌝ }
-    ensures { λ r. ⌜ Puts (now (out .entry)) at (word a ++ word b) (now (out .exit)) r ⌝ }
+    ensures { λ r. ⌜ Puts (now (out .entry)) at (wordBytes a ++ wordBytes b) (now (out .exit)) r ⌝ }
 {
     put_four(out, at, low(a), low(a / 256), low(b), low(b / 256))
 }
@@ -30,7 +30,7 @@ pub fn put_words(out: &mut [u8], at: usize, a: usize, b: usize) -> usize
 // A number of 32 bits.
 pub fn put_quad(out: &mut [u8], at: usize, n: usize) -> usize
     requires { ⌜ at + 4 ≤ length (now out) ⌝ }
-    ensures { λ r. ⌜ Puts (now (out .entry)) at (quad n) (now (out .exit)) r ⌝ }
+    ensures { λ r. ⌜ Puts (now (out .entry)) at (quadBytes n) (now (out .exit)) r ⌝ }
 {
     put_words(out, at, n, n / 65536)
 }
@@ -46,7 +46,7 @@ pub fn word_at(words: &[u32], i: usize) -> usize
 pub fn put_table(out: &mut [u8], at: usize, words: &[u32], n: usize) -> usize
     requires { ⌜ at + 4 * n ≤ length (now out) ⌝ }
     ensures { λ r. ⌜ Puts (now (out .entry)) at
-        (inTurn (λ i. quad (getD (now (words .entry)) i 0)) n) (now (out .exit)) r ⌝ }
+        (inTurn (λ i. quadBytes (getD (now (words .entry)) i 0)) n) (now (out .exit)) r ⌝ }
 {
     let mut next = at;
     let mut i = 0;

@@ -2,7 +2,7 @@
 ghost use mathlib.Core.Path.{_≡_};
 ghost use Prim.Native.Nat.{_+_, _≤_};
 ghost use lib.ListN.{length, getD};
-ghost use Rattle.sheet_format.specs.Bytes.{quad, over};
+ghost use Rattle.sheet_format.specs.Bytes.{quadBytes, over};
 ghost use Rattle.sheet_format.specs.Put.{Puts, inTurn};
 ghost use Rattle.machine_spec.specs.State.{laneAt};
 ghost use Rattle.machine_state.specs.States.{stateIn, Sized, Lies};
@@ -50,7 +50,7 @@ fn put_memory(out: &mut [u8], at: usize, state: &State) -> usize
     requires room { ⌜ at + 64 ≤ length (now out) ⌝ }
     requires sized { ⌜ Sized (now state) ⌝ }
     ensures { λ r. ⌜ Puts (now (out .entry)) at
-        (inTurn (λ i. quad (getD (stateIn (now (state .entry)) .memory) i 0)) 16) (now (out .exit)) r ⌝ }
+        (inTurn (λ i. quadBytes (getD (stateIn (now (state .entry)) .memory) i 0)) 16) (now (out .exit)) r ⌝ }
 {
     let mut next = at;
     let mut x = 0u8;

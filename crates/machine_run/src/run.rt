@@ -3,7 +3,7 @@ ghost use mathlib.Core.List.{List};
 ghost use Rattle.sheet_format.specs.Layout.{Instr};
 ghost use Rattle.machine_lane.specs.Lanes.{flags};
 ghost use Rattle.machine_spec.specs.Moves.{movesIn};
-ghost use Rattle.machine_run.specs.Runs.{Runs, Runnable, Ends};
+ghost use Rattle.machine_run.specs.Runs.{RunnableBy, Runnable, Ends};
 ghost use Rattle.machine_state.specs.States.{Sized};
 use machine_spec::Machine;
 use machine_state::held::position;
@@ -18,7 +18,7 @@ pub enum Ended {
 }
 
 // A move is two bytes, a lane and a choice. The program of lane t is count[t] rows of the sheet from the byte first[t].
-pub fn run_moves(
+pub fn run_bytes(
     machine: Machine,
     volatile: &[bool],
     sheet: &[u8],
@@ -31,8 +31,8 @@ pub fn run_moves(
         × Runnable machine (flags (now volatile)) (now sheet) (now first) (now count) (movesIn (now moves))
         (now state) ⌝ }
     ensures { λ r. ⌜ ((prog : List (List Instr))
-        → Runs machine (flags (now (volatile .entry))) (now (sheet .entry)) (now (first .entry)) (now (count .entry))
-        (movesIn (now (moves .entry))) (now (state .entry)) prog
+        → RunnableBy machine (flags (now (volatile .entry))) (now (sheet .entry)) (now (first .entry))
+        (now (count .entry)) (movesIn (now (moves .entry))) (now (state .entry)) prog
         → Ends machine (flags (now (volatile .entry))) (movesIn (now (moves .entry))) prog
         (now (state .entry)) r (now (state .exit))) ⌝ }
 {

@@ -28,7 +28,7 @@ zeros-hold = refl
 abbrev eleven : Answer
 eleven = answerOf [] ((5 ∷ []) ∷ (6 ∷ 7 ∷ []) ∷ []) (startState 2 (0 ∷ []) 1) (refused 1 1)
 
-eleven-names-its-record : eleven .number ∷ eleven .blames ∷ [] ≡ 11 ∷ 7 ∷ []
+eleven-names-its-record : eleven .number ∷ eleven .rec ∷ [] ≡ 11 ∷ 7 ∷ []
 eleven-names-its-record = refl
 
 eleven-starts-again : eleven .state ≡ startState 2 (0 ∷ []) 1

@@ -128,7 +128,7 @@ single ops =
 
 record Ran : Type 0 where
   number : ℕ
-  blames : ℕ
+  rec : ℕ
   done : ℕ
   waited : ℕ
   finished : Bool
@@ -142,7 +142,7 @@ outcome m k mvs =
     let a : Answer = runProgram m k mvs in
     record {
       number = a .number;
-      blames = a .blames;
+      rec = a .rec;
       done = a .done;
       waited = a .waited;
       finished = a .finished;
@@ -157,7 +157,7 @@ abbrev ends : ℕ → ℕ → Bool → Bool → List Loaded → List ℕ → Lis
 ends d w f e row m ls =
     record {
       number = 0;
-      blames = 0;
+      rec = 0;
       done = d;
       waited = w;
       finished = f;
@@ -172,7 +172,7 @@ abbrev refuse : ℕ → ℕ → List ℕ → List ℕ → Ran
 refuse n r m ls =
     record {
       number = n;
-      blames = r;
+      rec = r;
       done = 0;
       waited = 0;
       finished = false;

@@ -18,10 +18,10 @@ use Rattle.machine_spec.specs.Schedule.{Move, limit, legal}
 use Rattle.machine_spec.specs.State.{State, Loaded, Outcome, ran, refused, startState, begin, run}
 use Rattle.machine_spec.specs.View.{finished, View, viewOf}
 
--- number 0 is a success, else the paper's number of the refusal; blames is the record that it names, 0 where none
+-- number 0 is a success, else the paper's number of the refusal; rec is the record that it names, 0 where none
 pub record Answer : Type 0 where
   pub number : ℕ
-  pub blames : ℕ
+  pub rec : ℕ
   pub state : State
   pub finished : Bool
   pub done : ℕ
@@ -30,14 +30,14 @@ pub record Answer : Type 0 where
 
 -- a refusal: the start state s, not finished, nothing counted
 abbrev pub refusal : State → ℕ → ℕ → Answer
-refusal s n r = record { number = n; blames = r; state = s; finished = false; done = 0; waited = 0; row = [] }
+refusal s n r = record { number = n; rec = r; state = s; finished = false; done = 0; waited = 0; row = [] }
 
 -- records are the kernel's, lane by lane: an UNLOCK of a lock that is not held is named by its place in its lane
 abbrev pub answerOf : List (List Instr) → List (List ℕ) → State → Outcome → Answer
 answerOf prog records s (refused t p) = refusal s 11 (getD (getD records t []) p 0)
 answerOf prog records s (ran r) = record {
   number = 0;
-  blames = 0;
+  rec = 0;
   state = r .state;
   finished = finished prog (r .state);
   done = r .done;

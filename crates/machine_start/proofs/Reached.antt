@@ -25,8 +25,8 @@ use Rattle.machine_spec.specs.Run.{startOf, programFor, runOn}
 use Rattle.claims.proofs.Legal.{legal-append}
 use Rattle.claims.proofs.Laws.Lanes.{set-lane-same}
 use Rattle.machine_state.specs.Ready.{Asks, LaneReady}
-use Rattle.machine_run.specs.Runs.{ProgramAt, Runs}
-use Rattle.machine_state.specs.States.{Held, countOf, stateIn}
+use Rattle.machine_run.specs.Runs.{ProgramAt, RunnableBy}
+use Rattle.machine_state.specs.States.{Blocks, countOf, stateIn}
 use Rattle.machine_start.proofs.Named.{legal-named, legal-take}
 use Rattle.machine_start.proofs.Ranges.{Ranged, program-ranged, program-short}
 use Rattle.machine_start.proofs.Answered.{not-refused, lane-count, pending-few, stands-within}
@@ -111,11 +111,11 @@ reached-ready s k e m mvs le j mv r at re =
 
 -- the code can run the schedule from a store that holds the start, on lanes whose programs are rows of the sheet
 pub runs-by : (s : List ℕ) (k : Program) → verdict s ≡ accepted k → (m : Machine) (vol : ℕ → Bool)
-    (sheet first count : List ℕ) (mvs : List Move) (h : Held) (prog : List (List Instr))
+    (sheet first count : List ℕ) (mvs : List Move) (h : Blocks) (prog : List (List Instr))
     → vol ≡ volatileIn k → countOf h 0 ≡ length (k .lanes) → prog ≡ programFor m k → stateIn h ≡ startOf k
     → legal (length (k .lanes)) (limit m) mvs ≡ true
     → ((t : ℕ) → t < length (k .lanes) → ProgramAt sheet (getD first t 0) (getD count t 0) (getD prog t []))
-    → Runs m vol sheet first count mvs h prog
+    → RunnableBy m vol sheet first count mvs h prog
 runs-by s k e m vol sheet first count mvs h prog ve ne pe he le rows = record {
   lanes = omega (arith, ne, accepted-lawful s k e .few-lanes);
   programs = λ t l. rows t (rw ne at l);

@@ -4,7 +4,7 @@ use mathlib.Core.List.{List}
 use Rattle.file_format.specs.Accepted.{Program}
 use Rattle.file_verdict.specs.Verdict.{Verdict}
 use Rattle.sheet_format.specs.Levels.{level2}
-use Rattle.sheet_format.specs.declared.Lowered.{Lowered}
+use Rattle.sheet_format.specs.declared.WriteResult.{WriteResult}
 use Rattle.sheet_format.specs.Bytes.{sheetBytes, answerBy}
 use Rattle.machine_spec.specs.declared.Machine.{Machine}
 use Rattle.machine_spec.specs.declared.Machine.the-variants.{Source, Target}
@@ -16,5 +16,5 @@ programBytes Source k = chainBytes k
 programBytes (Target Tso) k = sheetBytes level2 k
 
 -- the answer on a file, and the buffer of rows after
-abbrev pub programBy : Machine → Verdict → List ℕ → Lowered × List ℕ
+abbrev pub programBy : Machine → Verdict → List ℕ → WriteResult × List ℕ
 programBy m = answerBy (programBytes m)

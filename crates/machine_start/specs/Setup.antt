@@ -6,15 +6,15 @@ use mathlib.Core.List.{List, []}
 use lib.ListN.{length, getD}
 use Rattle.file_format.specs.Accepted.{Program}
 use Rattle.file_verdict.specs.Verdict.{accepted, verdict}
-use Rattle.sheet_format.specs.declared.Lowered.{Lowered}
-use Rattle.sheet_format.specs.declared.Lowered.the-variants.{Wrote}
+use Rattle.sheet_format.specs.declared.WriteResult.{WriteResult}
+use Rattle.sheet_format.specs.declared.WriteResult.the-variants.{Wrote}
 use Rattle.sheet_format.specs.Levels.{volatileIn}
 use Rattle.sheet_format.specs.Bytes.{over}
 use Rattle.machine_spec.specs.Schedule.{Move, limit, legal}
 use Rattle.machine_spec.specs.Run.{startOf, programFor, runProgram}
 use Rattle.machine_spec.specs.Moves.{movesIn}
 use Rattle.machine_spec.specs.declared.Machine.{Machine}
-use Rattle.machine_state.specs.States.{Held, countOf, stateIn, Sized}
+use Rattle.machine_state.specs.States.{Blocks, countOf, stateIn, Sized}
 use Rattle.machine_run.specs.Runs.{ProgramAt}
 use Rattle.machine_record.specs.Record.{stateBytes}
 use Rattle.machine_start.specs.Programs.{programBytes}
@@ -39,7 +39,7 @@ pub record Startable (m : Machine) (mask : ℕ) (rows moves : List ℕ) : Type 0
   pub program : ProgramIn m mask rows moves file kernel
 
 -- the store h at the kernel's start, with its volatile locations and each lane's rows
-pub record Begins (m : Machine) (vol : ℕ → Bool) (rows first count : List ℕ) (mvs : List Move) (h : Held)
+pub record AtStart (m : Machine) (vol : ℕ → Bool) (rows first count : List ℕ) (mvs : List Move) (h : Blocks)
     (s : List ℕ) (k : Program) : Type 0 where
   pub schedule : Legal m mvs s k
   pub volatile : vol ≡ volatileIn k
@@ -50,11 +50,12 @@ pub record Begins (m : Machine) (vol : ℕ → Bool) (rows first count : List �
       → ProgramAt rows (getD first t 0) (getD count t 0) (getD (programFor m k) t [])
 
 -- of some file
-pub record Begun (m : Machine) (vol : ℕ → Bool) (rows first count : List ℕ) (mvs : List Move) (h : Held) : Type 0 where
+pub record Begun (m : Machine) (vol : ℕ → Bool) (rows first count : List ℕ) (mvs : List Move) (h : Blocks)
+    : Type 0 where
   pub file : List ℕ
   pub kernel : Program
-  pub begins : Begins m vol rows first count mvs h file kernel
+  pub begins : AtStart m vol rows first count mvs h file kernel
 
 -- the answer of a run that took place, and the output buffer with the state record at its front
-abbrev pub ranInto : Machine → Program → List ℕ → List ℕ → Lowered × List ℕ
+abbrev pub ranInto : Machine → Program → List ℕ → List ℕ → WriteResult × List ℕ
 ranInto m k moves buffer = (Wrote 2280, over (stateBytes (runProgram m k (movesIn moves))) buffer)

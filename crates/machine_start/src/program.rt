@@ -4,11 +4,11 @@ ghost use Rattle.file_verdict.specs.Verdict.{verdict};
 ghost use Rattle.machine_start.specs.Programs.{programBy};
 use file_accept::output::chain_file;
 use machine_spec::Machine;
-use sheet_format::Lowered;
+use sheet_format::WriteResult;
 use sheet_level2::lower::lower2;
 
 // The rows at the front of `rows`: the chains for the source machine, the level 2 sheet for the tso machine.
-pub fn program_of(machine: Machine, file: &[u8], rows: &mut [u8]) -> Lowered
+pub fn program_of(machine: Machine, file: &[u8], rows: &mut [u8]) -> WriteResult
     ensures { λ r. ⌜ (r, now (rows .exit)) ≡ programBy machine (verdict (now (file .entry)))
         (now (rows .entry)) ⌝ }
 {

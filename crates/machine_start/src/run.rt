@@ -6,12 +6,12 @@ ghost use lib.ListN.{length};
 ghost use Rattle.file_format.specs.Accepted.{Program};
 ghost use Rattle.machine_spec.specs.Moves.{movesIn};
 ghost use Rattle.machine_lane.specs.Lanes.{flags};
-ghost use Rattle.machine_start.specs.Setup.{ProgramIn, Startable, Begins, Begun, ranInto};
+ghost use Rattle.machine_start.specs.Setup.{ProgramIn, Startable, AtStart, Begun, ranInto};
 use machine_lane::flags::flags_of;
 use machine_record::state::write_state;
 use machine_run::judge::ended;
 use machine_run::run::Ended;
-use machine_run::run::run_moves;
+use machine_run::run::run_bytes;
 use machine_spec::Machine;
 use machine_state::state::COUNTS;
 use machine_state::state::LANES;
@@ -19,7 +19,7 @@ use machine_state::state::LOCATIONS;
 use machine_state::state::LOCKS;
 use machine_state::state::SHARED;
 use machine_state::state::State;
-use sheet_format::Lowered;
+use sheet_format::WriteResult;
 use sheet_rows::parts::parts_of;
 use sheet_rows::read::byte_at;
 
@@ -33,29 +33,35 @@ fn run_lanes(
     moves: &[u8],
     state: &mut State,
     out: &mut [u8],
-) -> Lowered
+) -> WriteResult
     requires room { ⌜ 2280 ≤ length (now out) ⌝ }
     requires start { ⌜ Begun machine (flags (now volatile)) (now rows) (now first) (now count) (movesIn (now moves))
         (now state) ⌝ }
     ensures { λ r. ⌜ ((s : List ℕ) (k : Program)
-        → Begins machine (flags (now (volatile .entry))) (now (rows .entry)) (now (first .entry))
+        → AtStart machine (flags (now (volatile .entry))) (now (rows .entry)) (now (first .entry))
         (now (count .entry)) (movesIn (now (moves .entry))) (now (state .entry)) s k
         → (r, now (out .exit)) ≡ ranInto machine k (now (moves .entry)) (now (out .entry))) ⌝ }
 {
-    let answer = run_moves(machine, volatile, rows, first, count, moves, state);
+    let answer = run_bytes(machine, volatile, rows, first, count, moves, state);
     match answer {
         // Never reached: no run of an accepted kernel is refused.
-        Ended::Refused(_, _) => Lowered::Refuses(11, 0),
+        Ended::Refused(_, _) => WriteResult::Refuses(11, 0),
         Ended::Ran(done, waited) => {
             let finished = ended(state, count);
             write_state(out, finished, done, waited, state);
-            Lowered::Wrote(2280)
+            WriteResult::Wrote(2280)
         }
     }
 }
 
 // Every lane at its start, nothing pending, memory and locks zero; then the run.
-pub fn run_rows(machine: Machine, mask: u32, rows: &[u8], moves: &[u8], out: &mut [u8]) -> Lowered
+pub fn run_rows(
+    machine: Machine,
+    mask: u32,
+    rows: &[u8],
+    moves: &[u8],
+    out: &mut [u8],
+) -> WriteResult
     requires room { ⌜ 2280 ≤ length (now out) ⌝ }
     requires start { ⌜ Startable machine mask (now rows) (now moves) ⌝ }
     ensures { λ r. ⌜ ((s : List ℕ) (k : Program)

@@ -7,7 +7,7 @@ use lib.ListN.{length, getElem?}
 use Rattle.file_format.specs.declared.accepted.Op.the-variants.{Set, Add, Load, Store, Lock, Unlock, Skip}
 use Rattle.sheet_format.specs.Layout.{Instr, op, barrier}
 use Rattle.machine_spec.specs.State.{Lane}
-use Rattle.machine_state.specs.States.{Held, Lies, laneOf}
+use Rattle.machine_state.specs.States.{Blocks, Lies, laneOf}
 
 -- what an instruction asks of its lane: an operand that has a cell, and room for the entry that it appends
 abbrev pub Asks : Instr → Lane → Type 0
@@ -21,7 +21,7 @@ Asks (op (Skip a t)) l = Unit {0}
 Asks (barrier b) l = Unit {0}
 
 -- lane t, one of four, can carry out the instruction; its position has a next one
-pub record Ready (s : Held) (t : ℕ) (i : Instr) : Type 0 where
+pub record Ready (s : Blocks) (t : ℕ) (i : Instr) : Type 0 where
   pub lies : Lies s t
   pub position : laneOf s t .control .pos < 65536
   pub asked : Asks i (laneOf s t)
@@ -32,6 +32,6 @@ pub record LaneReady (prog : List Instr) (l : Lane) : Type 0 where
   pub asked : (i : Instr) → getElem? prog (l .control .pos) ≡ some i → Asks i l
 
 -- lane t, one of four, can make any choice of its program
-pub record Movable (s : Held) (t : ℕ) (prog : List Instr) : Type 0 where
+pub record Movable (s : Blocks) (t : ℕ) (prog : List Instr) : Type 0 where
   pub lies : Lies s t
   pub ready : LaneReady prog (laneOf s t)

@@ -10,8 +10,8 @@ use Rattle.machine_lane.specs.Lanes.{laneIn}
 
 -- ## the layout: blocks of rows of words, four lanes and what they share. Names as in src/state.rt
 
-abbrev pub Held : Type 0
-Held = List (List (List ℕ))
+abbrev pub Blocks : Type 0
+Blocks = List (List (List ℕ))
 
 -- the rows of a lane
 abbrev pub HEAD : ℕ
@@ -53,10 +53,10 @@ LOCATIONS = 1
 abbrev pub LOCKS : ℕ
 LOCKS = 2
 
-abbrev pub rowAt : Held → ℕ → ℕ → List ℕ
+abbrev pub rowAt : Blocks → ℕ → ℕ → List ℕ
 rowAt s t j = getD (getD s t []) j []
 
-abbrev pub wordAt : Held → ℕ → ℕ → ℕ → ℕ
+abbrev pub wordAt : Blocks → ℕ → ℕ → ℕ → ℕ
 wordAt s t j i = getD (rowAt s t j) i 0
 
 -- the first n values of f
@@ -65,7 +65,7 @@ firsts zero f = []
 firsts (suc n) f = f 0 ∷ firsts n (λ i. f (suc i))
 
 -- with another word
-abbrev pub withWord : Held → ℕ → ℕ → ℕ → ℕ → Held
+abbrev pub withWord : Blocks → ℕ → ℕ → ℕ → ℕ → Blocks
 withWord s t j i x = update s t (update (getD s t []) j (update (rowAt s t j) i x))
 
 -- ## what it holds
@@ -81,14 +81,14 @@ storedIn b =
       len = getD (getD b HEAD []) LENGTH 0;
     }
 
-abbrev pub laneOf : Held → ℕ → Lane
+abbrev pub laneOf : Blocks → ℕ → Lane
 laneOf s t = laneIn (storedIn (getD s t []))
 
 -- how many lanes, locations or locks there are
-abbrev pub countOf : Held → ℕ → ℕ
+abbrev pub countOf : Blocks → ℕ → ℕ
 countOf s j = wordAt s SHARED COUNTS j
 
-abbrev pub stateIn : Held → State
+abbrev pub stateIn : Blocks → State
 stateIn s =
     record {
       lanes = take (countOf s LANES) (map (λ b. laneIn (storedIn b)) (take 4 s));
@@ -96,7 +96,7 @@ stateIn s =
       locks = take (countOf s LOCKS) (rowAt s SHARED LOCKWORDS);
     }
 
-abbrev pub coreIn : Held → ℕ → Core
+abbrev pub coreIn : Blocks → ℕ → Core
 coreIn s t =
     record {
       regs = laneOf s t .regs;
@@ -111,12 +111,12 @@ pub record Block (b : List (List ℕ)) : Type 0 where
   pub rows : length b ≡ 3
   pub words : (j : ℕ) → j < 3 → length (getD b j []) ≡ 64
 
-pub record Sized (s : Held) : Type 0 where
+pub record Sized (s : Blocks) : Type 0 where
   pub blocks : length s ≡ 5
   pub each : (t : ℕ) → t < 5 → Block (getD s t [])
 
 -- lane t of four
-pub record Lies (s : Held) (t : ℕ) : Type 0 where
+pub record Lies (s : Blocks) (t : ℕ) : Type 0 where
   pub lane : t < 4
   pub sized : Sized s
 
@@ -126,14 +126,14 @@ abbrev pub withLane : State → ℕ → Lane → State
 withLane s t l = record { lanes = update (s .lanes) t l; memory = s .memory; locks = s .locks }
 
 -- s became e: the same but for lane t, which is l
-pub record Became (s : Held) (t : ℕ) (l : Lane) (e : Held) : Type 0 where
+pub record Became (s : Blocks) (t : ℕ) (l : Lane) (e : Blocks) : Type 0 where
   pub sized : Sized e
   pub lane : laneOf e t ≡ l
   pub lanes : countOf e LANES ≡ countOf s LANES
   pub state : stateIn e ≡ withLane (stateIn s) t l
 
 -- s became e: the same but for memory and the lock words
-pub record Shared (s : Held) (memory locks : List ℕ) (e : Held) : Type 0 where
+pub record Shared (s : Blocks) (memory locks : List ℕ) (e : Blocks) : Type 0 where
   pub sized : Sized e
   pub each : (t : ℕ) → t < 4 → getD e t [] ≡ getD s t []
   pub lanes : countOf e LANES ≡ countOf s LANES

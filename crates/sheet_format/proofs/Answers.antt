@@ -11,29 +11,29 @@ use Rattle.file_format.specs.Lawful.{Lawful}
 use Rattle.file_verdict.specs.Verdict.{Verdict, refused, accepted, verdict, refusalOf, numberOf, recordOf}
 use Rattle.file_wellformed.proofs.Lawful.{accepted-lawful}
 use Rattle.file_wellformed.proofs.Named.{number-small, record-named}
-use Rattle.sheet_format.specs.declared.Lowered.{Lowered}
-use Rattle.sheet_format.specs.declared.Lowered.the-variants.{Wrote, Refuses}
+use Rattle.sheet_format.specs.declared.WriteResult.{WriteResult}
+use Rattle.sheet_format.specs.declared.WriteResult.the-variants.{Wrote, Refuses}
 use Rattle.sheet_format.specs.Levels.{Level}
 use Rattle.sheet_format.specs.Bytes.{sheetBytes, over, answerBy, lowerBy}
 use Rattle.sheet_format.proofs.Laws.Written.{written-all}
 use Rattle.sheet_format.proofs.Sizes.{sheet-small}
 
 -- the number and the record of a refusal, and which of the two an answer is
-abbrev pub numberIn : Lowered → ℕ
+abbrev pub numberIn : WriteResult → ℕ
 numberIn (Wrote n) = 0
 numberIn (Refuses n r) = n
 
-abbrev recordIn : Lowered → ℕ
+abbrev recordIn : WriteResult → ℕ
 recordIn (Wrote n) = 0
 recordIn (Refuses n r) = r
 
-abbrev pub kindOf : Lowered → ℕ
+abbrev pub kindOf : WriteResult → ℕ
 kindOf (Wrote n) = 0
 kindOf (Refuses n r) = 1
 
-apart : {m n r : ℕ} {x y : List ℕ} → _≡_ {A = Lowered × List ℕ} (Wrote m, x) (Refuses n r, y) → ⊥
+apart : {m n r : ℕ} {x y : List ℕ} → _≡_ {A = WriteResult × List ℕ} (Wrote m, x) (Refuses n r, y) → ⊥
 apart p =
-    let clash : _≡_ {A = ℕ} 0 1 = ap (λ (z : Lowered × List ℕ). kindOf (z .0)) p in
+    let clash : _≡_ {A = ℕ} 0 1 = ap (λ (z : WriteResult × List ℕ). kindOf (z .0)) p in
     absurd (omega arith)
 
 -- the file is accepted, and its kernel's bytes stand at the front of the buffer
@@ -45,17 +45,17 @@ pub record BytesIn (bytes : Program → List ℕ) (s own after : List ℕ) : Typ
 -- in a buffer of whatever length: bytes were written, or the file is refused, but for 9
 module _ (bytes : Program → List ℕ) (s own : List ℕ) where
   -- what is answered to an accepted file, by whether the buffer is too short
-  abbrev outcome : Program → Bool → Lowered × List ℕ
+  abbrev outcome : Program → Bool → WriteResult × List ℕ
   outcome k b = cond b (Refuses 9 0, own) (Wrote (length (bytes k)), over (bytes k) own)
 
   pub wrote-any : {n : ℕ} {after : List ℕ} → (Wrote n, after) ≡ answerBy bytes (verdict s) own
       → BytesIn bytes s own after
   wrote-any {n} {after} p = go (verdict s) refl p
     where
-      by : (k : Program) (b : Bool) → _≡_ {A = Lowered × List ℕ} (Wrote n, after) (outcome k b)
+      by : (k : Program) (b : Bool) → _≡_ {A = WriteResult × List ℕ} (Wrote n, after) (outcome k b)
           → after ≡ over (bytes k) own
       by k true x = absurd (apart x)
-      by k false x = ap (λ (z : Lowered × List ℕ). z .1) x
+      by k false x = ap (λ (z : WriteResult × List ℕ). z .1) x
 
       go : (v : Verdict) → verdict s ≡ v → (Wrote n, after) ≡ answerBy bytes v own → BytesIn bytes s own after
       go (refused m q) e x = absurd (apart x)
@@ -71,8 +71,8 @@ module _ (bytes : Program → List ℕ) (s own : List ℕ) where
       go : (v : Verdict) → verdict s ≡ v → (Refuses n r, after) ≡ answerBy bytes v own → verdict s ≡ refused n r
       go (refused m q) e x =
           e
-          ∙ ap₂ refused (ap (λ (z : Lowered × List ℕ). numberIn (z .0)) (sym x))
-          (ap (λ (z : Lowered × List ℕ). recordIn (z .0)) (sym x))
+          ∙ ap₂ refused (ap (λ (z : WriteResult × List ℕ). numberIn (z .0)) (sym x))
+          (ap (λ (z : WriteResult × List ℕ). recordIn (z .0)) (sym x))
       go (accepted k) e x = absurd (never k e x)
 
   pub refuses-any : {n r : ℕ} {after : List ℕ} → (n ≡ 9 → ⊥) → (Refuses n r, after) ≡ answerBy bytes (verdict s) own
@@ -80,20 +80,20 @@ module _ (bytes : Program → List ℕ) (s own : List ℕ) where
   refuses-any {n} {r} {after} other = refuses-but (λ k e. by k (ltb (length own) (length (bytes k))))
     where
       by : (k : Program) (b : Bool)
-          → _≡_ {A = Lowered × List ℕ} (Refuses n r, after) (outcome k b) → ⊥
-      by k true x = other (ap (λ (z : Lowered × List ℕ). numberIn (z .0)) x)
+          → _≡_ {A = WriteResult × List ℕ} (Refuses n r, after) (outcome k b) → ⊥
+      by k true x = other (ap (λ (z : WriteResult × List ℕ). numberIn (z .0)) x)
       by k false x = apart (sym x)
 
   -- a refusal leaves the buffer
   pub refuses-left : {n r : ℕ} {after : List ℕ} → (Refuses n r, after) ≡ answerBy bytes (verdict s) own → after ≡ own
   refuses-left {n} {r} {after} = go (verdict s)
     where
-      by : (k : Program) (b : Bool) → _≡_ {A = Lowered × List ℕ} (Refuses n r, after) (outcome k b) → after ≡ own
-      by k true x = ap (λ (z : Lowered × List ℕ). z .1) x
+      by : (k : Program) (b : Bool) → _≡_ {A = WriteResult × List ℕ} (Refuses n r, after) (outcome k b) → after ≡ own
+      by k true x = ap (λ (z : WriteResult × List ℕ). z .1) x
       by k false x = absurd (apart (sym x))
 
       go : (v : Verdict) → (Refuses n r, after) ≡ answerBy bytes v own → after ≡ own
-      go (refused m q) x = ap (λ (z : Lowered × List ℕ). z .1) x
+      go (refused m q) x = ap (λ (z : WriteResult × List ℕ). z .1) x
       go (accepted k) x = by k (ltb (length own) (length (bytes k))) x
 
 -- in a buffer that takes the bytes of every kernel
@@ -148,7 +148,7 @@ module _ (bytes : Program → List ℕ) (s buffer : List ℕ) where
   answer-by (refused n r) hn hr = (omega arith, hr)
   answer-by (accepted k) hn hr = go (ltb (length buffer) (length (bytes k)))
     where
-      by : Bool → Lowered × List ℕ
+      by : Bool → WriteResult × List ℕ
       by b = cond b (Refuses 9 0, buffer) (Wrote (length (bytes k)), over (bytes k) buffer)
 
       go : (b : Bool) → (numberIn (by b .0) ≤ 9) × (recordIn (by b .0) ≤ 256)
@@ -159,5 +159,5 @@ module _ (bytes : Program → List ℕ) (s buffer : List ℕ) where
       → (n ≤ 9) × (r ≤ 256)
   answer-small {n} {r} {after} p =
       let v = refused-small s in
-      subst (λ (z : Lowered × List ℕ). (numberIn (z .0) ≤ 9) × (recordIn (z .0) ≤ 256)) (sym p)
+      subst (λ (z : WriteResult × List ℕ). (numberIn (z .0) ≤ 9) × (recordIn (z .0) ≤ 256)) (sym p)
       (answer-by (verdict s) (v .0) (v .1))

@@ -10,7 +10,7 @@ use Rattle.barrier_placement.specs.declared.cookbook.Barrier.{Barrier}
 use Rattle.barrier_placement.specs.declared.cookbook.Barrier.the-variants.{LL, LS, SS, SL}
 use Rattle.sheet_format.specs.Layout.{Instr, op, barrier}
 use Rattle.sheet_format.specs.Levels.{Level, level1, level2, sheetLanes}
-use Rattle.sheet_format.specs.Bytes.{word, quad, row, instrBytes, joined, laneBytes, header, sheetBytes}
+use Rattle.sheet_format.specs.Bytes.{wordBytes, quadBytes, row, instrBytes, joined, laneBytes, header, sheetBytes}
 use Rattle.sheet_format.specs.Bytes.{barrierCode, levelNumber, maskAt, countBytes}
 use Rattle.sheet_format.proofs.Laws.Cells.{Each}
 use Rattle.sheet_format.proofs.Fitting.{Fits, LaneFits, lanes-fit}
@@ -33,10 +33,10 @@ small-at (x ▸ h) (suc i) = small-at h i
 low : (n : ℕ) → n % 256 < 256
 low n = omega arith
 
-pub word-small : (n : ℕ) → Small (word n)
+pub word-small : (n : ℕ) → Small (wordBytes n)
 word-small n = low n ▸ low (n / 256) ▸ none
 
-pub quad-small : (n : ℕ) → Small (quad n)
+pub quad-small : (n : ℕ) → Small (quadBytes n)
 quad-small n = small-append (word-small n) (word-small (n / 65536))
 
 pub zero-small : 0 < 256

@@ -11,21 +11,21 @@ use Rattle.file_verdict.specs.Verdict.{Verdict, refused, accepted, verdict}
 use Rattle.barrier_placement.specs.declared.cookbook.Barrier.{Barrier}
 use Rattle.barrier_placement.specs.declared.cookbook.Barrier.the-variants.{LL, LS, SS, SL}
 use Rattle.barrier_placement.specs.Cookbook.{codeOf}
-use Rattle.sheet_format.specs.declared.Lowered.{Lowered}
-use Rattle.sheet_format.specs.declared.Lowered.the-variants.{Wrote, Refuses}
+use Rattle.sheet_format.specs.declared.WriteResult.{WriteResult}
+use Rattle.sheet_format.specs.declared.WriteResult.the-variants.{Wrote, Refuses}
 use Rattle.sheet_format.specs.Layout.{Instr, op, barrier}
 use Rattle.sheet_format.specs.Levels.{Level, level1, level2, sheetLanes}
 
 -- little-endian, of 16 and of 32 bits
-abbrev pub word : ℕ → List ℕ
-word n = n % 256 ∷ n / 256 % 256 ∷ []
+abbrev pub wordBytes : ℕ → List ℕ
+wordBytes n = n % 256 ∷ n / 256 % 256 ∷ []
 
-abbrev pub quad : ℕ → List ℕ
-quad n = word n ++ word (n / 65536)
+abbrev pub quadBytes : ℕ → List ℕ
+quadBytes n = wordBytes n ++ wordBytes (n / 65536)
 
 -- operation, a, b, zero, then the constant, or for SKIP the target's position
 abbrev pub row : ℕ → ℕ → ℕ → ℕ → List ℕ
-row o a b c = o ∷ a ∷ b ∷ 0 ∷ quad c
+row o a b c = o ∷ a ∷ b ∷ 0 ∷ quadBytes c
 
 abbrev pub opBytes : Op → List ℕ
 opBytes (Set a c) = row 1 a 0 c
@@ -66,12 +66,12 @@ maskAt level2 k = 0
 
 -- a lane's instruction count in two bytes, zero for lanes that are not there
 abbrev pub countBytes : List (List Instr) → ℕ → List ℕ
-countBytes lanes t = word (length (getD lanes t []))
+countBytes lanes t = wordBytes (length (getD lanes t []))
 
 -- T, L, K, level, mask, two zero bytes, four counts
 abbrev pub headerBy : ℕ → ℕ → ℕ → ℕ → ℕ → List (List Instr) → List ℕ
 headerBy t ls ks level mask lanes =
-    t ∷ ls ∷ ks ∷ level ∷ word mask ++ 0 ∷ 0 ∷ joined (map (countBytes lanes) (0 ∷ 1 ∷ 2 ∷ 3 ∷ []))
+    t ∷ ls ∷ ks ∷ level ∷ wordBytes mask ++ 0 ∷ 0 ∷ joined (map (countBytes lanes) (0 ∷ 1 ∷ 2 ∷ 3 ∷ []))
 
 abbrev pub header : Level → Program → List (List Instr) → List ℕ
 header l k = headerBy (length (k .lanes)) (k .locations) (k .locks) (levelNumber l) (maskAt l k)
@@ -84,21 +84,21 @@ abbrev pub over : List ℕ → List ℕ → List ℕ
 over bytes buffer = bytes ++ drop (length bytes) buffer
 
 -- the answer, and the output buffer after; 9 where it is shorter than the bytes
-abbrev pub writeInto : List ℕ → List ℕ → Lowered × List ℕ
+abbrev pub writeInto : List ℕ → List ℕ → WriteResult × List ℕ
 writeInto bytes buffer =
     cond (ltb (length buffer) (length bytes)) (Refuses 9 0, buffer)
     (Wrote (length bytes), over bytes buffer)
 
 -- a refused file's number and record, or the bytes of an accepted kernel
-abbrev pub answerBy : (Program → List ℕ) → Verdict → List ℕ → Lowered × List ℕ
+abbrev pub answerBy : (Program → List ℕ) → Verdict → List ℕ → WriteResult × List ℕ
 answerBy bytes (refused n r) buffer = (Refuses n r, buffer)
 answerBy bytes (accepted k) buffer = writeInto (bytes k) buffer
 
-abbrev pub lowerBy : Level → Verdict → List ℕ → Lowered × List ℕ
+abbrev pub lowerBy : Level → Verdict → List ℕ → WriteResult × List ℕ
 lowerBy l = answerBy (sheetBytes l)
 
-abbrev pub lower1 : List ℕ → List ℕ → Lowered × List ℕ
+abbrev pub lower1 : List ℕ → List ℕ → WriteResult × List ℕ
 lower1 s = lowerBy level1 (verdict s)
 
-abbrev pub lower2 : List ℕ → List ℕ → Lowered × List ℕ
+abbrev pub lower2 : List ℕ → List ℕ → WriteResult × List ℕ
 lower2 s = lowerBy level2 (verdict s)

@@ -11,7 +11,7 @@ use Rattle.barrier_placement.specs.declared.cookbook.Barrier.the-variants.{LL, 
 use Rattle.barrier_placement.specs.Place.{stands, due, rowsTo}
 use Rattle.sheet_format.specs.Layout.{Instr, op, barrier, sheet}
 use Rattle.sheet_format.specs.Levels.{level1, level2, placed, sheetLanes}
-use Rattle.sheet_format.specs.declared.Lowered.the-variants.{Wrote, Refuses}
+use Rattle.sheet_format.specs.declared.WriteResult.the-variants.{Wrote, Refuses}
 use Rattle.sheet_format.specs.Bytes.{sheetBytes, writeInto}
 use Rattle.sheet_format.specs.Read.{readSheet}
 

@@ -6,24 +6,24 @@ ghost use lib.ListN.{length};
 ghost use Rattle.sheet_format.specs.Bytes.{lower2 as lowered};
 ghost use Rattle.sheet_level2.specs.Through.{throughSheet};
 use crate::whole::relower;
-use sheet_format::Lowered;
+use sheet_format::WriteResult;
 use sheet_level1::lower::lower1;
 
 // Through a level 1 sheet in `first`, with room in `new` for the positions of the longest lane that fits there.
-fn through(file: &[u8], out: &mut [u8], first: &mut [u8], new: &mut [u32]) -> Lowered
+fn through(file: &[u8], out: &mut [u8], first: &mut [u8], new: &mut [u32]) -> WriteResult
     requires { ⌜ ((n : ℕ) → n ≤ 320 → 16 + 8 * n ≤ length (now first) → n < length (now new)) ⌝ }
     ensures { λ r. ⌜ (r, now (out .exit)) ≡ throughSheet (now (file .entry)) (now (first .entry))
         (now (out .entry)) ⌝ }
 {
     let answer = lower1(file, first);
     match answer {
-        Lowered::Refuses(number, rec) => Lowered::Refuses(number, rec),
-        Lowered::Wrote(_) => relower(first, out, new),
+        WriteResult::Refuses(number, rec) => WriteResult::Refuses(number, rec),
+        WriteResult::Wrote(_) => relower(first, out, new),
     }
 }
 
 // Through one that takes every sheet.
-fn through_large(file: &[u8], out: &mut [u8]) -> Lowered
+fn through_large(file: &[u8], out: &mut [u8]) -> WriteResult
     ensures { λ r. ⌜ (r, now (out .exit)) ≡ lowered (now (file .entry)) (now (out .entry)) ⌝ }
 {
     let mut first = [0u8; 10256];
@@ -32,23 +32,23 @@ fn through_large(file: &[u8], out: &mut [u8]) -> Lowered
 }
 
 // The answer of a smaller one, unless that was too short.
-fn or_large(answer: Lowered, file: &[u8], out: &mut [u8]) -> Lowered
+fn or_large(answer: WriteResult, file: &[u8], out: &mut [u8]) -> WriteResult
     ensures { λ r. ⌜ ((own before : List ℕ)
         → (answer, now (out .entry)) ≡ throughSheet (now (file .entry)) own before
         → (r, now (out .exit)) ≡ lowered (now (file .entry)) before) ⌝ }
 {
     match answer {
-        Lowered::Wrote(size) => Lowered::Wrote(size),
-        Lowered::Refuses(number, rec) => if number == 9 {
+        WriteResult::Wrote(size) => WriteResult::Wrote(size),
+        WriteResult::Refuses(number, rec) => if number == 9 {
             through_large(file, out)
         } else {
-            Lowered::Refuses(number, rec)
+            WriteResult::Refuses(number, rec)
         },
     }
 }
 
 // Through one of 656 bytes, enough for 16 records: a short file is lowered without clearing more.
-fn through_small(file: &[u8], out: &mut [u8]) -> Lowered
+fn through_small(file: &[u8], out: &mut [u8]) -> WriteResult
     ensures { λ r. ⌜ (r, now (out .exit)) ≡ lowered (now (file .entry)) (now (out .entry)) ⌝ }
 {
     let mut first = [0u8; 656];
@@ -58,7 +58,7 @@ fn through_small(file: &[u8], out: &mut [u8]) -> Lowered
 }
 
 // Through one of 2,576 bytes, enough for 64 records.
-fn through_medium(file: &[u8], out: &mut [u8]) -> Lowered
+fn through_medium(file: &[u8], out: &mut [u8]) -> WriteResult
     ensures { λ r. ⌜ (r, now (out .exit)) ≡ lowered (now (file .entry)) (now (out .entry)) ⌝ }
 {
     let mut first = [0u8; 2576];
@@ -69,7 +69,7 @@ fn through_medium(file: &[u8], out: &mut [u8]) -> Lowered
 
 // The level 2 sheet at the front of `out`; a refusal, 9 for a buffer that is too short, leaves `out` as it was. The
 // level 1 sheet that it is made from is at most 10,256 bytes long, and 40 bytes a record.
-pub fn lower2(file: &[u8], out: &mut [u8]) -> Lowered
+pub fn lower2(file: &[u8], out: &mut [u8]) -> WriteResult
     ensures { λ r. ⌜ (r, now (out .exit)) ≡ lowered (now (file .entry)) (now (out .entry)) ⌝ }
 {
     if file.len() <= 208 {

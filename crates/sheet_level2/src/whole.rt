@@ -12,7 +12,7 @@ ghost use Rattle.sheet_format.specs.Relower.{relower as relowerAt, relowerBytes
 ghost use Rattle.sheet_level2.specs.Readable.{Readable, Fitting, Kept, rowsAt2};
 use crate::lane::relower_lane;
 use crate::positions::count_kept;
-use sheet_format::Lowered;
+use sheet_format::WriteResult;
 use sheet_rows::parts::Parts;
 use sheet_rows::parts::parts_of;
 use sheet_rows::put::put_counts;
@@ -62,7 +62,7 @@ fn relower_lanes(out: &mut [u8], sheet: &[u8], parts: Parts, kept: [usize; 4], n
 
 // The level 2 sheet at the front of `out`; 9, and `out` as it was, where it does not fit. `new` is room for the
 // positions of one lane.
-pub fn relower(sheet: &[u8], out: &mut [u8], new: &mut [u32]) -> Lowered
+pub fn relower(sheet: &[u8], out: &mut [u8], new: &mut [u32]) -> WriteResult
     requires { ⌜ Readable (now sheet) × Fitting (now sheet) (now new) ⌝ }
     ensures { λ r. ⌜ (r, now (out .exit)) ≡ writeInto (relowerBytes (now (sheet .entry))) (now (out .entry)) ⌝ }
 {
@@ -70,7 +70,7 @@ pub fn relower(sheet: &[u8], out: &mut [u8], new: &mut [u32]) -> Lowered
     let kept = count_lanes(sheet, parts);
     let size = 16 + 8 * (kept[0] + (kept[1] + (kept[2] + kept[3])));
     if out.len() < size {
-        return Lowered::Refuses(9, 0);
+        return WriteResult::Refuses(9, 0);
     }
     put_first(
         out,
@@ -82,5 +82,5 @@ pub fn relower(sheet: &[u8], out: &mut [u8], new: &mut [u32]) -> Lowered
     );
     put_counts(out, kept[0], kept[1], kept[2], kept[3]);
     relower_lanes(out, sheet, parts, kept, new);
-    Lowered::Wrote(size)
+    WriteResult::Wrote(size)
 }

@@ -4,7 +4,7 @@ ghost use mathlib.Core.List.{[], _∷_, _++_};
 ghost use Prim.Native.Nat.{_+_, _≤_};
 ghost use lib.ListN.{length};
 ghost use lib.Seq.{sets};
-ghost use Rattle.sheet_format.specs.Bytes.{word, row};
+ghost use Rattle.sheet_format.specs.Bytes.{wordBytes, row};
 ghost use Rattle.sheet_format.specs.Put.{laid};
 ghost use Rattle.sheet_rows.specs.Eight.{eightIn};
 use crate::number::fits;
@@ -67,7 +67,8 @@ fn put_eight(out: &mut [u8], at: usize, a: u8, b: u8, c: u8, d: u8, e: u8, f: u8
 
 // The first half of the header: T, L, K, level, mask, two zero bytes.
 pub fn put_first(out: &mut [u8], t: u8, ls: u8, ks: u8, level: u8, mask: u16)
-    ensures { λ r. ⌜ now (out .exit) ≡ laid (now (out .entry)) 0 (t ∷ ls ∷ ks ∷ level ∷ word mask ++ 0 ∷ 0 ∷ []) ⌝ }
+    ensures { λ r. ⌜ now (out .exit) ≡ laid (now (out .entry)) 0
+        (t ∷ ls ∷ ks ∷ level ∷ wordBytes mask ++ 0 ∷ 0 ∷ []) ⌝ }
 {
     put_eight(
         out,
@@ -86,7 +87,8 @@ pub fn put_first(out: &mut [u8], t: u8, ls: u8, ks: u8, level: u8, mask: u16)
 // The second half: four instruction counts.
 pub fn put_counts(out: &mut [u8], a: usize, b: usize, c: usize, d: usize)
     ensures { λ r.
-        ⌜ now (out .exit) ≡ laid (now (out .entry)) 8 (word a ++ (word b ++ (word c ++ (word d ++ [])))) ⌝ }
+        ⌜ now (out .exit) ≡ laid (now (out .entry)) 8
+        (wordBytes a ++ (wordBytes b ++ (wordBytes c ++ (wordBytes d ++ [])))) ⌝ }
 {
     put_eight(
         out,

@@ -11,7 +11,7 @@ use Rattle.file_verdict.specs.Verdict.{refused, accepted, refusalOf, numberOf, 
 use Rattle.file_wellformed.proofs.Front.{front-verdict}
 use Rattle.file_wellformed.proofs.Lawful.{accepted-lawful}
 use Rattle.file_wellformed.proofs.Named.{number-small, record-named}
-use Rattle.sheet_format.specs.declared.Lowered.the-variants.{Wrote}
+use Rattle.sheet_format.specs.declared.WriteResult.the-variants.{Wrote}
 use Rattle.sheet_format.specs.Bytes.{over, writeInto}
 use Rattle.sheet_format.proofs.Laws.Written.{written-all}
 use Rattle.text_listing.specs.Listing.{printed, printedBy}

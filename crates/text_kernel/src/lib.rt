@@ -2,20 +2,20 @@
 ghost use mathlib.Core.Path.{_≡_};
 ghost use Rattle.sheet_format.specs.Bytes.{writeInto};
 ghost use Rattle.text_listing.specs.Listing.{printed};
-use sheet_format::Lowered;
+use sheet_format::WriteResult;
 use sheet_level2::lower::lower2;
 use sheet_rows::read::word_at;
 use text_listing::refusal::list_refusal;
 use text_listing::whole::list_sheet;
 
 // The text at the front of `out`; 9, and `out` as it was, where it does not fit.
-pub fn print_kernel(file: &[u8], out: &mut [u8]) -> Lowered
+pub fn print_kernel(file: &[u8], out: &mut [u8]) -> WriteResult
     ensures { λ r. ⌜ (r, now (out .exit)) ≡ writeInto (printed (now (file .entry))) (now (out .entry)) ⌝ }
 {
     let mut sheet = [0u8; 10256];
     let answer = lower2(file, &mut sheet);
     match answer {
-        Lowered::Refuses(number, rec) => list_refusal(number as u32, rec as u32, out),
-        Lowered::Wrote(_) => list_sheet(&sheet, word_at(file, 4) as u16, out),
+        WriteResult::Refuses(number, rec) => list_refusal(number as u32, rec as u32, out),
+        WriteResult::Wrote(_) => list_sheet(&sheet, word_at(file, 4) as u16, out),
     }
 }

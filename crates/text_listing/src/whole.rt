@@ -1,7 +1,7 @@
 // The whole listing of a level 2 sheet, from the sheet's bytes and the kernel's mask.
 use crate::line::put_line;
 use crate::title::put_first;
-use sheet_format::Lowered;
+use sheet_format::WriteResult;
 use sheet_rows::read::byte_at;
 use sheet_rows::read::word_at;
 ghost use mathlib.Core.Path.{_≡_};
@@ -68,14 +68,14 @@ fn put_sheet(out: &mut [u8], sheet: &[u8], mask: u16) -> usize
 
 // The listing of a level 2 sheet at the front of `out`; 9, and `out` as it was, where it does not fit. It is measured
 // first, by laying it into a buffer that it does not fit.
-pub fn list_sheet(sheet: &[u8], mask: u16, out: &mut [u8]) -> Lowered
+pub fn list_sheet(sheet: &[u8], mask: u16, out: &mut [u8]) -> WriteResult
     ensures { λ r. ⌜ (r, now (out .exit)) ≡ writeInto (sheetText (now (sheet .entry)) mask) (now (out .entry)) ⌝ }
 {
     let mut none = [0u8; 1];
     let size = put_sheet(&mut none, sheet, mask);
     if out.len() < size {
-        return Lowered::Refuses(9, 0);
+        return WriteResult::Refuses(9, 0);
     }
     let end = put_sheet(out, sheet, mask);
-    Lowered::Wrote(end)
+    WriteResult::Wrote(end)
 }

@@ -5,7 +5,7 @@ use console::files::read_named;
 use console::print::say;
 use console::print::say_number;
 use console::print::say_refusal;
-use sheet_format::Lowered;
+use sheet_format::WriteResult;
 use sheet_level1::lower::lower1;
 use sheet_level2::lower::lower2;
 
@@ -44,13 +44,13 @@ fn tell_kernel(file: &[u8]) {
     let mut sheet = [0u8; 10256];
     let answer = lower1(file, &mut sheet);
     match answer {
-        Lowered::Wrote(size) => {
+        WriteResult::Wrote(size) => {
             say(b"level 1 ");
             say_number(size);
             say(b" bytes ");
             tell_level2(file);
         }
-        Lowered::Refuses(number, rec) => say_refusal(number, rec),
+        WriteResult::Refuses(number, rec) => say_refusal(number, rec),
     }
 }
 
@@ -58,11 +58,11 @@ fn tell_level2(file: &[u8]) {
     let mut sheet = [0u8; 10256];
     let answer = lower2(file, &mut sheet);
     match answer {
-        Lowered::Wrote(size) => {
+        WriteResult::Wrote(size) => {
             say(b"level 2 ");
             say_number(size);
             say(b" bytes\n");
         }
-        Lowered::Refuses(number, rec) => say_refusal(number, rec),
+        WriteResult::Refuses(number, rec) => say_refusal(number, rec),
     }
 }

@@ -7,7 +7,7 @@ use console::print::say_refusal;
 use lanes::call::run_file;
 use machine_spec::Machine;
 use machine_spec::Model;
-use sheet_format::Lowered;
+use sheet_format::WriteResult;
 use text_run::states::tell_state;
 use text_schedule::whole::Read;
 use text_schedule::whole::read_schedule;
@@ -51,11 +51,11 @@ fn tell_run(machine: Machine, file: &[u8], moves: &[u8]) {
     let mut state = [0u8; 2280];
     let answer = run_file(machine, file, moves, &mut state);
     match answer {
-        Lowered::Wrote(_) => {
+        WriteResult::Wrote(_) => {
             let mut text = io::large_buffer();
             let size = tell_state(&mut text, &state, file);
             say_part(&text, size);
         }
-        Lowered::Refuses(number, rec) => say_refusal(number, rec),
+        WriteResult::Refuses(number, rec) => say_refusal(number, rec),
     }
 }

@@ -8,7 +8,7 @@ use lib.Seq.{length-take-le, take-at, take-all}
 use Rattle.file_format.specs.Accepted.{programOf}
 use Rattle.file_verdict.specs.Verdict.{verdict, accepted}
 use Rattle.file_wellformed.proofs.Lawful.{accepted-lawful}
-use Rattle.sheet_format.specs.declared.Lowered.the-variants.{Wrote, Refuses}
+use Rattle.sheet_format.specs.declared.WriteResult.the-variants.{Wrote, Refuses}
 use Rattle.sheet_format.specs.Bytes.{over}
 use Rattle.sheet_format.proofs.Laws.Loaded.{header-by, answered-by}
 use Rattle.sheet_format.proofs.Laws.Written.{written-all, short-untouched}

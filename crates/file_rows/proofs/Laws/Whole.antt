@@ -11,7 +11,7 @@ use Rattle.file_format.specs.Rules.{headerRule}
 use Rattle.file_format.specs.Structured.{Structured}
 use Rattle.file_format.specs.Accepted.{programOf, opsAt}
 use Rattle.sheet_format.specs.Layout.{op}
-use Rattle.sheet_format.specs.Bytes.{word, over}
+use Rattle.sheet_format.specs.Bytes.{wordBytes, over}
 use Rattle.sheet_format.specs.Put.{laid, inTurn}
 use Rattle.sheet_format.proofs.Laws.Loaded.{sizes-by, put-by}
 use Rattle.sheet_format.proofs.Laws.Written.{written-all}
@@ -35,8 +35,8 @@ module _
 
     chains-put : {n ls ks m : ℕ} → n ≡ laneCount s → ls ≡ locations s → ks ≡ locks s → m ≡ mask s
         → {l₁ l₂ l₃ : List ℕ} (buffer : List ℕ) → length (chainBytes (programOf s)) ≤ length buffer
-        → l₁ ≡ laid buffer 0 (n ∷ ls ∷ ks ∷ 0 ∷ word m ++ 0 ∷ 0 ∷ [])
-        → l₂ ≡ laid l₁ 8 (word a ++ (word b ++ (word c ++ (word d ++ []))))
+        → l₁ ≡ laid buffer 0 (n ∷ ls ∷ ks ∷ 0 ∷ wordBytes m ++ 0 ∷ 0 ∷ [])
+        → l₂ ≡ laid l₁ 8 (wordBytes a ++ (wordBytes b ++ (wordBytes c ++ (wordBytes d ++ []))))
         → l₃ ≡ sets l₂ 16 (inTurn (chainAt s) 4)
         → l₃ ≡ over (chainBytes (programOf s)) buffer
     unfolding chainBytes
@@ -66,9 +66,9 @@ module _ {s order place ends : List ℕ} (st : Structured s) (o : Ordered s orde
   -- the header with the counts of the lanes, and the lanes
   pub chains-from : {n ls ks m : ℕ} → n ≡ laneCount s → ls ≡ locations s → ks ≡ locks s → m ≡ mask s
       → {l₁ l₂ l₃ : List ℕ} (buffer : List ℕ) → 16 + 8 * recordCount s ≤ length buffer
-      → l₁ ≡ laid buffer 0 (n ∷ ls ∷ ks ∷ 0 ∷ word m ++ 0 ∷ 0 ∷ [])
-      → l₂ ≡ laid l₁ 8 (word (getD ends 0 0) ++ (word (countOf ends 1) ++ (word (countOf ends 2)
-      ++ (word (countOf ends 3) ++ []))))
+      → l₁ ≡ laid buffer 0 (n ∷ ls ∷ ks ∷ 0 ∷ wordBytes m ++ 0 ∷ 0 ∷ [])
+      → l₂ ≡ laid l₁ 8 (wordBytes (getD ends 0 0) ++ (wordBytes (countOf ends 1) ++ (wordBytes (countOf ends 2)
+      ++ (wordBytes (countOf ends 3) ++ []))))
       → l₃ ≡ sets l₂ 16 (inTurn (chainAt s) 4)
       → l₃ ≡ over (chainBytes (programOf s)) buffer
   chains-from en els eks em buffer room =

@@ -5,12 +5,12 @@ use native.Mathlib.Omega.{arith}
 use lib.ListN.{length, length-append}
 use Rattle.machine_spec.specs.Schedule.{Move}
 use Rattle.machine_spec.specs.declared.Machine.{Machine}
-use Rattle.machine_state.specs.States.{Held}
+use Rattle.machine_state.specs.States.{Blocks}
 use Rattle.machine_course.specs.declared.course.Course.{Course}
 use Rattle.machine_course.specs.Stands.{Stands, Standing, Judged}
 use Rattle.lanerun.specs.Told.{CameTo}
 
-module _ {n : ℕ} {rows : List ℕ} {x : Course} {h : Held} (c : CameTo n rows x h) where
+module _ {n : ℕ} {rows : List ℕ} {x : Course} {h : Blocks} (c : CameTo n rows x h) where
   pub can-move : n ≤ 65536 → Standing rows x h
   can-move k = record {
     file = c .file;
@@ -24,7 +24,7 @@ module _ {n : ℕ} {rows : List ℕ} {x : Course} {h : Held} (c : CameTo n rows 
   can-record =
       record { file = c .file; machine = c .machine; moves = c .moves; rows = rows; stands = c .stands }
 
-  pub one-more : (mv : Move) {y : Course} {e : Held}
+  pub one-more : (mv : Move) {y : Course} {e : Blocks}
       → ((s : List ℕ) (m : Machine) (mvs : List Move) → Stands s m mvs rows x h
       → Stands s m (mvs ++ (mv ∷ [])) rows y e)
       → CameTo (n + 1) rows y e

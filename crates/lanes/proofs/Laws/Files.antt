@@ -10,8 +10,8 @@ use Rattle.file_format.specs.Fields.{word}
 use Rattle.file_format.specs.Accepted.{Program}
 use Rattle.file_verdict.specs.Verdict.{verdict}
 use Rattle.file_verdict.proofs.Laws.Verdict.{accepted-as}
-use Rattle.sheet_format.specs.declared.Lowered.{Lowered}
-use Rattle.sheet_format.specs.declared.Lowered.the-variants.{Wrote, Refuses}
+use Rattle.sheet_format.specs.declared.WriteResult.{WriteResult}
+use Rattle.sheet_format.specs.declared.WriteResult.the-variants.{Wrote, Refuses}
 use Rattle.sheet_format.proofs.Answers.{BytesIn}
 use Rattle.machine_spec.specs.Schedule.{limit, legal}
 use Rattle.machine_spec.specs.Moves.{movesIn}
@@ -41,10 +41,10 @@ module _ (m : Machine) {s own rows : List ℕ} (b : BytesIn (programBytes m) s o
   abbrev k : Program
   k = b .kernel
 
-  abbrev Answers : Lowered × List ℕ → Type 0
+  abbrev Answers : WriteResult × List ℕ → Type 0
   Answers a = a ≡ runFileBy m (verdict s) moves out
 
-  by-run : {a : Lowered × List ℕ} → runInto m k moves out ≡ a → Answers a
+  by-run : {a : WriteResult × List ℕ} → runInto m k moves out ≡ a → Answers a
   by-run e = sym (ap (λ v. runFileBy m v moves out) (b .accepts) ∙ e)
 
   pub short-buffer : length out < 2280 → Answers (Refuses 9 0, out)

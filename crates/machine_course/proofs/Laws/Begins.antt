@@ -15,14 +15,14 @@ use Rattle.machine_spec.specs.State.{startState}
 use Rattle.machine_spec.specs.Run.{Answer, startOf, programFor, runBy}
 use Rattle.sheet_rows.specs.Rows.{partsIn}
 use Rattle.machine_spec.specs.declared.Machine.{Machine}
-use Rattle.machine_state.specs.States.{Held, stateIn}
+use Rattle.machine_state.specs.States.{Blocks, stateIn}
 use Rattle.machine_run.specs.Runs.{ProgramAt}
 use Rattle.machine_start.specs.Programs.{programBytes}
 use Rattle.machine_start.proofs.Laws.Programs.{header-read, program-at}
 use Rattle.machine_course.specs.declared.course.Course.{Course}
 use Rattle.machine_course.specs.Stands.{answerBy, Prepared, Stands, Sets, Started, RefusedStart, blocked}
 
-refused-stands : (m : Machine) (s rows : List ℕ) (n r : ℕ) {e : Held} → verdict s ≡ refused n r → RefusedStart s n e
+refused-stands : (m : Machine) (s rows : List ℕ) (n r : ℕ) {e : Blocks} → verdict s ≡ refused n r → RefusedStart s n e
     → Stands s m [] rows (blocked m n r) e
 refused-stands m s rows n r v st =
     let is : answerBy m s [] ≡ runBy m s (refused n r) [] = ap (λ y. runBy m s y []) v in
@@ -31,7 +31,7 @@ refused-stands m s rows n r v st =
       few = omega arith;
       counted = λ e. refl;
       number = sym (ap (λ (a : Answer). a .number) is);
-      blames = sym (ap (λ (a : Answer). a .blames) is);
+      rec = sym (ap (λ (a : Answer). a .rec) is);
       done = sym (ap (λ (a : Answer). a .done) is);
       waited = sym (ap (λ (a : Answer). a .waited) is);
       state = st .state r v ∙ sym (ap (λ (a : Answer). a .state) is);
@@ -42,14 +42,14 @@ refused-stands m s rows n r v st =
     clash k e = cc
 
 -- of what the code made
-pub begins-refused : (m : Machine) (s : List ℕ) {rows : List ℕ} {n r : ℕ} {x : Course} {e : Held} → verdict s ≡
+pub begins-refused : (m : Machine) (s : List ℕ) {rows : List ℕ} {n r : ℕ} {x : Course} {e : Blocks} → verdict s ≡
     refused n r
     → RefusedStart s n e → x ≡ blocked m n r → Stands s m [] rows x e
 begins-refused m s {rows} {n} {r} {x} {e} v st q =
     subst (λ y. Stands s m [] rows y e) (sym q) (refused-stands m s rows n r v st)
 
 module _ (m : Machine) {s own rows : List ℕ} (b : BytesIn (programBytes m) s own rows)
-    (room : 4112 ≤ length own) {mask : ℕ} {x : Course} {e : Held} (me : mask ≡ word s 4) (sets : Sets m mask rows x)
+    (room : 4112 ≤ length own) {mask : ℕ} {x : Course} {e : Blocks} (me : mask ≡ word s 4) (sets : Sets m mask rows x)
     (st : Started (getD rows 0 0) (getD rows 1 0) (getD rows 2 0) e) where
   abbrev k : Program
   k = b .kernel
@@ -101,7 +101,7 @@ module _ (m : Machine) {s own rows : List ℕ} (b : BytesIn (programBytes m) s o
         few = omega (arith, sets .zeros .2, sets .zeros .3);
         counted = λ z. omega (arith, sets .zeros .2, sets .zeros .3);
         number = sets .zeros .0 ∙ sym (ap (λ (a : Answer). a .number) is);
-        blames = sets .zeros .1 ∙ sym (ap (λ (a : Answer). a .blames) is);
+        rec = sets .zeros .1 ∙ sym (ap (λ (a : Answer). a .rec) is);
         done = sets .zeros .2 ∙ sym (ap (λ (a : Answer). a .done) is);
         waited = sets .zeros .3 ∙ sym (ap (λ (a : Answer). a .waited) is);
         state = start ∙ sym (ap (λ (a : Answer). a .state) is);

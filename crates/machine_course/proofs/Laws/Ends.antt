@@ -16,7 +16,7 @@ use Rattle.machine_spec.specs.Run.{Answer, answerOf, startOf, programFor, runOn
 use Rattle.machine_spec.specs.View.{finished}
 use Rattle.sheet_rows.proofs.Laws.Read.{rows-length}
 use Rattle.machine_spec.specs.declared.Machine.{Machine}
-use Rattle.machine_state.specs.States.{Held, countOf, stateIn}
+use Rattle.machine_state.specs.States.{Blocks, countOf, stateIn}
 use Rattle.machine_run.specs.Counts.{Counts}
 use Rattle.machine_start.proofs.Answered.{not-refused}
 use Rattle.machine_start.proofs.Laws.Programs.{programs-many}
@@ -26,7 +26,7 @@ use Rattle.machine_course.specs.Stands.{answerBy, Prepared, Stands}
 use Rattle.machine_course.proofs.Laws.Legal.{Under, under}
 
 -- the first four blocks of five
-pub four-blocks : (s : Held) → length s ≡ 5
+pub four-blocks : (s : Blocks) → length s ≡ 5
     → getD s 0 [] ∷ getD s 1 [] ∷ getD s 2 [] ∷ getD s 3 [] ∷ [] ≡ take 4 s
 four-blocks [] h = absurd (omega arith)
 four-blocks (x ∷ []) h = absurd (omega arith)
@@ -34,7 +34,7 @@ four-blocks (x ∷ y ∷ []) h = absurd (omega arith)
 four-blocks (x ∷ y ∷ z ∷ []) h = absurd (omega arith)
 four-blocks (x ∷ y ∷ z ∷ u ∷ s) h = refl
 
-module _ {s : List ℕ} {m : Machine} {mvs : List Move} {rows : List ℕ} {x : Course} {h : Held}
+module _ {s : List ℕ} {m : Machine} {mvs : List Move} {rows : List ℕ} {x : Course} {h : Blocks}
     (so : Stands s m mvs rows x h) where
   -- a refusal is not finished
   pub not-finished : (x .number ≡ 0 → ⊥) → false ≡ answerBy m s mvs .finished

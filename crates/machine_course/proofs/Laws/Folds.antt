@@ -22,10 +22,10 @@ use Rattle.machine_lane.specs.Lanes.{flags}
 use Rattle.machine_state.specs.declared.state.Moved.{Moved}
 use Rattle.machine_state.specs.declared.state.Moved.the-variants.{Waited, Done, ReleaseNotHeld}
 use Rattle.machine_state.specs.Ready.{Movable}
-use Rattle.machine_state.specs.States.{Held, stateIn}
+use Rattle.machine_state.specs.States.{Blocks, stateIn}
 use Rattle.machine_step.specs.Turns.{turns, Took}
 use Rattle.machine_run.specs.declared.run.Ended.the-variants.{Ran}
-use Rattle.machine_run.specs.Runs.{Runs, Ends, course}
+use Rattle.machine_run.specs.Runs.{RunnableBy, Ends, course}
 use Rattle.machine_run.proofs.Laws.Runs.{Counted, lane-moves, inside, run-refused, run-counted}
 use Rattle.machine_start.proofs.Answered.{not-refused}
 use Rattle.machine_start.proofs.Reached.{runs-by}
@@ -41,7 +41,7 @@ last-at : (mvs : List Move) (mv : Move) → getElem? (mvs ++ (mv ∷ [])) (lengt
 last-at [] mv = refl
 last-at (x ∷ mvs) mv = last-at mvs mv
 
-module _ {s : List ℕ} {m : Machine} {mvs : List Move} {rows : List ℕ} {x : Course} {h : Held}
+module _ {s : List ℕ} {m : Machine} {mvs : List Move} {rows : List ℕ} {x : Course} {h : Blocks}
     (so : Stands s m mvs rows x h) (mv : Move) where
   abbrev after : List Move
   after = mvs ++ (mv ∷ [])
@@ -54,7 +54,7 @@ module _ {s : List ℕ} {m : Machine} {mvs : List Move} {rows : List ℕ} {x : C
         few = omega (arith, so .few, snoc-length mvs mv);
         counted = λ e. absurd (never e);
         number = so .number ∙ ap (λ (a : Answer). a .number) same;
-        blames = so .blames ∙ ap (λ (a : Answer). a .blames) same;
+        rec = so .rec ∙ ap (λ (a : Answer). a .rec) same;
         done = so .done ∙ ap (λ (a : Answer). a .done) same;
         waited = so .waited ∙ ap (λ (a : Answer). a .waited) same;
         state = so .state ∙ ap (λ (a : Answer). a .state) same;
@@ -95,14 +95,14 @@ module _ {s : List ℕ} {m : Machine} {mvs : List Move} {rows : List ℕ} {x : C
     answers-by e = ap (λ v. runBy m s v after) (here .accepts) ∙ e
 
     number-blames : x .rec ≡ 0
-    number-blames = so .blames ∙ go (runOn m k mvs) refl
+    number-blames = so .rec ∙ go (runOn m k mvs) refl
       where
-        go : (o : Outcome) → runOn m k mvs ≡ o → answerBy m s mvs .blames ≡ 0
-        go (ran r) e = ap (λ v. runBy m s v mvs .blames) (here .accepts) ∙ rw (here .legals, e) refl
+        go : (o : Outcome) → runOn m k mvs ≡ o → answerBy m s mvs .rec ≡ 0
+        go (ran r) e = ap (λ v. runBy m s v mvs .rec) (here .accepts) ∙ rw (here .legals, e) refl
         go (refused t p) e = absurd (not-refused s k (here .accepts) m mvs (here .legals) t p e)
 
     -- a move that is not legal
-    stops : {c : ℕ} {b : Bool} {e : Held} → c ≡ limit (x .machine) → b ≡ allowed (x .lanecount) c mv
+    stops : {c : ℕ} {b : Bool} {e : Blocks} → c ≡ limit (x .machine) → b ≡ allowed (x .lanecount) c mv
         → b ≡ false → Started (x .lanecount) (x .locations) (x .lockwords) e → Stands s m after rows (stopped x) e
     stops {e = e} ce be bad st =
         let illegal = legal-after ∙ sym (test ce be) ∙ bad in
@@ -117,7 +117,7 @@ module _ {s : List ℕ} {m : Machine} {mvs : List Move} {rows : List ℕ} {x : C
           few = omega arith;
           counted = λ e. let ten : _≡_ {A = ℕ} 10 0 = e in absurd (omega arith);
           number = sym (ap (λ (a : Answer). a .number) same);
-          blames = number-blames ∙ sym (ap (λ (a : Answer). a .blames) same);
+          rec = number-blames ∙ sym (ap (λ (a : Answer). a .rec) same);
           done = sym (ap (λ (a : Answer). a .done) same);
           waited = sym (ap (λ (a : Answer). a .waited) same);
           state = start ∙ sym (ap (λ (a : Answer). a .state) same);
@@ -141,7 +141,7 @@ module _ {s : List ℕ} {m : Machine} {mvs : List Move} {rows : List ℕ} {x : C
       lets : legal n (limit m) after ≡ true
       lets = legal-after ∙ sym (test ce be) ∙ good
 
-      abbrev h₀ : Held
+      abbrev h₀ : Blocks
       h₀ = zeroed n (k .locations) (k .locks)
 
       start-is : stateIn h₀ ≡ startOf k
@@ -149,7 +149,7 @@ module _ {s : List ℕ} {m : Machine} {mvs : List Move} {rows : List ℕ} {x : C
           zeroed-state n (k .locations) (k .locks) (law .few-lanes) (omega (arith, law .few-locations))
           (omega (arith, law .few-locks))
 
-      runs : Runs m (flags (x .volatile)) rows (x .first) (x .count) after h₀ prog
+      runs : RunnableBy m (flags (x .volatile)) rows (x .first) (x .count) after h₀ prog
       runs =
           runs-by s k (here .accepts) m (flags (x .volatile)) rows (x .first) (x .count) after h₀ prog (own .volatile)
           refl refl start-is lets (own .programs)
@@ -192,7 +192,7 @@ module _ {s : List ℕ} {m : Machine} {mvs : List Move} {rows : List ℕ} {x : C
       lies-inside = inside runs (length mvs) mv (last-at mvs mv)
 
       -- ### what it comes to
-      module _ (q : Moved) (e : Held) (made : Took h (mv .lane) (turns m (flags (x .volatile))
+      module _ (q : Moved) (e : Blocks) (made : Took h (mv .lane) (turns m (flags (x .volatile))
           (readRows (getD (x .count) (mv .lane) 0) (drop (getD (x .first) (mv .lane) 0) rows)) h (mv .lane)
           (mv .choice)) q e)
         where
@@ -229,7 +229,7 @@ module _ {s : List ℕ} {m : Machine} {mvs : List Move} {rows : List ℕ} {x : C
               few = omega (arith, snoc-length mvs mv);
               counted = λ _. omega (arith, snoc-length mvs mv);
               number = yn ∙ sym (ap (λ (a : Answer). a .number) answer);
-              blames = yr ∙ sym (ap (λ (a : Answer). a .blames) answer);
+              rec = yr ∙ sym (ap (λ (a : Answer). a .rec) answer);
               done = yd ∙ sym (ap (λ (a : Answer). a .done) answer);
               waited = yw ∙ sym (ap (λ (a : Answer). a .waited) answer);
               state = sym (ap (λ (a : Answer). a .state) answer);
@@ -273,7 +273,7 @@ module _ {s : List ℕ} {m : Machine} {mvs : List Move} {rows : List ℕ} {x : C
 
 -- ## the same of what the code made
 
-module _ {s : List ℕ} {m : Machine} {mvs : List Move} {rows : List ℕ} {x y : Course} {h e : Held}
+module _ {s : List ℕ} {m : Machine} {mvs : List Move} {rows : List ℕ} {x y : Course} {h e : Blocks}
     (so : Stands s m mvs rows x h) (mv : Move) (z : x .number ≡ 0) {c : ℕ} {b : Bool}
     (ce : c ≡ limit (x .machine)) (be : b ≡ allowed (x .lanecount) c mv) where
   pub code-stops : b ≡ false → Started (x .lanecount) (x .locations) (x .lockwords) e → y ≡ stopped x

@@ -21,7 +21,7 @@ use Rattle.machine_spec.specs.Run.{answerOf, startOf, programFor, runOn, runBy,
 use Rattle.machine_spec.specs.declared.Machine.{Machine}
 use Rattle.machine_start.proofs.Answered.{not-refused, shape}
 use Rattle.machine_start.proofs.Laws.Runs.{shaped-small}
-use Rattle.machine_state.specs.States.{Held, stateIn}
+use Rattle.machine_state.specs.States.{Blocks, stateIn}
 use Rattle.machine_course.specs.declared.course.Course.{Course}
 use Rattle.machine_course.specs.Stands.{answerBy, Stands}
 use Rattle.machine_course.specs.Returned.{Fits}
@@ -114,6 +114,6 @@ module _ (m : Machine) (s : List ℕ) (mvs : List Move) where
       go (accepted k) v = subst (λ w. Fits (answered w)) (sym v) (accepted-fits k v)
 
 -- so what a run so far holds does
-pub stands-fits : {s : List ℕ} {m : Machine} {mvs : List Move} {rows : List ℕ} {x : Course} {h : Held}
+pub stands-fits : {s : List ℕ} {m : Machine} {mvs : List Move} {rows : List ℕ} {x : Course} {h : Blocks}
     → Stands s m mvs rows x h → Fits (stateIn h)
 stands-fits {s} {m} {mvs} so = subst Fits (sym (so .state)) (answer-fits m s mvs)

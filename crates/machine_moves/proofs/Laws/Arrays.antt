@@ -25,7 +25,7 @@ use denote.Builtin.{u8, u32}
 use denote.Ref.{RefT}
 use denote.Slice.{sliceVal}
 use denote.Struct.Steps.{spelt}
-use Rattle.machine_state.specs.States.{Held}
+use Rattle.machine_state.specs.States.{Blocks}
 
 -- the types
 abbrev pub R₀ : RattleType
@@ -85,7 +85,7 @@ module _ {M : Type 1} (𝓤 : URA M) (H : Heap 𝓤) (A : Atoms 𝓤) (W : Given
   abbrev words : List ℕ → List Val
   words = array-vals (uint-vals w32)
 
-  pub state-out : (l : ℕ) (z : Held)
+  pub state-out : (l : ℕ) (z : Blocks)
       → ent 𝓤 (⋆ 𝓤 H A (‵ (partAt R fullShare z l 0) ∷ [])) (⋆ 𝓤 H A (‵ (froom arr l 0) ∷ []))
   state-out l z = array-out (Array (Array u32 64) 3) 5 l z (array-vals words)
       (array-tells (Array u32 64) words (array-tells u32 (uint-vals w32) (uint-tells w32) 64) 3)

@@ -7,8 +7,8 @@ use native.Mathlib.Decide.{decLe}
 use native.Mathlib.Omega.{arith}
 use lib.ListN.{length, getD, List·getD-append}
 use lib.Seq.{getD-append-add}
-use Rattle.file_format.specs.Fields.{word as wordAt, quad as quadAt}
-use Rattle.sheet_format.specs.Bytes.{word, quad}
+use Rattle.file_format.specs.Fields.{word, quad}
+use Rattle.sheet_format.specs.Bytes.{wordBytes, quadBytes}
 use Rattle.sheet_format.specs.Put.{inTurn}
 use Rattle.sheet_format.proofs.Laws.Turn.{turn-even}
 
@@ -67,11 +67,11 @@ module _ (f : ℕ → List ℕ) (m : ℕ) (each : (j : ℕ) → length (f j) ≡
           }
 
 -- a number of 16 bits; the low 32 bits of a number, and all of one that fits them
-pub has-word : {s : List ℕ} {from n : ℕ} → Has s from (word n) → n < 2 ^ 16 → wordAt s from ≡ n
+pub has-word : {s : List ℕ} {from n : ℕ} → Has s from (wordBytes n) → n < 2 ^ 16 → word s from ≡ n
 has-word {s} {from} {n} h small =
     omega (arith, rw (add-zero from) at (h .at 0 (omega arith)), h .at 1 (omega arith))
 
-pub has-low : {s : List ℕ} {from : ℕ} (n : ℕ) → Has s from (quad n) → quadAt s from ≡ n % 2 ^ 32
+pub has-low : {s : List ℕ} {from : ℕ} (n : ℕ) → Has s from (quadBytes n) → quad s from ≡ n % 2 ^ 32
 has-low {s} {from} n h =
     let e : from + 3 ≡ from + 2 + 1 = omega arith in
     omega (
@@ -82,5 +82,5 @@ has-low {s} {from} n h =
       rw e at (h .at 3 (omega arith)),
     )
 
-pub has-quad : {s : List ℕ} {from n : ℕ} → Has s from (quad n) → n < 2 ^ 32 → quadAt s from ≡ n
+pub has-quad : {s : List ℕ} {from n : ℕ} → Has s from (quadBytes n) → n < 2 ^ 32 → quad s from ≡ n
 has-quad {s} {from} {n} h small = has-low n h ∙ mod-eq-of-lt small

@@ -16,7 +16,7 @@ use Rattle.machine_spec.specs.State.{Lane, State, idle, laneAt}
 use Rattle.machine_spec.specs.Shape.{EntrySmall, AllSmall}
 use Rattle.machine_lane.specs.declared.lane.Lane.{Lane as Stored}
 use Rattle.machine_lane.specs.Lanes.{entryOf, entriesOf, laneIn}
-use Rattle.machine_state.specs.States.{Held, rowAt, storedIn, laneOf, countOf, stateIn, Lies}
+use Rattle.machine_state.specs.States.{Blocks, rowAt, storedIn, laneOf, countOf, stateIn, Lies}
 use Rattle.machine_state.proofs.Laws.Lanes.{lane-there, lane-past}
 use Rattle.machine_record.specs.Lanes.{entriesBytes, stateLane}
 use Rattle.machine_record.specs.SmallCells.{SmallCells}
@@ -55,7 +55,7 @@ cells-small (c ∷ cs) (v ∷ vs) zero e h i l = absurd (omega arith)
 cells-small (c ∷ cs) (v ∷ vs) (suc n) e h zero l = cell-small c v (h .0)
 cells-small (c ∷ cs) (v ∷ vs) (suc n) e h (suc i) l = cells-small cs vs n (omega arith) (h .1) i (omega arith)
 
-module _ (s : Held) (t : ℕ) (h : Lies s t) where
+module _ (s : Blocks) (t : ℕ) (h : Lies s t) where
   pub there-bytes : t < countOf s 0 → stateLane (laneOf s t) ≡ stateLane (laneAt (stateIn s) t)
   there-bytes l = sym (ap stateLane (lane-there s t (h .sized) l (h .lane)))
 

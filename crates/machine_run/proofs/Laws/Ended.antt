@@ -11,7 +11,7 @@ use Rattle.barrier_placement.specs.declared.cookbook.Barrier.the-variants.{SL}
 use Rattle.sheet_format.specs.Layout.{Instr, barrier}
 use Rattle.machine_spec.specs.State.{Lane}
 use Rattle.machine_spec.specs.View.{every, isNone, endedAt, finished}
-use Rattle.machine_state.specs.States.{Held, laneOf, countOf, stateIn, Sized}
+use Rattle.machine_state.specs.States.{Blocks, laneOf, countOf, stateIn, Sized}
 use Rattle.machine_state.proofs.Laws.Lanes.{lane-in}
 use Rattle.machine_run.specs.Counts.{Counts}
 
@@ -44,10 +44,10 @@ one-more at count t h e i l = go (decLe (suc i) t)
     go (yes below) = h i below
     go (no above) = let here : i ≡ t = omega arith in rw here e
 
-abbrev pub position : Held → ℕ → ℕ
+abbrev pub position : Blocks → ℕ → ℕ
 position s t = laneOf s t .control .pos
 
-module _ (s : Held) (sized : Sized s) (few : countOf s 0 ≤ 4) {count : List ℕ} (prog : List (List Instr))
+module _ (s : Blocks) (sized : Sized s) (few : countOf s 0 ≤ 4) {count : List ℕ} (prog : List (List Instr))
     (c : Counts (countOf s 0) count prog) where
   abbrev n : ℕ
   n = countOf s 0

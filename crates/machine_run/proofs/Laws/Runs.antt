@@ -22,13 +22,13 @@ use Rattle.machine_run.specs.declared.run.Ended.the-variants.{Ran, Refus
 use Rattle.machine_state.specs.declared.state.Moved.{Moved}
 use Rattle.machine_state.specs.declared.state.Moved.the-variants.{Waited, Done, ReleaseNotHeld}
 use Rattle.machine_state.specs.Ready.{LaneReady, Movable}
-use Rattle.machine_run.specs.Runs.{Runs, outcomeBy, Ends}
-use Rattle.machine_state.specs.States.{Held, laneOf, countOf, stateIn, Sized}
+use Rattle.machine_run.specs.Runs.{RunnableBy, outcomeBy, Ends}
+use Rattle.machine_state.specs.States.{Blocks, laneOf, countOf, stateIn, Sized}
 use Rattle.machine_step.specs.Turns.{turns, Took}
 use Rattle.machine_state.proofs.Laws.Lanes.{lane-in}
 
 -- the turn of the text's move
-pub turn-in : (m : Machine) (f : ℕ → Bool) (prog : List (List Instr)) (s : Held) (t c : ℕ) → Sized s → t < countOf s 0
+pub turn-in : (m : Machine) (f : ℕ → Bool) (prog : List (List Instr)) (s : Blocks) (t c : ℕ) → Sized s → t < countOf s 0
     → countOf s 0 ≤ 4
     → moveTurn m f prog (stateIn s) (move t c) ≡ turns m f (getD prog t []) s t c
 turn-in m f prog s t c z h k =
@@ -41,7 +41,7 @@ answerAfter Waited d w t p = Ran d (suc w)
 answerAfter Done d w t p = Ran (suc d) w
 answerAfter ReleaseNotHeld d w t p = Refused t p
 
-module _ (prog : List (List Instr)) (d w t p : ℕ) (row : List Loaded) (s e : Held) where
+module _ (prog : List (List Instr)) (d w t p : ℕ) (row : List Loaded) (s e : Blocks) where
   abbrev Comes : Turn → Moved → Type 0
   Comes u q =
       (l : List Loaded) × (applyTurn (record { state = stateIn s; row = row; done = d; waited = w }) t
@@ -66,7 +66,7 @@ stays : (m : Machine) (f : ℕ → Bool) (prog : List (List Instr)) (t p : ℕ) 
 stays m f prog t p [] = refl
 stays m f prog t p (mv ∷ mvs) = stays m f prog t p mvs
 
-module _ (m : Machine) (f : ℕ → Bool) (mvs : List Move) (prog : List (List Instr)) (s : Held) where
+module _ (m : Machine) (f : ℕ → Bool) (mvs : List Move) (prog : List (List Instr)) (s : Blocks) where
   abbrev upTo : ℕ → Outcome
   upTo k = run m f prog (begin (stateIn s)) (take k mvs)
 
@@ -77,7 +77,7 @@ module _ (m : Machine) (f : ℕ → Bool) (mvs : List Move) (prog : List (List I
       ∙ foldl-append (advance m f prog) (begin (stateIn s)) (take k mvs) (getD mvs k mv ∷ [])
       ∙ ap (advance m f prog (upTo k)) (at .1)
 
-  pub ends-more : (k d w t c : ℕ) (e z : Held) (q : Moved) → Sized e → t < countOf s 0 → countOf s 0 ≤ 4 → getElem?
+  pub ends-more : (k d w t c : ℕ) (e z : Blocks) (q : Moved) → Sized e → t < countOf s 0 → countOf s 0 ≤ 4 → getElem?
       mvs k ≡ some (move t c)
       → Took e t (turns m f (getD prog t []) e t c) q z → Ends m f (take k mvs) prog s (Ran d w) e
       → Ends m f (take (suc k) mvs) prog s (answerAfter q d w t (laneOf e t .control .pos)) z
@@ -98,7 +98,7 @@ module _ (m : Machine) (f : ℕ → Bool) (mvs : List Move) (prog : List (List I
             ∙ turned .1;
       }
 
-  pub ends-refused : (k t p : ℕ) (z : Held) → Ends m f (take k mvs) prog s (Refused t p) z
+  pub ends-refused : (k t p : ℕ) (z : Blocks) → Ends m f (take k mvs) prog s (Refused t p) z
       → Ends m f mvs prog s (Refused t p) z
   ends-refused k t p z so = record {
     sized = so .sized;
@@ -110,7 +110,7 @@ module _ (m : Machine) (f : ℕ → Bool) (mvs : List Move) (prog : List (List I
         ∙ stays m f prog t (rank (getD prog t []) p) (drop k mvs);
   }
 
-  pub ends-all : (k : ℕ) (q : Ended) (z : Held) → length mvs ≤ k → Ends m f (take k mvs) prog s q z
+  pub ends-all : (k : ℕ) (q : Ended) (z : Blocks) → length mvs ≤ k → Ends m f (take k mvs) prog s q z
       → Ends m f mvs prog s q z
   ends-all k q z h so = subst (λ l. Ends m f l prog s q z) (take-all k mvs h) so
 
@@ -133,8 +133,8 @@ counted-answer {q} k d x t p (inr w) h =
     ap (λ y. answerAfter y d (k - d) t p) (w .0) ∙ ap₂ Ran one same
 
 -- ## a schedule that the code can run
-module _ {m : Machine} {f : ℕ → Bool} {sheet first count : List ℕ} {mvs : List Move} {s : Held}
-    {prog : List (List Instr)} (h : Runs m f sheet first count mvs s prog) (k : ℕ) (mv : Move)
+module _ {m : Machine} {f : ℕ → Bool} {sheet first count : List ℕ} {mvs : List Move} {s : Blocks}
+    {prog : List (List Instr)} (h : RunnableBy m f sheet first count mvs s prog) (k : ℕ) (mv : Move)
     (at : getElem? mvs k ≡ some mv) where
   abbrev rows : List Instr
   rows = readRows (getD count (mv .lane) 0) (drop (getD first (mv .lane) 0) sheet)
@@ -143,7 +143,7 @@ module _ {m : Machine} {f : ℕ → Bool} {sheet first count : List ℕ} {mvs : 
   lane-below = omega (arith, h .lanes, h .named k mv at)
 
   -- the lane of a move can make it
-  pub lane-moves : (d w : ℕ) (e : Held) → Sized e → Ends m f (take k mvs) prog s (Ran d w) e
+  pub lane-moves : (d w : ℕ) (e : Blocks) → Sized e → Ends m f (take k mvs) prog s (Ran d w) e
       → Movable e (mv .lane) rows
   lane-moves d w e sized so =
       let named = h .named k mv at in
@@ -158,7 +158,7 @@ module _ {m : Machine} {f : ℕ → Bool} {sheet first count : List ℕ} {mvs : 
   pub inside : getD first (mv .lane) 0 + 8 * getD count (mv .lane) 0 ≤ length sheet
   inside = h .programs (mv .lane) (h .named k mv at) .inside
 
-  module _ (d w : ℕ) (e z : Held) (q : Moved) (sized : Sized e)
+  module _ (d w : ℕ) (e z : Blocks) (q : Moved) (sized : Sized e)
       (made : Took e (mv .lane) (turns m f rows e (mv .lane) (mv .choice)) q z)
       (so : Ends m f (take k mvs) prog s (Ran d w) e) where
     moved : Ends m f (take (suc k) mvs) prog s (answerAfter q d w (mv .lane) (laneOf e (mv .lane) .control .pos)) z

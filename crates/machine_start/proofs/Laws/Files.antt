@@ -8,7 +8,7 @@ use lib.ListN.{length}
 use Rattle.file_format.specs.Accepted.{Program}
 use Rattle.file_format.specs.Lawful.{Lawful}
 use Rattle.file_verdict.specs.Verdict.{verdict, refused as refusing, accepted}
-use Rattle.sheet_format.specs.declared.Lowered.the-variants.{Wrote, Refuses}
+use Rattle.sheet_format.specs.declared.WriteResult.the-variants.{Wrote, Refuses}
 use Rattle.sheet_format.proofs.Answers.{BytesIn, refuses-by, wrote-by}
 use Rattle.sheet_format.proofs.Sizes.{sheet2-small}
 use Rattle.file_rows.proofs.ChainsBack.{chains-small}

@@ -18,16 +18,16 @@ use Rattle.machine_spec.specs.View.{finished, viewOf}
 use Rattle.machine_spec.specs.Shape.{EntrySmall, AllSmall, Shaped}
 use Rattle.sheet_rows.proofs.Laws.Read.{rows-length}
 use Rattle.machine_spec.specs.declared.Machine.{Machine}
-use Rattle.machine_state.specs.States.{Held, countOf, stateIn}
+use Rattle.machine_state.specs.States.{Blocks, countOf, stateIn}
 use Rattle.machine_run.specs.declared.run.Ended.{Ended}
 use Rattle.machine_run.specs.declared.run.Ended.the-variants.{Ran, Refused}
-use Rattle.machine_run.specs.Runs.{Runs, Runnable, Ends, outcomeBy}
+use Rattle.machine_run.specs.Runs.{RunnableBy, Runnable, Ends, outcomeBy}
 use Rattle.machine_record.specs.Record.{recordOf, stateBytes}
 use Rattle.machine_record.specs.SmallStates.{Small}
 use Rattle.machine_run.specs.Counts.{Counts}
 use Rattle.machine_start.proofs.Answered.{not-refused, shape}
 use Rattle.machine_start.proofs.Reached.{runs-by}
-use Rattle.machine_start.specs.Setup.{Begins}
+use Rattle.machine_start.specs.Setup.{AtStart}
 use Rattle.machine_start.proofs.Laws.Programs.{programs-many}
 
 entry-smaller : {ls ks : ℕ} → ls ≤ 16 → ks ≤ 4 → (e : Entry) → EntrySmall ls ks e → EntrySmall 16 4 e
@@ -48,8 +48,8 @@ shaped-small {k} {s = s} law shaped = record {
       (shaped .entries t));
 }
 
-module _ {m : Machine} {vol : ℕ → Bool} {rows first count : List ℕ} {mvs : List Move} {h : Held} {s : List ℕ}
-    {k : Program} (b : Begins m vol rows first count mvs h s k) where
+module _ {m : Machine} {vol : ℕ → Bool} {rows first count : List ℕ} {mvs : List Move} {h : Blocks} {s : List ℕ}
+    {k : Program} (b : AtStart m vol rows first count mvs h s k) where
   abbrev prog : List (List Instr)
   prog = programFor m k
 
@@ -59,7 +59,7 @@ module _ {m : Machine} {vol : ℕ → Bool} {rows first count : List ℕ} {mvs :
   pub few-lanes : countOf h 0 ≤ 4
   few-lanes = omega (arith, b .lanes, law .few-lanes)
 
-  pub begins-run : Runs m vol rows first count mvs h prog
+  pub begins-run : RunnableBy m vol rows first count mvs h prog
   begins-run =
       runs-by s k (b .schedule .accepts) m vol rows first count mvs h prog (b .volatile) (b .lanes) refl (b .start)
       (b .schedule .lets) (b .programs)
@@ -80,7 +80,7 @@ module _ {m : Machine} {vol : ℕ → Bool} {rows first count : List ℕ} {mvs :
 
   -- ## its end
 
-  module _ {q : Ended} {e : Held} (so : Ends m vol mvs prog h q e) where
+  module _ {q : Ended} {e : Blocks} (so : Ends m vol mvs prog h q e) where
     came : {o : Ended} → q ≡ o → runOn m k mvs ≡ outcomeBy prog e (so .row) o
     came r = sym same-run ∙ so .outcome ∙ ap (outcomeBy prog e (so .row)) r
 

@@ -16,10 +16,10 @@ use Rattle.sheet_rows.specs.declared.parts.Parts.{Parts}
 use Rattle.sheet_rows.specs.Rows.{partsIn}
 use Rattle.machine_spec.specs.declared.Machine.{Machine}
 use Rattle.machine_lane.specs.Lanes.{startLane}
-use Rattle.machine_state.specs.States.{Held, stateIn, Block, Sized}
+use Rattle.machine_state.specs.States.{Blocks, stateIn, Block, Sized}
 use Rattle.machine_run.specs.Runs.{ProgramAt}
 use Rattle.machine_start.specs.Programs.{programBytes}
-use Rattle.machine_start.specs.Setup.{ProgramIn, Begins}
+use Rattle.machine_start.specs.Setup.{ProgramIn, AtStart}
 use Rattle.machine_start.proofs.Laws.Programs.{header-read, program-at}
 
 -- ## zeros
@@ -33,7 +33,7 @@ take-same (suc n) (suc m) a h = ap (λ l. a ∷ l) (take-same n m a (omega arith
 abbrev pub counted : ℕ → ℕ → ℕ → List ℕ
 counted n ls ks = n ∷ ls ∷ ks ∷ replicate 61 0
 
-abbrev pub zeroed : ℕ → ℕ → ℕ → Held
+abbrev pub zeroed : ℕ → ℕ → ℕ → Blocks
 zeroed n ls ks =
     let row : List ℕ = replicate 64 0 in
     let block : List (List ℕ) = row ∷ row ∷ row ∷ [] in
@@ -96,7 +96,7 @@ module _ {m : Machine} {mask : ℕ} {rows moves s : List ℕ} {k : Program} (p :
 
   pub begins-zeroed : {vol : ℕ → Bool} {q : Parts} {n ls ks : ℕ} → vol ≡ isVolatile mask → q ≡ partsIn rows
       → n ≡ getD rows 0 0 → ls ≡ getD rows 1 0 → ks ≡ getD rows 2 0
-      → Begins m vol rows (q .from) (q .count) (movesIn moves) (zeroed n ls ks) s k
+      → AtStart m vol rows (q .from) (q .count) (movesIn moves) (zeroed n ls ks) s k
   begins-zeroed {vol} {q} {n} {ls} {ks} ve qe ne le ke =
       let lanes : n ≡ length (k .lanes) = ne ∙ header .0 in
       let small = zeroed-state (length (k .lanes)) (k .locations) (k .locks) (law .few-lanes)

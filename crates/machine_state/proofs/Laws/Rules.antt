@@ -15,7 +15,7 @@ use Rattle.machine_spec.specs.declared.Model.{Model}
 use Rattle.machine_spec.specs.declared.Model.the-variants.{Tso}
 use Rattle.machine_spec.specs.Rules.{mayCommit}
 use Rattle.machine_lane.specs.Lanes.{entryOf, entriesOf, noEntry}
-use Rattle.machine_state.specs.States.{Held, CELLS, VALUES, rowAt, wordAt, storedIn, laneOf}
+use Rattle.machine_state.specs.States.{Blocks, CELLS, VALUES, rowAt, wordAt, storedIn, laneOf}
 use Rattle.machine_lane.proofs.Laws.Entries.{entries-at}
 
 pub oldest-may : (m : Machine) (f : ℕ → Bool) (e : Entry) → true ≡ mayCommit m f [] e
@@ -32,7 +32,7 @@ pub target-may : (k : Model) (f : ℕ → Bool) (older : List Entry) (e : Entry)
 target-may Tso f older e = refl
 
 -- what is pending at an index
-pub pending-at : (s : Held) (t i : ℕ) → i < length (laneOf s t .pending)
+pub pending-at : (s : Blocks) (t i : ℕ) → i < length (laneOf s t .pending)
     → getD (laneOf s t .pending) i noEntry ≡ entryOf (wordAt s t CELLS i) (wordAt s t VALUES i)
 pending-at s t i h =
     let n = storedIn (getD s t []) .len in

@@ -10,7 +10,7 @@ use lib.ListN.{length, getD, take, drop, drop-of-length-le}
 use lib.Seq.{drop-cons, getD-take}
 use Rattle.machine_spec.specs.Entries.{Entry, isSync, sameTarget}
 use Rattle.machine_lane.specs.Lanes.{entryOf, noEntry}
-use Rattle.machine_state.specs.States.{Held, CELLS, VALUES, wordAt, laneOf}
+use Rattle.machine_state.specs.States.{Blocks, CELLS, VALUES, wordAt, laneOf}
 use Rattle.machine_lane.proofs.Laws.Searches.{same-cell}
 use Rattle.machine_state.proofs.Laws.Rules.{pending-at}
 
@@ -29,7 +29,7 @@ module _ (test : Entry → Bool) (any : List Entry → Bool) (none : any [] ≡ 
   past h = ap any (drop-of-length-le es h) ∙ none
 
 -- what the tests of the code say of the entry at i, whose cell is x
-module _ (s : Held) (t i x : ℕ) (cell : x ≡ wordAt s t CELLS i) where
+module _ (s : Blocks) (t i x : ℕ) (cell : x ≡ wordAt s t CELLS i) where
   pub sync-at : (f : ℕ → Bool) (r b : Bool) → i < length (laneOf s t .pending)
       → ((v : ℕ) → r ≡ isSync f (entryOf x v)) → r ≡ b → isSync f (getD (laneOf s t .pending) i noEntry) ≡ b
   sync-at f r b h told e =

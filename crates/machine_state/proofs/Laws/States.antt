@@ -11,7 +11,7 @@ use Rattle.machine_lane.specs.Lanes.{entriesOf, laneIn}
 use Rattle.machine_lane.proofs.Laws.Entries.{entries-length}
 use Rattle.machine_state.specs.States.{CELLS, VALUES, SHARED, MEMORY, LOCKWORDS, COUNTS}
 use Rattle.machine_state.specs.States.{LANES, LOCATIONS, LOCKS}
-use Rattle.machine_state.specs.States.{Held, rowAt, withWord, storedIn, laneOf, countOf, stateIn}
+use Rattle.machine_state.specs.States.{Blocks, rowAt, withWord, storedIn, laneOf, countOf, stateIn}
 use Rattle.machine_state.specs.States.{Block, Sized, Lies, withLane, Became, Shared}
 
 pub take-set : {A : Type 0} (n : ℕ) (l : List A) (t : ℕ) (a : A) → take n (set l t a) ≡ set (take n l) t a
@@ -48,14 +48,14 @@ block-set b j r h k e = record {
 pub word-set : (b : List (List ℕ)) (j i x : ℕ) → Block b → j < 3 → Block (set b j (set (getD b j []) i x))
 word-set b j i x h k = block-set b j _ h k (length-set (getD b j []) i x ∙ h .words j k)
 
-sized-set : (s : Held) (t : ℕ) (b : List (List ℕ)) → Sized s → t < 5 → Block b → Sized (set s t b)
+sized-set : (s : Blocks) (t : ℕ) (b : List (List ℕ)) → Sized s → t < 5 → Block b → Sized (set s t b)
 sized-set s t b h k e = record {
   blocks = length-set s t b ∙ h .blocks;
   each = each-set Block 5 s t b [] (omega (arith, h .blocks)) e (h .each);
 }
 
 -- past a row's end nothing is written
-pub word-past : (s : Held) (t j i x : ℕ) → length (rowAt s t j) ≤ i → withWord s t j i x ≡ s
+pub word-past : (s : Blocks) (t j i x : ℕ) → length (rowAt s t j) ≤ i → withWord s t j i x ≡ s
 word-past s t j i x h =
     ap (λ r. set s t (set (getD s t []) j r)) (set-out (rowAt s t j) i x h)
     ∙ ap (set s t) (set-getD (getD s t []) j [])
@@ -63,7 +63,7 @@ word-past s t j i x h =
 
 -- ## a lane's block is written
 
-module _ (s : Held) (t : ℕ) (h : Lies s t) where
+module _ (s : Blocks) (t : ℕ) (h : Lies s t) where
   inside : t < length s
   inside = omega (arith, h .lane, h .sized .blocks)
 
@@ -105,13 +105,13 @@ module _ (s : Held) (t : ℕ) (h : Lies s t) where
       (own .words CELLS (omega arith)) (own .words VALUES (omega arith)))
 
 -- a lane that came out equal, an array that came out equal, one write after another
-pub became : {s e : Held} {t : ℕ} {l k : Lane} → l ≡ k → Became s t l e → Became s t k e
+pub became : {s e : Blocks} {t : ℕ} {l k : Lane} → l ≡ k → Became s t l e → Became s t k e
 became {s} {e} {t} q b = subst (λ l. Became s t l e) q b
 
-pub came : {s e f : Held} {t : ℕ} {l : Lane} → e ≡ f → Became s t l f → Became s t l e
+pub came : {s e f : Blocks} {t : ℕ} {l : Lane} → e ≡ f → Became s t l f → Became s t l e
 came {s} {t = t} {l} q b = subst (Became s t l) (sym q) b
 
-pub then-became : {s e f : Held} {t : ℕ} {l k : Lane} → Became s t l e → Became e t k f → Became s t k f
+pub then-became : {s e f : Blocks} {t : ℕ} {l k : Lane} → Became s t l e → Became e t k f → Became s t k f
 then-became {s} {t = t} {l} {k} b c = record {
   sized = c .sized;
   lane = c .lane;
@@ -127,10 +127,10 @@ then-became {s} {t = t} {l} {k} b c = record {
 -- ## a word of memory or a lock word is written
 
 -- equal memory and lock words
-pub shared : {s e : Held} {m n l k : List ℕ} → m ≡ n → l ≡ k → Shared s m l e → Shared s n k e
+pub shared : {s e : Blocks} {m n l k : List ℕ} → m ≡ n → l ≡ k → Shared s m l e → Shared s n k e
 shared {s} {e} {m} {n} {l} {k} p q x = subst (λ a. Shared s a k e) p (subst (λ a. Shared s m a e) q x)
 
-module _ (s : Held) (h : Sized s) where
+module _ (s : Blocks) (h : Sized s) where
   block : Block (getD s SHARED [])
   block = h .each SHARED (omega arith)
 

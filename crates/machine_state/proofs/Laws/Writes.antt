@@ -11,7 +11,7 @@ use Rattle.machine_lane.specs.Lanes.{entryOf, entriesOf, laneIn, placedAt, with
 use Rattle.machine_lane.proofs.Laws.Entries.{entries-length, entries-set}
 use Rattle.machine_lane.proofs.Laws.Lanes.{lane-eq}
 use Rattle.machine_state.specs.States.{HEAD, CELLS, VALUES, POSITION, LENGTH, firsts}
-use Rattle.machine_state.specs.States.{Held, rowAt, withWord, storedIn, laneOf, Block, Lies, Became}
+use Rattle.machine_state.specs.States.{Blocks, rowAt, withWord, storedIn, laneOf, Block, Lies, Became}
 use Rattle.machine_state.proofs.Laws.States.{take-set, block-set, word-set}
 use Rattle.machine_state.proofs.Laws.States.{own, block-became, again, became, came}
 
@@ -51,7 +51,7 @@ list-lane (x ∷ y ∷ w ∷ b) c v n h =
     let r = getD-set-same x LENGTH n 0 (omega (arith, h .words HEAD (omega arith))) in
     λ i. record { at = p i; registers = q i; cells = c; values = v; len = r i }
 
-module _ (s : Held) (t : ℕ) (h : Lies s t) where
+module _ (s : Blocks) (t : ℕ) (h : Lies s t) where
   stays : Became s t (laneOf s t) s
   stays = came (sym (set-getD s t [])) (block-became s t h (getD s t []) (own s t h))
 
@@ -93,7 +93,7 @@ module _ (s : Held) (t : ℕ) (h : Lies s t) where
       became (lane-eq refl (sym (set-out (take 8 (rowAt s t HEAD)) a v few)) refl) stays
 
   -- the cells and values are rows c and v, and then n entries are pending
-  pub list-set : (e : Held) (c v : List ℕ) (n : ℕ) → length c ≡ 64 → length v ≡ 64
+  pub list-set : (e : Blocks) (c v : List ℕ) (n : ℕ) → length c ≡ 64 → length v ≡ 64
       → e ≡ set s t (set (set (getD s t []) CELLS c) VALUES v)
       → Became s t (withPending (laneOf s t) (take n (entriesOf c v))) (withWord e t HEAD LENGTH n)
   list-set e c v n full whole q =

@@ -13,19 +13,19 @@ use Rattle.machine_spec.specs.Step.{Turn, landed, freed, commit}
 use Rattle.machine_state.specs.declared.state.Moved.{Moved}
 use Rattle.machine_state.specs.declared.state.Moved.the-variants.{Waited, Done}
 use Rattle.machine_lane.specs.Lanes.{entryOf, noEntry, withPending}
-use Rattle.machine_state.specs.States.{Held, CELLS, VALUES, wordAt, laneOf, coreIn, stateIn, Sized, Became, Shared}
+use Rattle.machine_state.specs.States.{Blocks, CELLS, VALUES, wordAt, laneOf, coreIn, stateIn, Sized, Became, Shared}
 use Rattle.machine_step.specs.Turns.{commits, Took}
 use Rattle.machine_state.proofs.Laws.Rules.{pending-at}
 use Rattle.machine_step.proofs.Laws.Turns.{took-wait, took-does}
 
-module _ (m : Machine) (f : ℕ → Bool) (s : Held) (t i : ℕ) where
+module _ (m : Machine) (f : ℕ → Bool) (s : Blocks) (t i : ℕ) where
   abbrev entries : List Entry
   entries = laneOf s t .pending
 
   abbrev turnOn : Option Entry → Turn
   turnOn e = commit m f (laneOf s t .control) (coreIn s t) i e
 
-  from : {e : Option Entry} {q : Moved} {z : Held} → getElem? entries i ≡ e → Took s t (turnOn e) q z
+  from : {e : Option Entry} {q : Moved} {z : Blocks} → getElem? entries i ≡ e → Took s t (turnOn e) q z
       → Took s t (commits m f s t i) q z
   from {e} {q} {z} h k = subst (λ x. Took s t (turnOn x) q z) (sym h) k
 
@@ -36,7 +36,7 @@ module _ (m : Machine) (f : ℕ → Bool) (s : Held) (t i : ℕ) where
       → Sized s → Took s t (commits m f s t i) Waited s
   commit-waits h may k = from (at-some entries i noEntry h) (rw may (took-wait s t k))
 
-  pub commit-does : (d z : Held) → i < length entries
+  pub commit-does : (d z : Blocks) → i < length entries
       → mayCommit m f (take i entries) (getD entries i noEntry) ≡ true
       → Shared s (landed (stateIn s .memory) (entryOf (wordAt s t CELLS i) (wordAt s t VALUES i)))
       (freed (stateIn s .locks) (entryOf (wordAt s t CELLS i) (wordAt s t VALUES i))) d

@@ -15,7 +15,7 @@ use Rattle.machine_spec.specs.declared.Machine.{Machine}
 use Rattle.machine_state.specs.declared.state.Moved.{Moved}
 use Rattle.machine_state.specs.declared.state.Moved.the-variants.{Waited}
 use Rattle.machine_state.specs.Ready.{Ready, Movable}
-use Rattle.machine_state.specs.States.{Held, laneOf, Sized}
+use Rattle.machine_state.specs.States.{Blocks, laneOf, Sized}
 use Rattle.machine_step.specs.Turns.{carries, commits, turns, Took}
 use Rattle.machine_step.proofs.Laws.Turns.{took-wait}
 
@@ -36,7 +36,7 @@ pub row-from : (n first : ℕ) (s : List ℕ) (p : ℕ) → p < n
     → getElem? (readRows n (drop first s)) p ≡ some (readInstr (drop (first + 8 * p) s))
 row-from n first s p h = row-of n (drop first s) p h ∙ ap (λ x. some (readInstr x)) (drop-drop (8 * p) first s)
 
-pub ready-at : {r : Held} {t : ℕ} {prog : List Instr} {i : Instr} → Movable r t prog
+pub ready-at : {r : Blocks} {t : ℕ} {prog : List Instr} {i : Instr} → Movable r t prog
     → getElem? prog (laneOf r t .control .pos) ≡ some i → Ready r t i
 ready-at h e = record {
   lies = h .lies;
@@ -45,21 +45,21 @@ ready-at h e = record {
 }
 
 -- ## a choice that is made: 0 at an instruction and at the end, and another
-module _ (m : Machine) (f : ℕ → Bool) (prog : List Instr) (s : Held) (t : ℕ) where
-  pub made-carry : {i : Option Instr} {q : Moved} {e : Held} → getElem? prog (laneOf s t .control .pos) ≡ i
+module _ (m : Machine) (f : ℕ → Bool) (prog : List Instr) (s : Blocks) (t : ℕ) where
+  pub made-carry : {i : Option Instr} {q : Moved} {e : Blocks} → getElem? prog (laneOf s t .control .pos) ≡ i
       → Took s t (carries m f s t i) q e → Took s t (turns m f prog s t 0) q e
   made-carry {i} {q} {e} h k = subst (λ x. Took s t (carries m f s t x) q e) (sym h) k
 
   pub made-wait : getElem? prog (laneOf s t .control .pos) ≡ none → Sized s → Took s t (turns m f prog s t 0) Waited s
   made-wait h k = made-carry h (took-wait s t k)
 
-  pub made-commit : (k : ℕ) {q : Moved} {e : Held} → (k ≡ 0 → ⊥) → Took s t (commits m f s t (k - 1)) q e
+  pub made-commit : (k : ℕ) {q : Moved} {e : Blocks} → (k ≡ 0 → ⊥) → Took s t (commits m f s t (k - 1)) q e
       → Took s t (turns m f prog s t k) q e
   made-commit zero h c = absurd (h refl)
   made-commit (suc k) {q} {e} h c =
       let back : suc k - 1 ≡ k = omega arith in
       subst (λ i. Took s t (commits m f s t i) q e) back c
 
-  pub made-as : {k : ℕ} {q : Moved} {e : Held} → k ≡ 0 → Took s t (turns m f prog s t 0) q e → Took s t
+  pub made-as : {k : ℕ} {q : Moved} {e : Blocks} → k ≡ 0 → Took s t (turns m f prog s t 0) q e → Took s t
       (turns m f prog s t k) q e
   made-as {k} {q} {e} h c = subst (λ x. Took s t (turns m f prog s t x) q e) (sym h) c

@@ -14,26 +14,26 @@ use Rattle.machine_spec.specs.State.{laneOf as placed, setLane}
 use Rattle.machine_spec.specs.declared.Machine.{Machine}
 use Rattle.machine_state.specs.declared.state.Moved.the-variants.{Waited, Done, ReleaseNotHeld}
 use Rattle.machine_lane.specs.Lanes.{entryOf, laneIn}
-use Rattle.machine_state.specs.States.{Held, storedIn, laneOf, coreIn, stateIn, Sized, withLane, Became, Shared}
+use Rattle.machine_state.specs.States.{Blocks, storedIn, laneOf, coreIn, stateIn, Sized, withLane, Became, Shared}
 use Rattle.machine_step.specs.Turns.{Took, Carried}
 
-pub took-wait : (s : Held) (t : ℕ) → Sized s → Took s t waits Waited s
+pub took-wait : (s : Blocks) (t : ℕ) → Sized s → Took s t waits Waited s
 took-wait s t h = record { answer = refl; sized = h; lanes = refl; state = refl }
 
 -- an operation that is not permitted
-pub not-permitted : (m : Machine) (f : ℕ → Bool) (s : Held) (t : ℕ) (o : Op)
+pub not-permitted : (m : Machine) (f : ℕ → Bool) (s : Blocks) (t : ℕ) (o : Op)
     → permits m f (coreIn s t) o ≡ false → Sized s → Carried m f (op o) t s Waited s
 not-permitted m f s t o e h = rw e (took-wait s t h)
 
-pub took-refusal : (s : Held) (t : ℕ) → Sized s → Took s t refuses ReleaseNotHeld s
+pub took-refusal : (s : Blocks) (t : ℕ) → Sized s → Took s t refuses ReleaseNotHeld s
 took-refusal s t h = record { answer = refl; sized = h; lanes = refl; state = refl }
 
 -- memory and the lock words stay
-pub kept : (s : Held) → Sized s → Shared s (stateIn s .memory) (stateIn s .locks) s
+pub kept : (s : Blocks) → Sized s → Shared s (stateIn s .memory) (stateIn s .locks) s
 kept s h = record { sized = h; each = λ t k. refl; lanes = refl; state = refl }
 
 -- another lane, memory and lock words
-module _ (s d e : Held) (t : ℕ) (k : Control) (c : Core) (w : Shared s (c .memory) (c .locks) d)
+module _ (s d e : Blocks) (t : ℕ) (k : Control) (c : Core) (w : Shared s (c .memory) (c .locks) d)
     (b : Became d t (placed k c) e) where
   state-after : stateIn e ≡ setLane (stateIn s) t k c
   state-after = b .state ∙ ap (λ x. withLane x t (placed k c)) (w .state)
@@ -45,7 +45,7 @@ module _ (s d e : Held) (t : ℕ) (k : Control) (c : Core) (w : Shared s (c .mem
   took-passes = record { answer = refl; sized = b .sized; lanes = b .lanes ∙ w .lanes; state = state-after }
 
 -- a lane stays where memory and lock words change
-pub same-lane : {s e : Held} {t : ℕ} {m l : List ℕ} → Shared s m l e → t < 4 → laneOf e t ≡ laneOf s t
+pub same-lane : {s e : Blocks} {t : ℕ} {m l : List ℕ} → Shared s m l e → t < 4 → laneOf e t ≡ laneOf s t
 same-lane {t = t} w h = ap (λ b. laneIn (storedIn b)) (w .each t h)
 
 -- the entries of a STORE and of an UNLOCK

@@ -16,10 +16,10 @@ use Rattle.file_format.proofs.Laws.Rules.{four-lanes}
 use Rattle.file_format.proofs.Laws.Stored.{lane-count}
 use Rattle.file_verdict.specs.Verdict.{verdict, accepted, refusalOf, numberOf, recordOf}
 use Rattle.file_verdict.proofs.Laws.Verdict.{sound, accepted-as}
-use Rattle.sheet_format.specs.declared.Lowered.the-variants.{Refuses}
+use Rattle.sheet_format.specs.declared.WriteResult.the-variants.{Refuses}
 use Rattle.sheet_format.specs.Layout.{Instr}
 use Rattle.sheet_format.specs.Levels.{level1}
-use Rattle.sheet_format.specs.Bytes.{word, joined, laneBytes, headerBy, writeInto, answerBy}
+use Rattle.sheet_format.specs.Bytes.{wordBytes, joined, laneBytes, headerBy, writeInto, answerBy}
 use Rattle.sheet_format.specs.Put.{laid, inTurn}
 use Rattle.sheet_format.proofs.Laws.Put.{whole-put}
 use Rattle.sheet_format.proofs.Laws.Rows.{lane-bytes}
@@ -85,7 +85,8 @@ module _ (s : List ℕ) (header : headerRule s ≡ true) where
             ∙ sym (ap joined (map-map (laneBytes level1) f os))
 
         parts-by : {n ls ks m : ℕ} → n ≡ laneCount s → ls ≡ locations s → ks ≡ locks s → m ≡ mask s
-            → (n ∷ ls ∷ ks ∷ level ∷ word m ++ 0 ∷ 0 ∷ []) ++ (word a ++ (word b ++ (word c ++ (word d ++ []))))
+            → (n ∷ ls ∷ ks ∷ level ∷ wordBytes m ++ 0 ∷ 0 ∷ [])
+            ++ (wordBytes a ++ (wordBytes b ++ (wordBytes c ++ (wordBytes d ++ []))))
             ++ inTurn text 4
             ≡ sheetBy
         parts-by en els eks em =
@@ -94,8 +95,8 @@ module _ (s : List ℕ) (header : headerRule s ≡ true) where
             let nb = eb ∙ size-at 1 (omega arith) in
             let nc = ec ∙ size-at 2 (omega arith) in
             let nd = ed ∙ size-at 3 (omega arith) in
-            λ i. (nn i ∷ els i ∷ eks i ∷ level ∷ word (em i) ++ 0 ∷ 0 ∷ [])
-            ++ (word (na i) ++ (word (nb i) ++ (word (nc i) ++ (word (nd i) ++ [])))) ++ lanes-by i
+            λ i. (nn i ∷ els i ∷ eks i ∷ level ∷ wordBytes (em i) ++ 0 ∷ 0 ∷ [])
+            ++ (wordBytes (na i) ++ (wordBytes (nb i) ++ (wordBytes (nc i) ++ (wordBytes (nd i) ++ [])))) ++ lanes-by i
 
         pub body-by : 16 + length (inTurn text 4) ≡ length sheetBy
         body-by = omega (arith, ap length (parts-by refl refl refl refl))
@@ -118,11 +119,11 @@ module _ (s : List ℕ) (header : headerRule s ≡ true) where
         -- the halves of the header and the lanes, put one after the other
         pub put-by : {n ls ks m : ℕ} → n ≡ laneCount s → ls ≡ locations s → ks ≡ locks s → m ≡ mask s
             → {l₁ l₂ l₃ : List ℕ} (buffer : List ℕ) → length sheetBy ≤ length buffer
-            → l₁ ≡ laid buffer 0 (n ∷ ls ∷ ks ∷ level ∷ word m ++ 0 ∷ 0 ∷ [])
-            → l₂ ≡ laid l₁ 8 (word a ++ (word b ++ (word c ++ (word d ++ []))))
+            → l₁ ≡ laid buffer 0 (n ∷ ls ∷ ks ∷ level ∷ wordBytes m ++ 0 ∷ 0 ∷ [])
+            → l₂ ≡ laid l₁ 8 (wordBytes a ++ (wordBytes b ++ (wordBytes c ++ (wordBytes d ++ []))))
             → l₃ ≡ sets l₂ 16 (inTurn text 4)
             → l₃ ≡ writeInto sheetBy buffer .1
         put-by {n} {ls} {ks} {m} en els eks em buffer room =
-            whole-put buffer (n ∷ ls ∷ ks ∷ level ∷ word m ++ 0 ∷ 0 ∷ [])
-            (word a ++ (word b ++ (word c ++ (word d ++ [])))) (inTurn text 4) sheetBy refl refl
+            whole-put buffer (n ∷ ls ∷ ks ∷ level ∷ wordBytes m ++ 0 ∷ 0 ∷ [])
+            (wordBytes a ++ (wordBytes b ++ (wordBytes c ++ (wordBytes d ++ [])))) (inTurn text 4) sheetBy refl refl
             (parts-by en els eks em) room

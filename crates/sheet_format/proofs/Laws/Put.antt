@@ -8,7 +8,7 @@ use lib.ListN.{length, getD, take, drop, set, length-append}
 use lib.Dec.{leb}
 use borrow.Author.Tests.{le-leb}
 use lib.Seq.{sets, sets-eq, set-comm, length-sets, take-suc}
-use Rattle.sheet_format.specs.declared.Lowered.the-variants.{Wrote, Refuses}
+use Rattle.sheet_format.specs.declared.WriteResult.the-variants.{Wrote, Refuses}
 use Rattle.sheet_format.specs.Bytes.{over, writeInto}
 use Rattle.sheet_format.specs.Put.{Puts, laid}
 use Rattle.sheet_format.proofs.Laws.Written.{written-all, short-untouched}

@@ -15,7 +15,7 @@ use Rattle.file_format.proofs.Laws.Stored.{opsFrom-length}
 use Rattle.file_verdict.specs.Verdict.{verdict, accepted}
 use Rattle.sheet_format.specs.Layout.{Instr, sheet}
 use Rattle.sheet_format.specs.Levels.{level1, placed}
-use Rattle.sheet_format.specs.Bytes.{word, joined, laneBytes, headerBy, sheetBytes, writeInto}
+use Rattle.sheet_format.specs.Bytes.{wordBytes, joined, laneBytes, headerBy, sheetBytes, writeInto}
 use Rattle.sheet_format.specs.Items.{TargetsWithin}
 use Rattle.sheet_format.specs.Put.{laid, inTurn}
 use Rattle.sheet_format.proofs.Laws.Loaded.{header-by, sheetBy, body-by, sizes-by, put-by}
@@ -135,8 +135,9 @@ module _ (s : List ℕ) (ok : verdict s ≡ accepted (programOf s)) where
 
         pub sheet-put : {n ls ks : ℕ} → n ≡ laneCount s → ls ≡ locations s → ks ≡ locks s → {l₁ l₂ l₃ : List ℕ}
             (buffer : List ℕ) → length (sheet1 s) ≤ length buffer
-            → l₁ ≡ laid buffer 0 (n ∷ ls ∷ ks ∷ 1 ∷ word m ++ 0 ∷ 0 ∷ [])
-            → l₂ ≡ laid l₁ 8 (word (size 0) ++ (word (size 1) ++ (word (size 2) ++ (word (size 3) ++ []))))
+            → l₁ ≡ laid buffer 0 (n ∷ ls ∷ ks ∷ 1 ∷ wordBytes m ++ 0 ∷ 0 ∷ [])
+            → l₂ ≡ laid l₁ 8
+            (wordBytes (size 0) ++ (wordBytes (size 1) ++ (wordBytes (size 2) ++ (wordBytes (size 3) ++ []))))
             → l₃ ≡ sets l₂ 16 (inTurn texts 4) → l₃ ≡ writeInto (sheet1 s) buffer .1
         sheet-put en els eks {l₁} {l₂} {l₃} buffer room e₁ e₂ e₃ =
             put-by s (header-by s ok) 1 instrs refl texts text-at (first .counted) (second .counted) (third .counted)

@@ -11,7 +11,7 @@ use Rattle.file_wellformed.proofs.Lawful.{accepted-lawful}
 use Rattle.sheet_rows.specs.Rows.{countAt, partsIn}
 use Rattle.sheet_rows.proofs.Laws.Read.{rows-length}
 use Rattle.sheet_rows.proofs.Laws.Parts.{lane-rows}
-use Rattle.sheet_format.specs.declared.Lowered.the-variants.{Wrote, Refuses}
+use Rattle.sheet_format.specs.declared.WriteResult.the-variants.{Wrote, Refuses}
 use Rattle.sheet_format.specs.Layout.{Instr, sheet}
 use Rattle.sheet_format.specs.Levels.{level1, level2, placed, sheetLanes, volatileIn}
 use Rattle.sheet_format.specs.Bytes.{sheetBytes, writeInto, lowerBy, lower1, lower2}

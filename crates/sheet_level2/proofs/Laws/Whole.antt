@@ -11,7 +11,7 @@ use Rattle.sheet_rows.specs.declared.parts.Parts.{Parts}
 use Rattle.sheet_rows.specs.Rows.{partsIn}
 use Rattle.sheet_rows.proofs.Laws.Parts.{lane-rows, sheet-few}
 use Rattle.sheet_format.specs.Levels.{level2}
-use Rattle.sheet_format.specs.Bytes.{word, joined, laneBytes}
+use Rattle.sheet_format.specs.Bytes.{wordBytes, joined, laneBytes}
 use Rattle.sheet_format.specs.Put.{Puts, inTurn}
 use Rattle.sheet_format.specs.Read.{readRows, readSheet}
 use Rattle.sheet_format.specs.Relower.{relower, relowerLanes, relowerBytes}
@@ -107,10 +107,10 @@ module _ (s : List ℕ) {kept : List ℕ} (k : Kept s kept) where
   n t = getD kept t 0
 
   abbrev firstHalf : List ℕ
-  firstHalf = byte s 0 ∷ byte s 1 ∷ byte s 2 ∷ 2 ∷ word 0 ++ 0 ∷ 0 ∷ []
+  firstHalf = byte s 0 ∷ byte s 1 ∷ byte s 2 ∷ 2 ∷ wordBytes 0 ++ 0 ∷ 0 ∷ []
 
   abbrev counts : ℕ → ℕ → ℕ → ℕ → List ℕ
-  counts a b c d = word a ++ (word b ++ (word c ++ (word d ++ [])))
+  counts a b c d = wordBytes a ++ (wordBytes b ++ (wordBytes c ++ (wordBytes d ++ [])))
 
   count-is : (t : ℕ) → t < 4 → n t ≡ length (getD (relowerLanes s) t [])
   count-is t h = k .each t h ∙ ap length (sym (List·getD-map (relower level2) (readSheet s) t []))

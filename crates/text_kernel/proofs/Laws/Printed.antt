@@ -6,7 +6,7 @@ use lib.ListN.{length, drop}
 use Rattle.file_format.specs.Fields.{mask}
 use Rattle.file_format.specs.Accepted.{Program}
 use Rattle.file_verdict.proofs.Laws.Verdict.{accepted-as}
-use Rattle.sheet_format.specs.declared.Lowered.the-variants.{Wrote, Refuses}
+use Rattle.sheet_format.specs.declared.WriteResult.the-variants.{Wrote, Refuses}
 use Rattle.sheet_format.specs.Levels.{level2}
 use Rattle.sheet_format.specs.Bytes.{sheetBytes, lower2}
 use Rattle.sheet_format.proofs.Answers.{refuses-as, wrote-as}

@@ -5,7 +5,7 @@ use native.Mathlib.Omega.{arith}
 use lib.ListN.{length-replicate}
 use Rattle.file_format.proofs.Laws.Rules.{few-records}
 use Rattle.file_verdict.specs.Verdict.{numberOf, recordOf}
-use Rattle.sheet_format.specs.declared.Lowered.the-variants.{Refuses}
+use Rattle.sheet_format.specs.declared.WriteResult.the-variants.{Refuses}
 use Rattle.sheet_format.proofs.Laws.Loaded.{refused-by, accepted-by}
 use Rattle.file_rows.specs.Chains.{chainBytes}
 use Rattle.file_accept.proofs.Laws.Copied.{size-small, rows-room, part-counted, answer-short, answer-copied}

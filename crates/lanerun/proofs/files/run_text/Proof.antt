@@ -25,8 +25,8 @@ array-share-prefix-moves c =
     let text = b .before .before .before .args .text .now in
     omega (arith, read-fits text (b .large-buffer .result) (c .before .answer .given .1) (r .read-schedule .ensures))
 
-slice-aggregate-run-moves : tie.Need-slice-aggregate-run-moves
-slice-aggregate-run-moves c =
+slice-aggregate-run-and-tell : tie.Need-slice-aggregate-run-and-tell
+slice-aggregate-run-and-tell c =
     let a = c .before .before .answer .given in
     let r = c .before .before .before .before .before in
     let b = r .before .before in
@@ -34,8 +34,8 @@ slice-aggregate-run-moves c =
     let fits = read-fits text (b .large-buffer .result) (a .1) (r .read-schedule .ensures) in
     omega (arith, fits, length-take (a .0 .0) (r .read-schedule .last .1 .0))
 
-run-moves-requires : tie.Need-run-moves-requires
-run-moves-requires c κs =
+run-and-tell-requires : tie.Need-run-and-tell-requires
+run-and-tell-requires c κs =
     let a = c .before .before .answer .given in
     let r = c .before .before .before .before .before in
     let b = r .before .before in
@@ -76,8 +76,8 @@ run-text-spec =
     read-schedule-requires
     enum-known-answer
     array-share-prefix-moves
-    slice-aggregate-run-moves
-    run-moves-requires
+    slice-aggregate-run-and-tell
+    run-and-tell-requires
     enum-known-answer-2
     say-malformed-requires
     enum-told

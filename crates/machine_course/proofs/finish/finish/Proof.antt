@@ -14,7 +14,7 @@ end-of-requires c κs = let so = c .before .pre .stands in (so .sized, stands-fi
 returns : tie.Need-returns
 returns c = λ s m mvs rows so. record {
   number = so .number;
-  blames = so .blames;
+  rec = so .rec;
   state = c .end-of .ensures ∙ so .state;
   finished = c .before .finished .ensures s m mvs rows so;
   done = so .done;

@@ -2,7 +2,7 @@
 use mathlib.Core.Path.{ap}
 use mathlib.Core.List.{_++_}
 use native.Mathlib.Omega.{arith}
-use Rattle.sheet_format.specs.Bytes.{word}
+use Rattle.sheet_format.specs.Bytes.{wordBytes}
 use Rattle.sheet_format.proofs.Laws.Put.{puts-on, puts-as, puts-length}
 use Rattle.machine_record.specs.Lanes.{stateLane}
 use Rattle.sheet_format.specs.Put.{inTurn}
@@ -53,8 +53,9 @@ unfolding stateLane
 returns c =
     let p = c .before .before .before .before .before .before .before in
     let w = p .before .before .before .before .before in
-    let head = puts-as (ap (λ n. word (w .before .before .before .before .before .before .before .before .args .lane
-    .at) ++ word n) (w .before .count .ensures .0)) (w .put-words .ensures) in
+    let head = puts-as (ap
+    (λ n. wordBytes (w .before .before .before .before .before .before .before .before .args .lane
+    .at) ++ wordBytes n) (w .before .count .ensures .0)) (w .put-words .ensures) in
     puts-on (puts-on head (p .put-table .ensures)) (c .before .before .write-entries .ensures)
 
 pub write-lane-spec : {M : Type 1} → statement M

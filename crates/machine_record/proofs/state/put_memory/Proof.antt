@@ -3,7 +3,7 @@ use Prim.Native.Nat.{_≤_, _-_}
 use mathlib.Core.Path.{_≡_, refl, ap, _∙_}
 use native.Mathlib.Omega.{arith}
 use lib.ListN.{getD}
-use Rattle.sheet_format.specs.Bytes.{quad}
+use Rattle.sheet_format.specs.Bytes.{quadBytes}
 use Rattle.sheet_format.specs.Put.{Puts, inTurn}
 use Rattle.sheet_format.proofs.Laws.Put.{puts-as, puts-length}
 use Rattle.sheet_format.proofs.Laws.Turn.{turn-none, turn-on, turn-end}
@@ -14,7 +14,7 @@ use Rattle.machine_record.proofs.state.put_memory.Tie as tie
 
 abbrev Inv-loop : tie.InvT-loop
 Inv-loop out₀ at state next₀ x₀ out next x = (x ≤ 16) × Puts out₀ at
-    (inTurn (λ i. quad (getD (stateIn state .memory) i 0)) x) out next
+    (inTurn (λ i. quadBytes (getD (stateIn state .memory) i 0)) x) out next
 
 abbrev μ-loop : tie.MeasureT-loop
 μ-loop out₀ at state next₀ x₀ out next x = 16 - x
@@ -31,7 +31,8 @@ wide-requires c κs = search needs
 put-quad-requires : tie.Need-put-quad-requires Inv-loop μ-loop
 put-quad-requires c κs =
     let l = c .before .before .before .before .loop in
-    let end = turn-end (λ i. quad (getD (stateIn (c .before .before .before .before .before .before .args .state .now)
+    let end = turn-end
+    (λ i. quadBytes (getD (stateIn (c .before .before .before .before .before .before .args .state .now)
     .memory) i 0)) 4 (l .x) (λ i. refl) (l .inv .1) in
     omega (
       arith,
@@ -52,9 +53,10 @@ loop-again : tie.Need-loop-again Inv-loop μ-loop
 loop-again c =
     let l = c .before .before .before .before .before .before .before .loop in (
       omega (arith, c .before .before .before .before .before .before .loop-test .taken),
-      turn-on (λ i. quad (getD (stateIn (c .before .before .before .before .before .before .before .before .before
+      turn-on (λ i. quadBytes (getD (stateIn (c .before .before .before .before .before .before .before .before .before
           .args .state .now) .memory) i 0)) (l .x) (l .inv .1)
-          (puts-as (ap quad (c .before .before .before .wide .ensures ∙ c .before .before .before .before .memory-at
+          (puts-as (ap quadBytes (c .before .before .before .wide .ensures
+          ∙ c .before .before .before .before .memory-at
           .ensures)) (c .before .before .put-quad .ensures)),
     )
 
@@ -65,7 +67,8 @@ returns : tie.Need-returns Inv-loop μ-loop
 returns c =
     let l = c .before .loop in
     let last : l .x ≡ 16 = omega (arith, c .loop-test .left) in
-    puts-as (ap (inTurn (λ i. quad (getD (stateIn (c .before .before .before .args .state .now) .memory) i 0))) last)
+    puts-as
+    (ap (inTurn (λ i. quadBytes (getD (stateIn (c .before .before .before .args .state .now) .memory) i 0))) last)
     (l .inv .1)
 
 pub put-memory-spec : {M : Type 1} → statement M

@@ -1,6 +1,6 @@
 -- `machine_start::run::run_lanes` meets its contract.
 use mathlib.Core.Path.{ap, _∙_}
-use Rattle.sheet_format.specs.declared.Lowered.the-variants.{Wrote}
+use Rattle.sheet_format.specs.declared.WriteResult.the-variants.{Wrote}
 use Rattle.sheet_format.specs.Bytes.{over}
 use Rattle.machine_start.proofs.Laws.Runs.{begins-run, begins-runnable, few-ended}
 use Rattle.machine_start.proofs.Laws.Runs.{never-refused, small, record-is}
@@ -8,8 +8,8 @@ use borrow.Author.Needs.{needs}
 use Rattle.machine_start.proofs.run.run_lanes.Statement.{statement}
 use Rattle.machine_start.proofs.run.run_lanes.Tie as tie
 
-run-moves-requires : tie.Need-run-moves-requires
-run-moves-requires c κs = let b = c .before .before .before .before .before .pre .1 .begins in
+run-bytes-requires : tie.Need-run-bytes-requires
+run-bytes-requires c κs = let b = c .before .before .before .before .before .pre .1 .begins in
     (b .sized, begins-runnable b)
 
 enum-told : tie.Need-enum-told
@@ -21,19 +21,19 @@ enum-known-answer c = search needs
 ended-requires : tie.Need-ended-requires
 ended-requires c κs =
     let b = c .before .before .before .before .before .before .before .before .before .before .pre .1 .begins in
-    let so = c .before .before .before .before .run-moves .ensures _ (begins-run b) in
+    let so = c .before .before .before .before .run-bytes .ensures _ (begins-run b) in
     (so .sized, few-ended b so)
 
 write-state-requires : tie.Need-write-state-requires
 write-state-requires c κs =
     let s = c .before .before .before .before .before .before .before .before .before .before .before .before .before in
     let b = s .pre .1 .begins in
-    let so = c .before .before .before .before .before .before .before .run-moves .ensures _ (begins-run b) in
+    let so = c .before .before .before .before .before .before .before .run-bytes .ensures _ (begins-run b) in
     (s .pre .0, (so .sized, small b so (c .before .before .before .before .before .answer .given .1)))
 
 returns : tie.Need-returns
 returns c =
-    λ s k b. absurd (never-refused b (c .before .before .run-moves .ensures _ (begins-run b)) (c .enum-told .given .1))
+    λ s k b. absurd (never-refused b (c .before .before .run-bytes .ensures _ (begins-run b)) (c .enum-told .given .1))
 
 same-length : tie.Need-same-length
 same-length c = search needs
@@ -43,7 +43,7 @@ returns-2 c =
     let r = c .before .before .before .before .before .before .before .before .before .before in
     let a = r .before .before .before .before .before .before .args in
     λ s k b.
-    let so = r .run-moves .ensures _ (begins-run b) in
+    let so = r .run-bytes .ensures _ (begins-run b) in
     (λ i. (Wrote 2280, c .before .before .write-state .ensures i))
     ∙ ap (λ x. (Wrote 2280, over x (a .out .now))) (record-is b so
     (c .before .before .before .before .before .before .before .before .answer .given .1)
@@ -53,7 +53,7 @@ pub run-lanes-spec : {M : Type 1} → statement M
 run-lanes-spec =
     tie.close
     (tie.spec
-    run-moves-requires
+    run-bytes-requires
     enum-told
     enum-known-answer
     ended-requires

@@ -4,7 +4,7 @@ use native.Mathlib.Omega.{arith}
 use lib.ListN.{length, drop, length-append, length-drop}
 use Rattle.file_format.specs.Accepted.{programOf}
 use Rattle.file_verdict.specs.Verdict.{numberOf, recordOf}
-use Rattle.sheet_format.specs.declared.Lowered.the-variants.{Refuses}
+use Rattle.sheet_format.specs.declared.WriteResult.the-variants.{Refuses}
 use Rattle.sheet_format.specs.Levels.{level1}
 use Rattle.sheet_format.specs.Bytes.{sheetBytes}
 use Rattle.sheet_format.proofs.Laws.Loaded.{refused-by, accepted-by, answered-by}

@@ -4,7 +4,7 @@ use mathlib.Core.Path.{refl, sym, _∙_}
 use mathlib.Core.List.{[], _∷_, _++_}
 use native.Mathlib.Omega.{arith}
 use lib.ListN.{length}
-use Rattle.sheet_format.specs.Bytes.{word}
+use Rattle.sheet_format.specs.Bytes.{wordBytes}
 use Rattle.sheet_format.specs.Put.{laid, inTurn}
 use Rattle.sheet_format.specs.Relower.{relowerBytes}
 use Rattle.sheet_format.proofs.Laws.Put.{whole-put, laid-length}
@@ -139,7 +139,7 @@ returns-2 c =
     .before .before in
     let first = z .put-first .ensures
     ∙ (λ j. laid out 0 (z .before .before .before .byte-at .ensures j ∷ z .before .before .byte-at2 .ensures j ∷ z
-    .before .byte-at3 .ensures j ∷ 2 ∷ word 0 ++ 0 ∷ 0 ∷ [])) in
+    .before .byte-at3 .ensures j ∷ 2 ∷ wordBytes 0 ++ 0 ∷ 0 ∷ [])) in
     let room : length (relowerBytes s) ≤ length out = omega (
       arith,
       parts-size s k,

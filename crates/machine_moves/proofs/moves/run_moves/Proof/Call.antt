@@ -30,7 +30,7 @@ use denote.Triple.Entry.{Vals}
 use denote.Triple.Spec.{tripleOf}
 use denote.Triple.Walked.{says, Stays, stay-none-ref, stay-none-slice, stay-none, stay-ref, walkOf, ends-at}
 use denote.Exit.{yes}
-use Rattle.machine_state.specs.States.{Held}
+use Rattle.machine_state.specs.States.{Blocks}
 use Rattle.machine_course.specs.declared.moves.Move.{Move}
 use Rattle.machine_course.specs.declared.course.Course.{Course}
 use Rattle.machine_course.specs.Stands.{Standing}
@@ -90,7 +90,7 @@ Own₀ κ r = ShrRef (named 0) κ R₀ .own r (vptr (r .ptr .0) (r .ptr .1) ∷ 
 abbrev pub Own : Lft → RefT (List Move) → Fml
 Own κ ms = ShrSlice (named 1) κ Mv.the-row .own ms (sliceOf ms ∷ [])
 
-abbrev pub Ref : Lft → RefT Held → Fml
+abbrev pub Ref : Lft → RefT Blocks → Fml
 Ref κ r = MutRef (named 2) κ R .own r (vptr (r .ptr .0) (r .ptr .1) ∷ [])
 
 module _ {M : Type 1} (𝓤 : URA M) (H : Heap 𝓤) (A : Atoms 𝓤) (mem : Memory → SProp 𝓤) (run : Routine → Fun 𝓤) where
@@ -101,7 +101,7 @@ module _ {M : Type 1} (𝓤 : URA M) (H : Heap 𝓤) (A : Atoms 𝓤) (mem : Mem
 module _ {M : Type 1} (𝓤 : URA M) (H : Heap 𝓤) (A : Atoms 𝓤) (W : Given 𝓤 H A) (mem : Memory → SProp 𝓤)
     (run : Routine → Fun 𝓤) (κ₀ κ κ′ : Lft) (q₀ q q′ : Share) (b₀ o₀ : ℕ) (γ₀ : GName) (rows : List ℕ)
     (ms : RefT (List Move))
-    (y : Course) (b′ o′ : ℕ) (γ′ : GName) (h : Held) where
+    (y : Course) (b′ o′ : ℕ) (γ′ : GName) (h : Blocks) where
   abbrev pub rs : RefT (List ℕ)
   rs = refTo b₀ o₀ γ₀ rows
 
@@ -115,7 +115,7 @@ module _ {M : Type 1} (𝓤 : URA M) (H : Heap 𝓤) (A : Atoms 𝓤) (W : Given
   abbrev pub Post : Val → SProp 𝓤
   Post = walkOf 𝓤 H A run-moves.ended stayed (run-moves.clauses 𝓤 H A mem run) .post bound
 
-  pub exits : (r : Course) (u : Val) (z : Held) → Made rows (ms .now) y h r z → Is T.the-row y (runOf y ∷ [])
+  pub exits : (r : Course) (u : Val) (z : Blocks) → Made rows (ms .now) y h r z → Is T.the-row y (runOf y ∷ [])
       → Is T.the-row r (u ∷ [])
       → ent 𝓤 (⋆ 𝓤 H A (‵ (flft κ q) ∷ ‵ (flft κ′ q′) ∷ ‵ (Ref κ′ (refTo b′ o′ γ′ z)) ∷ ‵ (Own κ ms) ∷ ‵ (flft κ₀ q₀)
       ∷ ‵ (Own₀ κ₀ rs) ∷ [])) (Post u)
@@ -131,7 +131,7 @@ module _ {M : Type 1} (𝓤 : URA M) (H : Heap 𝓤) (A : Atoms 𝓤) (W : Given
       owned ! T.the-row (Is T.the-row) (LL.makes T.the-type T′.the-plain 𝓤 H A) r _ isr $ done !
 
   -- ## the call: `fold_move` is passed the rows, the two numbers of the move e, x, and the state lent again
-  module _ (e : Move) (x : Course) (u : Val) (z : Held) (ν : ℕ) (δ : GName) where
+  module _ (e : Move) (x : Course) (u : Val) (z : Blocks) (ν : ℕ) (δ : GName) where
     abbrev pub given-to : Vals fold-move.signature (κ₀, (ν ∷ [], tt))
     given-to =
         (vptr b₀ o₀ ∷ [], (vint w8 (e .lane) ∷ [], (vint w8 (e .choice) ∷ [], (u ∷ [], (vptr b′ o′ ∷ [], tt)))))

@@ -42,7 +42,7 @@ use denote.Triple.Statement.{Triple}
 use denote.Triple.Call.{calls-at}
 use denote.Triple.Clauses.{ensured, lasts}
 use borrow.Author.Tests.{lt-ltb, le-ltb}
-use Rattle.machine_state.specs.States.{Held}
+use Rattle.machine_state.specs.States.{Blocks}
 use Rattle.machine_course.specs.declared.moves.Move.{Move}
 use Rattle.machine_course.specs.declared.course.Course.{Course}
 use Rattle.machine_course.proofs.moves.Move as Mv
@@ -72,7 +72,7 @@ module _ {M : Type 1} (𝓤 : URA M) (H : Heap 𝓤) (l₀ l₁ l₂ l₃ l₄ l
 module _ {M : Type 1} (𝓤 : URA M) (H : Heap 𝓤) (A : Atoms 𝓤) (W : Given 𝓤 H A) (mem : Memory → SProp 𝓤)
     (run : Routine → Fun 𝓤) (κ₀ κ κ′ : Lft) (q₀ q q′ : Share) (b₀ o₀ : ℕ) (γ₀ : GName) (rows : List ℕ) (b o : ℕ)
     (γ : GName)
-    (ys : List Move) (y : Course) (b′ o′ : ℕ) (γ′ : GName) (h : Held) (𝓣 : Tables 𝓤 H)
+    (ys : List Move) (y : Course) (b′ o′ : ℕ) (γ′ : GName) (h : Blocks) (𝓣 : Tables 𝓤 H)
     (known : Triple 𝓤 (𝓣 .C #fold-move) (Fold 𝓤 H A mem run)) (g : Room Mv.the-row (length ys))
     (isy : Is T.the-row y (runOf y ∷ [])) (fresh : Fresh rows y h) (l₀ l₁ l₂ l₃ l₄ l₅ l₆ l₇ l₈ l₉ l₁₀ l₁₁ : ℕ) where
   abbrev n : ℕ
@@ -84,7 +84,7 @@ module _ {M : Type 1} (𝓤 : URA M) (H : Heap 𝓤) (A : Atoms 𝓤) (W : Given
   abbrev ms : RefT (List Move)
   ms = refTo b o γ ys
 
-  abbrev st : GName → Held → RefT Held
+  abbrev st : GName → Blocks → RefT Blocks
   st = refTo b′ o′
 
   abbrev Ends : Val → SProp 𝓤
@@ -100,7 +100,7 @@ module _ {M : Type 1} (𝓤 : URA M) (H : Heap 𝓤) (A : Atoms 𝓤) (W : Given
   En = locals 𝓤 H l₀ l₁ l₂ l₃ l₄ l₅ l₆ l₇ l₈ l₉ l₁₀ l₁₁
 
   -- what stands at the loop's head: x has the machine value u, the state is z, and i moves are made
-  abbrev At : ℕ → Val → Held → List (Item 𝓤)
+  abbrev At : ℕ → Val → Blocks → List (Item 𝓤)
   At i u z =
       ‵ (flft κ q) ∷ ‵ (flft κ′ q′) ∷ ‵ (Ref κ′ (st γ′ z)) ∷ ‵ (fat fullShare word l₅ 0 (vint w64 i))
       ∷ ‵ (froom move′ l₆ 0) ∷ ‵ (froom word l₇ 0) ∷ ‵ (froom tyBool l₈ 0) ∷ ‵ (froom tyPtr l₉ 0) ∷ ‵
@@ -112,10 +112,10 @@ module _ {M : Type 1} (𝓤 : URA M) (H : Heap 𝓤) (A : Atoms 𝓤) (W : Given
       ∷ ‵ (fdies tyBool l₈) ∷ ‵ (fdies tyPtr l₉) ∷ ‵ (fdies move′ l₁₀) ∷ ‵ (fdies refE l₁₁) ∷ []
 
   -- i moves made x and z of y and h, and x has the machine value u
-  abbrev Facts : ℕ → ℕ × (Course × (Val × Held)) → Type 0
+  abbrev Facts : ℕ → ℕ × (Course × (Val × Blocks)) → Type 0
   Facts t (i, (x, (u, z))) = (i + t ≡ n) × Made rows (take i ys) y h x z × Is T.the-row x (u ∷ [])
 
-  abbrev Holds : ℕ → ℕ × (Course × (Val × Held)) → SProp 𝓤
+  abbrev Holds : ℕ → ℕ × (Course × (Val × Blocks)) → SProp 𝓤
   Holds t z = guard 𝓤 (Facts t z) (⋆ 𝓤 H A (At (z .0) (z .1 .1 .0) (z .1 .1 .1)))
 
   abbrev Inv : ℕ → SProp 𝓤
@@ -127,13 +127,13 @@ module _ {M : Type 1} (𝓤 : URA M) (H : Heap 𝓤) (A : Atoms 𝓤) (W : Given
   abbrev Left : Out → SProp 𝓤
   Left = afterBlock 𝓤 H (afterSeq 𝓤 H (Wp 𝓤 H C Λ En t-3 (atReturn 𝓤 H En Ends)) (atReturn 𝓤 H En Ends))
 
-  inv-in : (t : ℕ) (z : ℕ × (Course × (Val × Held))) → Facts t z
+  inv-in : (t : ℕ) (z : ℕ × (Course × (Val × Blocks))) → Facts t z
       → ent 𝓤 (⋆ 𝓤 H A (At (z .0) (z .1 .1 .0) (z .1 .1 .1))) (Inv t)
   inv-in t z f =
       via 𝓤 _ (guardI 𝓤 (Facts t z) (⋆ 𝓤 H A (At (z .0) (z .1 .1 .0) (z .1 .1 .1))) f) (exI 𝓤 (Holds t) z)
 
   -- the turn that leaves the loop, and the rest of the body
-  ends : (X : SProp 𝓤) (i : ℕ) (x : Course) (u : Val) (z : Held) → n ≤ i → Made rows ys y h x z
+  ends : (X : SProp 𝓤) (i : ℕ) (x : Course) (u : Val) (z : Blocks) → n ≤ i → Made rows ys y h x z
       → Is T.the-row x (u ∷ []) → ent 𝓤 (⋆ 𝓤 H A (At i u z)) (Wp 𝓤 H C Λ En turn-1 (afterTurn 𝓤 H X Left))
   unfolding afterTurn
   ends X i x u z big e isx =
@@ -155,7 +155,7 @@ module _ {M : Type 1} (𝓤 : URA M) (H : Heap 𝓤) (A : Atoms 𝓤) (W : Given
       by ! (exits 𝓤 H A W mem run κ₀ κ κ′ q₀ q q′ b₀ o₀ γ₀ rows ms y b′ o′ γ′ h x u z e isy isx)
 
   -- a turn that makes one move
-  module _ (X : SProp 𝓤) (i : ℕ) (x : Course) (u : Val) (z : Held) (small : i < n) (isx : Is T.the-row x (u ∷ []))
+  module _ (X : SProp 𝓤) (i : ℕ) (x : Course) (u : Val) (z : Blocks) (small : i < n) (isx : Is T.the-row x (u ∷ []))
       (made : Made rows (take i ys) y h x z) where
     abbrev e : Move
     e = getD ys i none
@@ -172,7 +172,7 @@ module _ {M : Type 1} (𝓤 : URA M) (H : Heap 𝓤) (A : Atoms 𝓤) (W : Given
     few : i < 2 ^ 62
     few = omega (arith, g .1)
 
-    more : ((r : Course) (u′ : Val) (z′ : Held) → Moves rows e x z r z′ → Is T.the-row r (u′ ∷ [])
+    more : ((r : Course) (u′ : Val) (z′ : Blocks) → Moves rows e x z r z′ → Is T.the-row r (u′ ∷ [])
         → ent 𝓤 (⋆ 𝓤 H A (At (suc i) u′ z′)) X)
         → ent 𝓤 (⋆ 𝓤 H A (At i u z)) (Wp 𝓤 H C Λ En turn-1 (afterTurn 𝓤 H X Left))
     unfolding afterTurn
@@ -228,7 +228,7 @@ module _ {M : Type 1} (𝓤 : URA M) (H : Heap 𝓤) (A : Atoms 𝓤) (W : Given
         ⊛ raw (ensured 𝓤 H A fold-move.ended (fold-move.clauses 𝓤 H A mem run) (κ₀, (ν ∷ [], tt))
         (rs, (e .lane, (e .choice, (x, (st δ z, tt))))) tt r)))) (id⊢ 𝓤 _) $ await ! tt $ pick ! (λ r.
         split ! $ move ! (1 ∷ []) $
-        use1 W (some (λ (ws : Unit {0} × (Unit {0} × (Unit {0} × (Unit {0} × (Held × Unit {0}))))).
+        use1 W (some (λ (ws : Unit {0} × (Unit {0} × (Unit {0} × (Unit {0} × (Blocks × Unit {0}))))).
         ‵ (lasts fold-move.ended (κ₀, (ν ∷ [], tt)) (rs, (e .lane, (e .choice, (x, (st δ z, tt))))) ws)
         ⊛ raw (fact 𝓤 (Moves rows e x z r (ws .1 .1 .1 .1 .0))))) (id⊢ 𝓤 _) $ pick ! (λ ws.
         split ! $ move ! (1 ∷ []) $ heard ! (Moves rows e x z r (ws .1 .1 .1 .1 .0)) (λ is-next.
@@ -248,7 +248,7 @@ module _ {M : Type 1} (𝓤 : URA M) (H : Heap 𝓤) (A : Atoms 𝓤) (W : Given
         keep ! (10 ∷ 1 ∷ 0 ∷ 13 ∷ 14 ∷ 15 ∷ 16 ∷ 17 ∷ 18 ∷ 19 ∷ 20 ∷ 12 ∷ 21 ∷ 22 ∷ 23 ∷ 3 ∷ 9 ∷ 24 ∷ 25 ∷ 26 ∷ 27
         ∷ 28 ∷ 29 ∷ 30 ∷ 31 ∷ 32 ∷ 33 ∷ 34 ∷ 35 ∷ 36 ∷ []) $ by ! (k r u′ (ws .1 .1 .1 .1 .0) is-next isr))))))))))
 
-  turn-at : (t : ℕ) (z : ℕ × (Course × (Val × Held))) → Facts t z
+  turn-at : (t : ℕ) (z : ℕ × (Course × (Val × Blocks))) → Facts t z
       → ent 𝓤 (⋆ 𝓤 H A (At (z .0) (z .1 .1 .0) (z .1 .1 .1))) (Wp 𝓤 H C Λ En turn-1 (afterTurn 𝓤 H (Below t) Left))
   turn-at zero (i, (x, (u, z))) f =
       let big : n ≤ i = omega (arith, f .0) in

@@ -28,7 +28,7 @@ use denote.Slice.{ShrSlice, Room}
 use denote.Struct.Laws as LL
 use denote.Triple.Statement.{Triple}
 use denote.Triple.Entry.{Vals, onEntry}
-use Rattle.machine_state.specs.States.{Held}
+use Rattle.machine_state.specs.States.{Blocks}
 use Rattle.machine_course.specs.declared.moves.Move.{Move}
 use Rattle.machine_course.specs.declared.course.Course.{Course}
 use Rattle.machine_course.proofs.moves.Move as Mv
@@ -47,7 +47,7 @@ use Rattle.machine_moves.proofs.Laws.Arrays.{R₀, R, refTo, sliceOf}
 module _ {M : Type 1} (𝓤 : URA M) (H : Heap 𝓤) (A : Atoms 𝓤) (W : Given 𝓤 H A) (mem : Memory → SProp 𝓤)
     (run : Routine → Fun 𝓤) (κ₀ κ κ′ : Lft) (q₀ q q′ : Share) (b₀ o₀ : ℕ) (γ₀ : GName) (rows : List ℕ) (b o : ℕ)
     (γ : GName)
-    (ys : List Move) (y : Course) (b′ o′ : ℕ) (γ′ : GName) (h : Held) where
+    (ys : List Move) (y : Course) (b′ o′ : ℕ) (γ′ : GName) (h : Blocks) where
   abbrev n : ℕ
   n = length ys
 
@@ -57,7 +57,7 @@ module _ {M : Type 1} (𝓤 : URA M) (H : Heap 𝓤) (A : Atoms 𝓤) (W : Given
   abbrev ms : RefT (List Move)
   ms = refTo b o γ ys
 
-  abbrev st : GName → Held → RefT Held
+  abbrev st : GName → Blocks → RefT Blocks
   st = refTo b′ o′
 
   abbrev Ends : Val → SProp 𝓤

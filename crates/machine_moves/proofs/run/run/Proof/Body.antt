@@ -36,7 +36,7 @@ use denote.Triple.Clauses.{ensured, lasts}
 use Rattle.machine_spec.specs.Schedule.{Move as Text}
 use Rattle.machine_spec.specs.declared.Machine.{Machine}
 use Rattle.machine_spec.proofs.Machine as E
-use Rattle.machine_state.specs.States.{Held, Sized}
+use Rattle.machine_state.specs.States.{Blocks, Sized}
 use Rattle.machine_course.specs.declared.moves.Move.{Move}
 use Rattle.machine_course.specs.declared.course.Course.{Course}
 use Rattle.machine_course.specs.declared.finish.Ran.{Ran}
@@ -88,14 +88,14 @@ module _ {M : Type 1} (𝓤 : URA M) (H : Heap 𝓤) (A : Atoms 𝓤) (W : Given
   K a b c d =
       ‵ (flft κf qf) ∷ ‵ (flft κ q) ∷ ‵ (Bytes κf fs) ∷ ‵ (Moves κ ms) ∷ standing 𝓤 H l m fs ms a b c d
 
-  abbrev Moved : List ℕ → Course → Held → Course → Held → Type 0
+  abbrev Moved : List ℕ → Course → Blocks → Course → Blocks → Type 0
   Moved r x z y e = (f : List ℕ) (c : Machine) → Stands f c [] r x z → Stands f c (movesOf mvs) r y e
 
-  abbrev Finishes : Course → Held → Ran → Type 0
+  abbrev Finishes : Course → Blocks → Ran → Type 0
   Finishes y z n =
       (f : List ℕ) (c : Machine) (k : List Text) (r : List ℕ) → Stands f c k r y z → Answers n (answerBy c f k)
 
-  finishes : (r : List ℕ) (z : Held) (y : Course) (w : Val) → Is T.the-row y (w ∷ []) → Stands file m
+  finishes : (r : List ℕ) (z : Blocks) (y : Course) (w : Val) → Is T.the-row y (w ∷ []) → Stands file m
       (movesOf mvs) r y z
       → ent 𝓤 (⋆ 𝓤 H A (K (Rows l r) (State l z) (noX l) (hasY l w)))
       (Wp 𝓤 H C Λ En t-11 (atReturn 𝓤 H En Ends))
@@ -135,7 +135,7 @@ module _ {M : Type 1} (𝓤 : URA M) (H : Heap 𝓤) (A : Atoms 𝓤) (W : Given
       free1 ! $ free1 ! $ free1 ! $ free1 ! $ free1 ! $ free0 ! $
       by ! (exits 𝓤 H A W mem run κf κ qf q m fs ms n v (says-so file m (movesOf mvs) r so) ism isn))))))))
 
-  moves-all : (r : List ℕ) (z : Held) (x : Course) (u : Val) → Is T.the-row x (u ∷ []) → Stands file m [] r x z
+  moves-all : (r : List ℕ) (z : Blocks) (x : Course) (u : Val) → Is T.the-row x (u ∷ []) → Stands file m [] r x z
       → ent 𝓤 (⋆ 𝓤 H A (K (Rows l r) (State l z) (hasX l u) (noY l)))
       (Wp 𝓤 H C Λ En t-8 (atReturn 𝓤 H En Ends))
   moves-all r z x u isx so =
@@ -171,7 +171,7 @@ module _ {M : Type 1} (𝓤 : URA M) (H : Heap 𝓤) (A : Atoms 𝓤) (W : Given
       ⊛ raw (ensured 𝓤 H A run-moves.ended (run-moves.clauses 𝓤 H A mem run) (ν₁ ∷ [], (κ, (ν₂ ∷ [], tt)))
       (refTo (l .rows) 0 δ₁ r, (ms, (x, (refTo (l .state) 0 δ₂ z, tt)))) tt y)))) (id⊢ 𝓤 _) $ await ! tt $ pick !
       (λ y. split ! $ move ! (1 ∷ []) $
-      use1 W (some (λ (ws : Unit {0} × (Unit {0} × (Unit {0} × (Held × Unit {0})))).
+      use1 W (some (λ (ws : Unit {0} × (Unit {0} × (Unit {0} × (Blocks × Unit {0})))).
       ‵ (lasts run-moves.ended (ν₁ ∷ [], (κ, (ν₂ ∷ [], tt)))
       (refTo (l .rows) 0 δ₁ r, (ms, (x, (refTo (l .state) 0 δ₂ z, tt)))) ws)
       ⊛ raw (fact 𝓤 (Moved r x z y (ws .1 .1 .1 .0))))) (id⊢ 𝓤 _) $ pick ! (λ ws. split ! $ move ! (1 ∷ []) $
@@ -190,7 +190,7 @@ module _ {M : Type 1} (𝓤 : URA M) (H : Heap 𝓤) (A : Atoms 𝓤) (W : Given
       26 ∷ 27 ∷ 28 ∷ 29 ∷ 30 ∷ 31 ∷ 32 ∷ 33 ∷ 34 ∷ 35 ∷ 36 ∷ 37 ∷ 38 ∷ []) $
       by ! (finishes r (ws .1 .1 .1 .0) y w isy (moved file m so)))))))))))
 
-  begins : (r : List ℕ) (z : Held) → 4112 ≤ length r → Sized z
+  begins : (r : List ℕ) (z : Blocks) → 4112 ≤ length r → Sized z
       → ent 𝓤 (⋆ 𝓤 H A (K (Rows l r) (State l z) (noX l) (noY l))) (Wp 𝓤 H C Λ En t-5 (atReturn 𝓤 H En Ends))
   begins r z long sized =
       qed W (K (Rows l r) (State l z) (noX l) (noY l)) ∵ exec ! C Λ En t-5 (atRet En Ends) $
@@ -225,7 +225,7 @@ module _ {M : Type 1} (𝓤 : URA M) (H : Heap 𝓤) (A : Atoms 𝓤) (W : Given
       ⊛ raw (ensured 𝓤 H A begin-it.ended (begin-it.clauses 𝓤 H A mem run) (κf, (ν₁ ∷ [], (ν₂ ∷ [], tt)))
       (m, (fs, (refTo (l .rows) 0 δ₁ r, (refTo (l .state) 0 δ₂ z, tt)))) tt x)))) (id⊢ 𝓤 _) $ await ! tt $ pick !
       (λ x. split ! $ move ! (1 ∷ []) $
-      use1 W (some (λ (ws : Unit {0} × (Unit {0} × (List ℕ × (Held × Unit {0})))).
+      use1 W (some (λ (ws : Unit {0} × (Unit {0} × (List ℕ × (Blocks × Unit {0})))).
       ‵ (lasts begin-it.ended (κf, (ν₁ ∷ [], (ν₂ ∷ [], tt)))
       (m, (fs, (refTo (l .rows) 0 δ₁ r, (refTo (l .state) 0 δ₂ z, tt)))) ws)
       ⊛ raw (fact 𝓤 (Stands file m [] (ws .1 .1 .0) x (ws .1 .1 .1 .0))))) (id⊢ 𝓤 _) $ pick ! (λ ws. split ! $
@@ -254,7 +254,7 @@ module _ {M : Type 1} (𝓤 : URA M) (H : Heap 𝓤) (A : Atoms 𝓤) (W : Given
       use0 W (raw (NoState 𝓤 H A mem run .pre ((tt, tt, tt, tt, tt), tt))) (state-asked 𝓤 H A W mem run) $
       calls-at ! (fmOf 𝓤 H (W .laws) 𝓣) (NoState 𝓤 H A mem run) (known .makes-state) ((tt, tt, tt, tt, tt), tt)
       (no-more !) (λ u.
-      use1 W (later (some (λ (z : Held). (‵ ftrue ⊛ ‵ (R .own z (u ∷ [])))
+      use1 W (later (some (λ (z : Blocks). (‵ ftrue ⊛ ‵ (R .own z (u ∷ [])))
       ⊛ raw (ensured 𝓤 H A no-state.ended (no-state.clauses 𝓤 H A mem run) tt tt tt z)))) (id⊢ 𝓤 _) $ await ! tt $
       pick ! (λ z. split ! $ move ! (1 ∷ []) $
       use1 W (some (λ (ws : Unit {0}). ‵ (lasts no-state.ended tt tt ws) ⊛ raw (fact 𝓤 (Sized z)))) (id⊢ 𝓤 _) $

@@ -32,7 +32,7 @@ use denote.Exit.{yes}
 use Rattle.machine_spec.specs.declared.Machine.{Machine}
 use Rattle.machine_spec.proofs.Machine as E
 use Rattle.machine_spec.proofs.Machine.Laws as E′
-use Rattle.machine_state.specs.States.{Held, Sized}
+use Rattle.machine_state.specs.States.{Blocks, Sized}
 use Rattle.machine_course.specs.declared.moves.Move.{Move}
 use Rattle.machine_course.specs.declared.course.Course.{Course}
 use Rattle.machine_course.specs.declared.finish.Ran.{Ran}
@@ -136,7 +136,7 @@ module _ {M : Type 1} (𝓤 : URA M) (H : Heap 𝓤) (A : Atoms 𝓤) (W : Given
 
   -- `begin` is passed the machine, the file, and the rows at b and the state at c, lent to be written
   module _ (κf : Lft) (qf : Share) (m : Machine) (fs : RefT (List ℕ)) (b c ν₁ ν₂ : ℕ) (δ₁ δ₂ : GName) (r : List ℕ)
-      (s : Held) where
+      (s : Blocks) where
     abbrev pub to-begin : Begin 𝓤 H A mem run .Ghost
     to-begin = (
       (
@@ -166,7 +166,7 @@ module _ {M : Type 1} (𝓤 : URA M) (H : Heap 𝓤) (A : Atoms 𝓤) (W : Given
 
   -- `run_moves` is passed the rows, lent to be read, the moves, x, and the state, lent to be written
   module _ (κ : Lft) (q : Share) (ms : RefT (List Move)) (b c ν₁ ν₂ : ℕ) (δ₁ δ₂ : GName) (r : List ℕ) (x : Course)
-      (u : Val) (s : Held) where
+      (u : Val) (s : Blocks) where
     abbrev pub to-moves : RunMoves 𝓤 H A mem run .Ghost
     to-moves = (
       (
@@ -196,7 +196,7 @@ module _ {M : Type 1} (𝓤 : URA M) (H : Heap 𝓤) (A : Atoms 𝓤) (W : Given
         move ! (2 ∷ 0 ∷ []) $ fjoin ! $ move ! (1 ∷ 0 ∷ []) $ fjoin ! $ done !
 
   -- `finish` is passed y, and the state, lent to be read
-  module _ (c ν : ℕ) (δ : GName) (y : Course) (w : Val) (s : Held) where
+  module _ (c ν : ℕ) (δ : GName) (y : Course) (w : Val) (s : Blocks) where
     abbrev pub to-finish : Finish 𝓤 H A mem run .Ghost
     to-finish =
         (((ν ∷ [], tt), (fullShare, tt), tt, (y, (refTo c 0 δ s, tt)), (w ∷ [], (vptr c 0 ∷ [], tt))), tt)

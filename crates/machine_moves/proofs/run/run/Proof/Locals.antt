@@ -16,7 +16,7 @@ use denote.Enum.Laws as EL
 use Rattle.machine_spec.specs.declared.Machine.{Machine}
 use Rattle.machine_spec.proofs.Machine as E
 use Rattle.machine_spec.proofs.Machine.Laws as E′
-use Rattle.machine_state.specs.States.{Held}
+use Rattle.machine_state.specs.States.{Blocks}
 use Rattle.machine_course.specs.declared.moves.Move.{Move}
 use Rattle.machine_course.proofs.moves.Move as Mv
 use Rattle.machine_course.proofs.course.Course as T
@@ -99,7 +99,7 @@ module _ {M : Type 1} (𝓤 : URA M) (H : Heap 𝓤) (l : Places) where
 abbrev pub Rows : Places → List ℕ → Fml
 Rows l r = partAt R₀ fullShare r (l .rows) 0
 
-abbrev pub State : Places → Held → Fml
+abbrev pub State : Places → Blocks → Fml
 State l z = partAt R fullShare z (l .state) 0
 
 -- x and y, not yet made and made

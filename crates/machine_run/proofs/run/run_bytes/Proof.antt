@@ -1,4 +1,4 @@
--- `machine_run::run::run_moves` meets its contract.
+-- `machine_run::run::run_bytes` meets its contract.
 use Prim.Native.Nat.{ℕ, _*_, _/_, _-_, _^_, _≤_, _<_}
 use mathlib.Core.Path.{_≡_, refl}
 use mathlib.Core.List.{List, []}
@@ -10,18 +10,18 @@ use Rattle.machine_run.specs.declared.run.Ended.the-variants.{Ran}
 use Rattle.machine_lane.specs.Lanes.{flags}
 use Rattle.machine_spec.specs.Moves.{movesIn}
 use Rattle.machine_spec.proofs.Laws.Moves.{moves-at, moves-length}
-use Rattle.machine_run.specs.Runs.{Runs, Ends}
+use Rattle.machine_run.specs.Runs.{RunnableBy, Ends}
 use Rattle.machine_state.specs.States.{Sized}
 use Rattle.machine_run.proofs.Laws.Runs.{lane-below, lane-moves, inside, Counted}
 use Rattle.machine_run.proofs.Laws.Runs.{counted-few, run-refused, run-counted, ends-all}
 use borrow.Author.Needs.{needs}
-use Rattle.machine_run.proofs.run.run_moves.Statement.{statement}
-use Rattle.machine_run.proofs.run.run_moves.Tie as tie
+use Rattle.machine_run.proofs.run.run_bytes.Statement.{statement}
+use Rattle.machine_run.proofs.run.run_bytes.Tie as tie
 
 abbrev Inv-loop : tie.InvT-loop
 Inv-loop machine volatile sheet first count moves state₀ n k₀ done₀ state k done =
     Sized state × (done ≤ k) × (k ≤ n) × (n < 2 ^ 63) × ((i : ℕ) → i < n → getD moves (2 * i) 0 < 4)
-    × ((prog : List (List Instr)) → Runs machine (flags volatile) sheet first count (movesIn moves) state₀ prog
+    × ((prog : List (List Instr)) → RunnableBy machine (flags volatile) sheet first count (movesIn moves) state₀ prog
     → Ends machine (flags volatile) (take k (movesIn moves)) prog state₀ (Ran done (k - done)) state)
 
 abbrev μ-loop : tie.MeasureT-loop
@@ -150,8 +150,8 @@ returns-2 c =
     let last : l .k ≡ length b / 2 = omega arith in
     λ prog h. rw (← last) (ends-all _ _ _ prog _ (l .k) _ _ all (l .inv .5 prog h))
 
-pub run-moves-spec : {M : Type 1} → statement M
-run-moves-spec =
+pub run-bytes-spec : {M : Type 1} → statement M
+run-bytes-spec =
     tie.close
     (tie.spec
     Inv-loop
