@@ -5,10 +5,11 @@ use mathlib.Core.Path.{_≡_, refl}
 use mathlib.Core.Bool.{Bool, true, _&&_}
 use mathlib.Core.List.{List, [], _∷_, _++_, map}
 use mathlib.Core.Option.{some}
-use mathlib.Core.Logic.{_⊎_}
+use mathlib.Core.Logic.{_⊎_, inl, inr}
+use native.Mathlib.Omega.{arith}
 use lib.ListN.{length, getD}
 use Rattle.barrier_placement.specs.Cookbook.{Class, VL, VS, Barrier, SL, cell}
-use Rattle.barrier_placement.specs.Chain.{Step, Access, Skip, Other, Chain, at, Path, Between}
+use Rattle.barrier_placement.specs.Chain.{Step, Access, Skip, Other, Chain, at, Path, edge, more, Between}
 use Rattle.barrier_placement.specs.Place.{chosen, before, stands, due, rowsTo}
 
 -- an instruction of a lowered lane
@@ -73,6 +74,21 @@ pub record Alone (t : List Item) (b : Barrier) (m : ℕ) : Type 0 where
   pub path : Path (NextItem t) from to
   pub on : Between path m
   pub only : (x : ℕ) → Between path x → item t x ≡ bar b → x ≡ m
+
+-- SL between VS and VL is needed
+needed-holds : Alone (op (Access VS) ∷ bar SL ∷ op (Access VL) ∷ []) SL 1
+needed-holds = record {
+  from = 0;
+  to = 2;
+  pair = record { first = VS; second = VL; earlier = refl; later = refl; calls = refl };
+  path = more (edge (omega arith, inl refl)) (omega arith, inl refl);
+  on = inr refl;
+  only = λ x on e. last on;
+}
+  where
+    last : {x : ℕ} → ⊥ ⊎ (x ≡ 1) → x ≡ 1
+    last (inl never) = absurd never
+    last (inr e) = e
 
 -- a path of the lowered lane meets b before a step, which it passes or ends at; b is written there unless the level
 -- leaves it out
