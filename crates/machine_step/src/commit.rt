@@ -48,7 +48,7 @@ pub fn commit(
     if !may_commit(machine, volatile, state, t, index) {
         return Moved::Waited;
     }
-    // the list is committed before anything is written: the compiler then copies it once less
+    // the list is taken before anything is written
     let rest = take(state, t).commit(index);
     settle(
         word_at(state, t, CELLS, index),
