@@ -2,22 +2,22 @@
 use Prim.Native.Nat.{ℕ, zero, suc, _<_, _≤_}
 use native.Mathlib.Nat.{not-suc-le-zero, le-of-suc-le-suc, eq-or-lt-of-le}
 use native.Mathlib.Omega.{arith}
-use mathlib.Core.Path.{_≡_, refl, sym, _∙_, subst}
+use mathlib.Core.Path.{_≡_, refl, sym, ap, _∙_, subst}
 use mathlib.Core.Bool.{true, false, not, _&&_, _||_, false≢true}
 use mathlib.Core.List.{List}
 use mathlib.Core.Option.{some}
 use mathlib.Core.Logic.{_⊎_, inl, inr}
 use lib.ListN.{length, getD}
 use borrow.Author.Tests.{not-true}
+use Rattle.laws.proofs.Bools.{or-true, or-left, or-right, and-true, both-true}
 use Rattle.barrier_placement.specs.Cookbook.{Class, Barrier, cell}
 use Rattle.barrier_placement.specs.Chain.{Step, Access, Chain, at, Next, Path, edge, more, Between, Forward}
 use Rattle.barrier_placement.specs.Place.{Classes, has, noClasses, standsAt, raises, after, leads, arrives}
-use Rattle.barrier_placement.specs.Place.{rowsTo, due, stands}
+use Rattle.barrier_placement.specs.Place.{dueAfter, due, stands}
 use Rattle.barrier_placement.specs.Sentence.{Open, Sentence}
-use Rattle.barrier_placement.proofs.Laws.Bools.{or-true, or-left, or-right, and-true, both-true, true-not}
 use Rattle.barrier_placement.proofs.Laws.Cookbook.{cell-calls}
 use Rattle.barrier_placement.proofs.Laws.Place.{leads-next, next-leads, raised, stands-class, access-inside}
-use Rattle.barrier_placement.proofs.Laws.Rows.{row-has}
+use Rattle.barrier_placement.proofs.Laws.DueAfter.{due-after-has}
 
 -- a position below k leads to p, and something is due after it before a class d
 abbrev Found : Chain → List Classes → ℕ → ℕ → Class → Type 0
@@ -70,8 +70,8 @@ module _ (s : Chain) (b : Barrier) where
       × (((stands s b q ≡ false) × (due s b q d ≡ true)) ⊎ (raises b (at s q) d ≡ true))
   unfolding due stands
   due-from p d l t =
-      let f = arrives-from s (rowsTo s b p) p p d t in
-      let row = sym (row-has s b p (f .0) d (f .1)) ∙ f .3 in
+      let f = arrives-from s (dueAfter s b p) p p d t in
+      let row = sym (due-after-has s b p (f .0) d (f .1)) ∙ f .3 in
       (f .0, f .1, leads-next s (f .0) p (omega (arith, f .1)) (f .2), pick (f .0) (or-true _ _ row))
     where
       pick : (q : ℕ) → ((not (stands s b q) && due s b q d) ≡ true) ⊎ (raises b (at s q) d ≡ true)
@@ -96,7 +96,8 @@ module _ (s : Chain) (b : Barrier) where
   due-step : Forward s → (q p : ℕ) (d : Class) → Next s q p → after b (at s q) (due s b q) d ≡ true → due s b p d ≡ true
   unfolding due
   due-step forward q p d e t =
-      let l = forward q p e in arrives-of s (rowsTo s b p) p p d (q, l, next-leads s q p e, row-has s b p q d l ∙ t)
+      let l = forward q p e in
+      arrives-of s (dueAfter s b p) p p d (q, l, next-leads s q p e, due-after-has s b p q d l ∙ t)
 
   reaches-due : Forward s → {i p : ℕ} (c d : Class) (π : Path (Next s) i p) → at s i ≡ Access c → cell c d ≡ some b
       → ((k : ℕ) → Between π k → stands s b k ≡ false) → due s b p d ≡ true
@@ -106,7 +107,7 @@ module _ (s : Chain) (b : Barrier) where
       due-step forward i p d e (or-right (not (stands s b i) && due s b i d) _ r)
   reaches-due forward {i} {p} c d (more {q = q} π e) a t clear =
       let r : due s b q d ≡ true = reaches-due forward c d π a t (λ k m. clear k (inl m)) in
-      due-step forward q p d e (or-left _ (raises b (at s q) d) (both-true _ _ (true-not _ (clear q (inr refl))) r))
+      due-step forward q p d e (or-left _ (raises b (at s q) d) (both-true _ _ (ap not (clear q (inr refl))) r))
 
   pub correct : Forward s → Sentence s b (stands s b)
   unfolding stands

@@ -1,14 +1,13 @@
 -- Small laws by subject.
-pub mod Bools
-pub mod Lists
 pub mod Bits
 pub mod Cookbook
 pub mod Bytes
 pub mod Paths
 pub mod Place
-pub mod Rows
+pub mod DueAfter
 pub mod Pass
 pub mod Chosen
 pub mod Layout
-pub mod Lowered
+pub mod Items
+pub mod Traces
 pub mod Plan

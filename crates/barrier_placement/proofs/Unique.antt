@@ -7,10 +7,10 @@ use mathlib.Core.Bool.{Bool, true, false, not, _&&_, _||_, true≢false, false�
 use mathlib.Core.Option.{some}
 use mathlib.Core.Logic.{_⊎_, inl, inr}
 use borrow.Author.Tests.{not-true}
+use Rattle.laws.proofs.Bools.{or-true, and-true, both-true}
 use Rattle.barrier_placement.specs.Cookbook.{Class, PL, PS, VL, VS, Barrier, cell, column, calls}
 use Rattle.barrier_placement.specs.Chain.{Chain, Between}
 use Rattle.barrier_placement.specs.Sentence.{Pair, Open, Sentence}
-use Rattle.barrier_placement.proofs.Laws.Bools.{or-true, and-true, both-true}
 use Rattle.barrier_placement.proofs.Laws.Cookbook.{everyClass, class-at, barrier-at, calls-cell, cell-calls}
 use Rattle.barrier_placement.proofs.Laws.Paths.{First, first}
 

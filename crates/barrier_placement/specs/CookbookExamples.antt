@@ -7,7 +7,7 @@ use Rattle.file_format.specs.declared.accepted.Op.the-variants.{Set, Add, Load,
 use Rattle.barrier_placement.specs.Cookbook.{Class, PL, PS, VL, VS, Barrier, LL, LS, SS, SL, cell, codeOf}
 use Rattle.barrier_placement.specs.Chain.{Access}
 use Rattle.barrier_placement.specs.Steps.{classOf}
-use Rattle.barrier_placement.specs.Place.{before, stands, due, rowsTo}
+use Rattle.barrier_placement.specs.Place.{before, stands, due, dueAfter}
 
 abbrev kinds : List Class
 kinds = PL ∷ PS ∷ VL ∷ VS ∷ []
@@ -33,7 +33,7 @@ placed-holds :
     ∷ ((LL ∷ []) ∷ (LS ∷ []) ∷ (LL ∷ []) ∷ (LS ∷ []) ∷ [])
     ∷ ([] ∷ [] ∷ (SL ∷ []) ∷ (SS ∷ []) ∷ [])
     ∷ []
-unfolding stands due rowsTo
+unfolding stands due dueAfter
 placed-holds = refl
 
 -- the codes of a level 1 sheet

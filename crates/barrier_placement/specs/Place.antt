@@ -53,21 +53,21 @@ jumps Other p = false
 abbrev pub leads : Chain → ℕ → ℕ → Bool
 leads s q p = eqb p (suc q) || jumps (at s q) p
 
--- what arrives at p from the positions below k, of which rows says what is due after each
+-- what arrives at p from the positions below k, of which dues says what is due after each
 abbrev pub arrives : Chain → List Classes → ℕ → ℕ → Class → Bool
-arrives s rows zero p d = false
-arrives s rows (suc q) p d = (leads s q p && has (getD rows q noClasses) d) || arrives s rows q p d
+arrives s dues zero p d = false
+arrives s dues (suc q) p d = (leads s q p && has (getD dues q noClasses) d) || arrives s dues q p d
 
 -- what is due after each of the first k positions
-unfoldable pub rowsTo : Chain → Barrier → ℕ → List Classes
-rowsTo s b zero = []
-rowsTo s b (suc q) =
-    let rows : List Classes = rowsTo s b q in
-    rows ++ (classes (after b (at s q) (arrives s rows q q)) ∷ [])
+unfoldable pub dueAfter : Chain → Barrier → ℕ → List Classes
+dueAfter s b zero = []
+dueAfter s b (suc q) =
+    let dues : List Classes = dueAfter s b q in
+    dues ++ (classes (after b (at s q) (arrives s dues q q)) ∷ [])
 
 -- b is due before an access of class d at p
 unfoldable pub due : Chain → Barrier → ℕ → Class → Bool
-due s b p = arrives s (rowsTo s b p) p p
+due s b p = arrives s (dueAfter s b p) p p
 
 -- b stands directly before the access at p
 unfoldable pub stands : Chain → Barrier → ℕ → Bool
@@ -87,10 +87,10 @@ before s p = chosen (λ b. stands s b p)
 
 -- SL stands before the volatile load, though a plain store lies between it and the volatile store
 example : before (Access VS ∷ Access PS ∷ Access VL ∷ []) 2 ≡ SL ∷ []
-unfolding stands due rowsTo
+unfolding stands due dueAfter
 example = refl
 
 -- LS stands before the plain store; the SKIP goes past it, so LS stands before the volatile store too
 skipped : before (Access VL ∷ Skip 3 ∷ Access PS ∷ Access VS ∷ []) 3 ≡ LS ∷ SS ∷ []
-unfolding stands due rowsTo
+unfolding stands due dueAfter
 skipped = refl

@@ -1,13 +1,12 @@
 -- A lane's plan as the code holds it: a number for each position of the chain and one for its end. Its four lowest bits
 -- are the set of the barriers that stand there; the rest is the position in the sheet at which it begins.
-use Prim.Native.Nat.{ℕ, _/_, _≤_}
+use Prim.Native.Nat.{ℕ, suc, _+_, _/_, _<_}
 use mathlib.Core.Path.{_≡_}
 use mathlib.Core.List.{List}
-use lib.ListN.{getD}
+use lib.ListN.{length, getD}
 use Rattle.barrier_placement.specs.Cookbook.{Barrier}
 use Rattle.barrier_placement.specs.Place.{chosen}
 use Rattle.barrier_placement.specs.Placed.{bit, bitOf}
-use Rattle.barrier_placement.specs.Sheet.{start}
 
 -- the barriers of a set
 abbrev pub barriersIn : ℕ → List Barrier
@@ -20,6 +19,8 @@ standing plan p = barriersIn (getD plan p 0)
 abbrev pub beginning : List ℕ → ℕ → ℕ
 beginning plan p = getD plan p 0 / 16
 
--- up to position n each begins behind the operations before it and the barriers before those
+-- position 0 begins at 0, and each further one up to n behind the barriers and the operation of the one before it
 abbrev pub Counted : List ℕ → ℕ → Type 0
-Counted plan n = (p : ℕ) → p ≤ n → beginning plan p ≡ start (standing plan) p
+Counted plan n =
+    (beginning plan 0 ≡ 0)
+    × ((p : ℕ) → p < n → beginning plan (suc p) ≡ beginning plan p + suc (length (standing plan p)))

@@ -1,18 +1,18 @@
--- A lowered lane: before each step of the chain the barriers that some function puts there, and each SKIP aimed at its
--- target's first barrier.
-use Prim.Native.Nat.{ℕ, zero, suc, _+_, _<_}
+-- A placed lane as placement sees it: barriers and steps, each SKIP aimed at its target's first barrier.
+use Prim.Native.Nat.{ℕ, suc, _<_}
 use mathlib.Core.Path.{_≡_, refl}
 use mathlib.Core.Bool.{Bool, true, _&&_}
-use mathlib.Core.List.{List, [], _∷_, _++_, map}
+use mathlib.Core.List.{List, [], _∷_}
 use mathlib.Core.Option.{some}
 use mathlib.Core.Logic.{_⊎_, inl, inr}
 use native.Mathlib.Omega.{arith}
 use lib.ListN.{length, getD}
-use Rattle.barrier_placement.specs.Cookbook.{Class, VL, VS, Barrier, SL, cell}
-use Rattle.barrier_placement.specs.Chain.{Step, Access, Skip, Other, Chain, at, Path, edge, more, Between}
-use Rattle.barrier_placement.specs.Place.{chosen, before, stands, due, rowsTo}
+use Rattle.barrier_placement.specs.Cookbook.{Class, VL, VS, Barrier, LS, SS, SL, cell}
+use Rattle.barrier_placement.specs.Chain.{Step, Access, Skip, Other, Path, edge, more, Between}
+use Rattle.barrier_placement.specs.Place.{chosen}
+use Rattle.barrier_placement.specs.Layout.{Placed, start, opAt, layout}
 
--- an instruction of a lowered lane
+-- an instruction of a lane
 pub data Item : Type 0 where
   bar : Barrier → Item
   op : Step → Item
@@ -20,38 +20,26 @@ pub data Item : Type 0 where
 abbrev pub item : List Item → ℕ → Item
 item t m = getD t m (op Other)
 
--- control can go from m to m′ in one step of the lowered lane
+-- control can go from m to m′ in one step of the lane
 abbrev pub NextItem : List Item → ℕ → ℕ → Type 0
 NextItem t m m′ = (m < length t) × ((m′ ≡ suc m) ⊎ (item t m ≡ op (Skip m′)))
 
--- the position of the first barrier before step k, or of step k where there is none
-abbrev pub start : (ℕ → List Barrier) → ℕ → ℕ
-start pre zero = 0
-start pre (suc k) = start pre k + suc (length (pre k))
+-- a step whose target is renumbered
+abbrev pub aim : (ℕ → ℕ) → Step → Step
+aim r (Access c) = Access c
+aim r (Skip t) = Skip (r t)
+aim r Other = Other
 
--- the position of step k itself
-abbrev pub opAt : (ℕ → List Barrier) → ℕ → ℕ
-opAt pre k = start pre k + length (pre k)
+-- the items of a placed lane, `step` being what placement sees of an operation: a SKIP lands on its target's first
+-- barrier
+abbrev pub itemsOf : {A : Type 0} → (A → Step) → List (Placed A) → List Item
+itemsOf step ps = layout bar (λ a. op (aim (start ps) (step a))) ps
 
-abbrev pub aim : (ℕ → List Barrier) → Step → Step
-aim pre (Access c) = Access c
-aim pre (Skip t) = Skip (start pre t)
-aim pre Other = Other
-
-abbrev pub block : (ℕ → List Barrier) → Chain → ℕ → List Item
-block pre s k = map bar (pre k) ++ (op (aim pre (at s k)) ∷ [])
-
-abbrev pub blocksTo : (ℕ → List Barrier) → Chain → ℕ → List Item
-blocksTo pre s zero = []
-blocksTo pre s (suc k) = blocksTo pre s k ++ block pre s k
-
-abbrev pub lowered : (ℕ → List Barrier) → Chain → List Item
-lowered pre s = blocksTo pre s (length s)
-
--- a SKIP lands on its target's first barrier, at 2
-example : lowered (before (Access VS ∷ Skip 2 ∷ Access VL ∷ [])) (Access VS ∷ Skip 2 ∷ Access VL ∷ [])
-    ≡ op (Access VS) ∷ op (Skip 2) ∷ bar SL ∷ op (Access VL) ∷ []
-unfolding stands due rowsTo
+-- the SKIP lands at 2, on the first of two barriers
+example : itemsOf (λ x. x) (
+    record { before = []; oper = Access VL } ∷ record { before = []; oper = Skip 2 }
+    ∷ record { before = LS ∷ SS ∷ []; oper = Access VS } ∷ [])
+    ≡ op (Access VL) ∷ op (Skip 2) ∷ bar LS ∷ bar SS ∷ op (Access VS) ∷ []
 example = refl
 
 -- the barriers before each step that a level writes: place says where each stands, keeps which of them the level keeps
@@ -90,10 +78,10 @@ needed-holds = record {
     last (inl never) = absurd never
     last (inr e) = e
 
--- a path of the lowered lane meets b before a step, which it passes or ends at; b is written there unless the level
+-- a path of the lane meets b before an operation, which it passes or ends at; b is written there unless the level
 -- leaves it out
-abbrev pub Meets : (s : Chain) (place keeps : Barrier → ℕ → Bool) (b : Barrier) {m m′ : ℕ}
-    → Path (NextItem (lowered (written place keeps) s)) m m′ → Type 0
-Meets s place keeps b {m′ = m′} π =
-    (k : ℕ) × (place b k ≡ true) × (Between π (opAt (written place keeps) k) ⊎ (opAt (written place keeps) k ≡ m′))
-    × (keeps b k ≡ true → (x : ℕ) × Between π x × (item (lowered (written place keeps) s) x ≡ bar b))
+abbrev pub Meets : {A : Type 0} (step : A → Step) (ps : List (Placed A)) (place keeps : Barrier → ℕ → Bool)
+    (b : Barrier) {m m′ : ℕ} → Path (NextItem (itemsOf step ps)) m m′ → Type 0
+Meets step ps place keeps b {m′ = m′} π =
+    (k : ℕ) × (place b k ≡ true) × (Between π (opAt ps k) ⊎ (opAt ps k ≡ m′))
+    × (keeps b k ≡ true → (x : ℕ) × Between π x × (item (itemsOf step ps) x ≡ bar b))

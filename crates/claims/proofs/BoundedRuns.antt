@@ -9,10 +9,10 @@ use lib.Dec.{ltb, leb}
 use borrow.Author.Tests.{ltb-true}
 use lib.ListN.{length, getD, replicate, length-replicate, getD-replicate, length-map, List·getD-map}
 use lib.ListN.{List·getD-eq-default}
+use Rattle.laws.proofs.Bools.{and-true}
+use Rattle.laws.proofs.Lists.{getD-replicate-all}
 use Rattle.file_format.specs.Accepted.{Program}
 use Rattle.file_format.specs.Lawful.{Lawful}
-use Rattle.barrier_placement.proofs.Laws.Bools.{and-true}
-use Rattle.file_format.proofs.Laws.Lists.{replicate-at}
 use Rattle.sheet_format.specs.Layout.{Instr, op}
 use Rattle.sheet_format.specs.Levels.{volatileIn}
 use Rattle.machine_spec.specs.declared.Machine.the-variants.{Source}
@@ -124,15 +124,12 @@ module _ (k : Program) (w : Lawful k) where
           (laneAt (r .state) (mv .lane) .control) (coreOf (r .state) (laneAt (r .state) (mv .lane)))
           (fit-of (r .state) i (mv .lane) lt) (mv .choice)))
 
-  zeros : (n i : ℕ) → _≡_ {A = ℕ} (getD (replicate n 0) i 0) 0
-  zeros n i = replicate-at n i 0
-
   fresh : {len : ℕ} → LaneFit ls ks len (record { control = atStart; regs = replicate 8 0; pending = [] })
   fresh = record {
     place = omega arith;
     few = omega arith;
     regs-count = refl;
-    regs-small = λ a. omega (arith, zeros 8 a);
+    regs-small = getD-replicate-all (λ z. z < 2 ^ 32) 8 0 0 (omega arith) (omega arith);
     entries = tt;
   }
 
@@ -141,9 +138,9 @@ module _ (k : Program) (w : Lawful k) where
     count = length-replicate lanes _;
     lane = λ t lt. rw (getD-replicate lanes t _ idle lt) fresh;
     memory-count = length-replicate (k .locations) 0;
-    memory-small = λ x. omega (arith, zeros (k .locations) x);
+    memory-small = getD-replicate-all (λ z. z < 2 ^ 32) (k .locations) 0 0 (omega arith) (omega arith);
     locks-count = length-replicate (k .locks) 0;
-    locks-small = λ l. omega (arith, zeros (k .locks) l);
+    locks-small = getD-replicate-all (λ z. z ≤ lanes) (k .locks) 0 0 (omega arith) (omega arith);
   }
 
   shaped-by : (r : Run) → Inv (r .state) → Shaped k (shown (answerOf prog (k .records) (startOf k) (ran r)))

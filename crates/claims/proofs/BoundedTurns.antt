@@ -7,10 +7,11 @@ use Prim.Native.Nat.{ℕ, zero, suc, _^_, _≤_, _<_}
 use native.Mathlib.Omega.{arith}
 use lib.Dec.{eqb}
 use lib.ListN.{length, getD, getElem?, take, length-set, length-append, set as update}
+use Rattle.laws.proofs.Bools.{cond-by}
+use Rattle.laws.proofs.Lists.{some-at, getElem?-map, set-all}
 use Rattle.file_format.specs.declared.accepted.Op.{Op}
 use Rattle.file_format.specs.declared.accepted.Op.the-variants.{Set, Add, Load, Store, Lock, Unlock, Skip}
 use Rattle.file_format.specs.Lawful.{LawfulLane}
-use Rattle.file_format.proofs.Laws.Lists.{some-at}
 use Rattle.sheet_format.specs.Layout.{op}
 use Rattle.machine_spec.specs.Entries.{Entry, write, release, newest, appendEntry, without}
 use Rattle.machine_spec.specs.declared.Machine.the-variants.{Source}
@@ -20,8 +21,6 @@ use Rattle.machine_spec.specs.Step.{valueOf}
 use Rattle.machine_spec.specs.Step.{loads, after, next, emit, locked, coreAfter, effect, execute, landed, freed, settle}
 use Rattle.machine_spec.specs.Step.{commit, turn}
 use Rattle.machine_spec.specs.Shape.{EntrySmall, AllSmall}
-use Rattle.claims.proofs.Laws.Lists.{map-some, map-none}
-use Rattle.claims.proofs.Laws.Lanes.{update-all}
 
 -- ## pending lists
 
@@ -83,11 +82,10 @@ module _ (n ls ks : ℕ) (os : List Op) (w : LawfulLane ls ks os) (vol : ℕ →
   At o = getElem? os (i .pos) ≡ some o
 
   value-small : (x : ℕ) → valueOf Source vol c x < 2 ^ 32
-  value-small x = go (vol x)
-    where
-      go : (b : Bool) → cond b (getD (c .memory) x 0) (newest x (getD (c .memory) x 0) (c .pending)) < 2 ^ 32
-      go true = h .memory-small x
-      go false = newest-small ls ks x (getD (c .memory) x 0) (c .pending) (h .memory-small x) (h .entries)
+  value-small x =
+      let m = getD (c .memory) x 0 in
+      cond-by (λ v. v < 2 ^ 32) (vol x) m (newest x m (c .pending)) (λ e. h .memory-small x)
+      (λ e. newest-small ls ks x m (c .pending) (h .memory-small x) (h .entries))
 
   -- the registers
   after-count : (o : Op) → length (after Source vol c o) ≡ 8
@@ -100,7 +98,7 @@ module _ (n ls ks : ℕ) (os : List Op) (w : LawfulLane ls ks os) (vol : ℕ →
   after-count (Skip a u) = h .regs-count
 
   assigned : (a v : ℕ) → v < 2 ^ 32 → (x : ℕ) → getD (update (c .regs) a v) x 0 < 2 ^ 32
-  assigned a v small = update-all (λ z. z < 2 ^ 32) (c .regs) a v (h .regs-small) small
+  assigned a v small = set-all (λ i z. z < 2 ^ 32) 0 (c .regs) a v (h .regs-small) small
 
   after-small : (o : Op) → At o → (x : ℕ) → getD (after Source vol c o) x 0 < 2 ^ 32
   after-small (Set a m) e = assigned a m (w .bounded (i .pos) (Set a m) e .1)
@@ -160,7 +158,7 @@ module _ (n ls ks : ℕ) (os : List Op) (w : LawfulLane ls ks os) (vol : ℕ →
   locked-small (Add a b) = h .locks-small
   locked-small (Load a x) = h .locks-small
   locked-small (Store a x) = h .locks-small
-  locked-small (Lock k) = update-all (λ z. z ≤ n) (c .locks) k (suc t) (h .locks-small) lt
+  locked-small (Lock k) = set-all (λ i z. z ≤ n) 0 (c .locks) k (suc t) (h .locks-small) lt
   locked-small (Unlock l) = h .locks-small
   locked-small (Skip a u) = h .locks-small
 
@@ -182,7 +180,7 @@ module _ (n ls ks : ℕ) (os : List Op) (w : LawfulLane ls ks os) (vol : ℕ →
       → (length (landed (c .memory) e) ≡ ls) × ((x : ℕ) → getD (landed (c .memory) e) x 0 < 2 ^ 32)
   landed-fit (write y v) small = (
     length-set (c .memory) y v ∙ h .memory-count,
-    update-all (λ z. z < 2 ^ 32) (c .memory) y v (h .memory-small) (small .1),
+    set-all (λ i z. z < 2 ^ 32) 0 (c .memory) y v (h .memory-small) (small .1),
   )
   landed-fit (release l) small = (h .memory-count, h .memory-small)
 
@@ -190,7 +188,7 @@ module _ (n ls ks : ℕ) (os : List Op) (w : LawfulLane ls ks os) (vol : ℕ →
   freed-fit (write y v) = (h .locks-count, h .locks-small)
   freed-fit (release l) = (
     length-set (c .locks) l 0 ∙ h .locks-count,
-    update-all (λ z. z ≤ n) (c .locks) l 0 (h .locks-small) (omega arith),
+    set-all (λ i z. z ≤ n) 0 (c .locks) l 0 (h .locks-small) (omega arith),
   )
 
   settle-fit : (x : ℕ) (e : Entry) → EntrySmall ls ks e
@@ -223,8 +221,8 @@ module _ (n ls ks : ℕ) (os : List Op) (w : LawfulLane ls ks os) (vol : ℕ →
 
       go : (o : Option Op) → getElem? os (i .pos) ≡ o
           → Keeps n ls ks (length os) (execute Source vol (suc t) i c (getElem? (map op os) (i .pos)))
-      go none e = rw (map-none op os (i .pos) e) tt
-      go (some o) e = rw (map-some op os (i .pos) o e) (act o e (permits Source vol c o))
+      go none e = rw (getElem?-map op os (i .pos), e) tt
+      go (some o) e = rw (getElem?-map op os (i .pos), e) (act o e (permits Source vol c o))
   turn-keeps (suc x) = go (getElem? (c .pending) x) refl
     where
       act : (e : Entry) → getElem? (c .pending) x ≡ some e → (b : Bool)

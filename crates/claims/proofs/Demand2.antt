@@ -1,7 +1,7 @@
 -- Demand 2 of every accepted kernel file, at each level: its barriers, where they stand, and its codes; and that the
 -- sheet is whole, each byte of it below 256, and that each record belongs to one lane.
 use mathlib.Core.Path.{_≡_, refl, ap, _∙_, sym, subst}
-use mathlib.Core.Bool.{Bool, true, false, _&&_, true≢false}
+use mathlib.Core.Bool.{true, false, _&&_, true≢false}
 use mathlib.Core.List.{List, [], _∷_, _++_, map}
 use mathlib.Core.Option.{some}
 use Prim.Native.Nat.{ℕ, _<_}
@@ -14,32 +14,29 @@ use Rattle.file_format.specs.Lawful.{Lawful}
 use Rattle.file_wellformed.proofs.Lawful.{accepted-lawful}
 use Rattle.file_wellformed.proofs.Once.{entry-range, record-placed, record-once}
 use Rattle.barrier_placement.specs.declared.cookbook.Barrier.{Barrier}
-use Rattle.barrier_placement.specs.declared.cookbook.Barrier.the-variants.{LL}
 use Rattle.barrier_placement.specs.Chain.{Chain, Path, Between}
-use Rattle.barrier_placement.specs.Steps.{steps}
+use Rattle.barrier_placement.specs.Steps.{stepOf, steps}
 use Rattle.barrier_placement.specs.Place.{stands, chosen}
 use Rattle.barrier_placement.specs.Sentence.{Sentence}
 use Rattle.barrier_placement.proofs.Correct.{correct}
 use Rattle.barrier_placement.proofs.Unique.{unique}
-use Rattle.barrier_placement.proofs.Laws.Bools.{and-true}
-use Rattle.barrier_placement.proofs.Laws.Chosen.{chosen-only}
-use Rattle.barrier_placement.specs.Sheet.{Item, bar, item, NextItem, ItemPair, Alone, lowered as loweredBy}
-use Rattle.barrier_placement.proofs.Laws.Layout.{locate, inside-lane, bar-at}
-use Rattle.barrier_placement.proofs.SheetCorrect.{items-covered, items-alone}
-use Rattle.sheet_format.specs.Layout.{Instr, op, barrier, Placed, operations, start, aim, cells, sheet, has}
-use Rattle.sheet_format.specs.Levels.{Level, keeps, placed, placedLanes, sheetLanes, volatileIn}
+use Rattle.barrier_placement.specs.Layout.{Placed, operations, barriersAt, start}
+use Rattle.barrier_placement.specs.Sheet.{Item, bar, item, NextItem, itemsOf, ItemPair, Alone}
+use Rattle.barrier_placement.proofs.SheetCorrect.{items-covered, items-kept, items-alone}
+use Rattle.sheet_format.specs.Layout.{Instr, op, barrier, aim, cells, sheet, has}
+use Rattle.sheet_format.specs.declared.Level.{Level}
+use Rattle.sheet_format.specs.Levels.{keeps, placed, placedLanes, sheetLanes, volatileIn}
 use Rattle.sheet_format.specs.Bytes.{sheetBytes, lowerBy}
 use Rattle.sheet_format.specs.Read.{readSheet}
 use Rattle.sheet_format.specs.Items.{items, operationAt, keepsAt, keptBefore}
 use Rattle.sheet_format.specs.Codes.{Code, codesIn}
 use Rattle.sheet_format.specs.Before.{barriersBefore, standsBefore}
-use Rattle.sheet_format.proofs.LoweredLanes.{placed-operations, items-lowered}
+use Rattle.sheet_format.proofs.PlacedLanes.{placed-operations, items-placed}
 use Rattle.sheet_format.proofs.ReadBack.{lawful-back}
 use Rattle.sheet_format.proofs.Codes.{lawful-codes}
-use Rattle.sheet_format.proofs.Before.{chosen-ext, has-chosen, lane-before}
+use Rattle.sheet_format.proofs.Before.{chosen-ext, has-chosen, placed-before, lane-before}
 use Rattle.sheet_format.proofs.SmallBytes.{sheet-bytes-small}
 use Rattle.sheet_format.proofs.Laws.Written.{written-all}
-use Rattle.sheet_format.proofs.Laws.Targets.{targets-within}
 use Rattle.claims.specs.Claims.{Records, laneOf, laneItems, operationsIn, Demand2, kernelLane, chainOf, Placement}
 use Rattle.claims.specs.Claims.{lowered, Fitting}
 use Rattle.claims.proofs.KernelLanes.{forward, lane-placed}
@@ -55,19 +52,6 @@ Needed x = (b : Barrier) (m : ℕ) → item x m ≡ bar b → Alone x b m
 abbrev Absent : Level → List Item → Type 0
 Absent l x = (b : Barrier) → ((o : Op) → keeps l o b ≡ false) → (m : ℕ) → item x m ≡ bar b → ⊥
 
--- a barrier that stands in a lowered lane is one that the level keeps there
-kept-only : (l : Level) (vol : ℕ → Bool) (ops : List Op)
-    → Absent l (loweredBy (keptBefore l vol ops) (steps vol ops))
-kept-only l vol ops b h m e =
-    let s = steps vol ops in
-    let pre = keptBefore l vol ops in
-    let x = locate pre s (length s) m (inside-lane pre s m (λ e′. let z : _≡_ {A = ℕ} 0 1 = cc in omega arith)) in
-    let y = bar-at pre s (x .0) (x .1) b (x .2) (x .3) (ap (item (loweredBy pre s)) (sym (x .4)) ∙ e) in
-    let a = getD (pre (x .0)) (x .1) LL in
-    let z = and-true (keepsAt l ops a (x .0)) (stands s a (x .0))
-    (chosen-only (λ c. keepsAt l ops c (x .0) && stands s c (x .0)) (x .1) (y .0)) in
-    true≢false (sym (z .0) ∙ ap (λ c. keepsAt l ops c (x .0)) (y .1) ∙ h (operationAt ops (x .0)))
-
 module _ (l : Level) (k : Program) (w : Lawful k) (bytes : List ℕ) (same : readSheet bytes ≡ sheetLanes l k) (t : ℕ)
   where
     abbrev ops : List Op
@@ -76,29 +60,45 @@ module _ (l : Level) (k : Program) (w : Lawful k) (bytes : List ℕ) (same : rea
     abbrev chain : Chain
     chain = steps (volatileIn k) ops
 
+    abbrev ps : List (Placed Op)
+    ps = placed l (volatileIn k) ops
+
     -- lane t of the sheet
-    lane-read : laneOf bytes t ≡ sheet (placed l (volatileIn k) ops)
+    lane-read : laneOf bytes t ≡ sheet ps
     lane-read =
         ap (λ x. getD x t []) same ∙ List·getD-map sheet (placedLanes l k) t [] ∙ ap sheet (lane-placed k l t)
 
-    -- it is the chain with the placement's barriers
-    lane-lowered : laneItems (volatileIn k) bytes t ≡ loweredBy (keptBefore l (volatileIn k) ops) chain
-    lane-lowered =
-        ap (items (volatileIn k)) lane-read ∙ items-lowered l (volatileIn k) ops (targets-within (w .lane t))
+    -- it is the placed lane
+    lane-placed-so : laneItems (volatileIn k) bytes t ≡ itemsOf (stepOf (volatileIn k)) ps
+    lane-placed-so = ap (items (volatileIn k)) lane-read ∙ items-placed (volatileIn k) ps
 
     sentence : (b : Barrier) → Sentence chain b (stands chain b)
     sentence b = correct chain b (forward (w .lane t) (volatileIn k))
 
+    placed-sentence : (b : Barrier) → Sentence (steps (volatileIn k) (operations ps)) b (stands chain b)
+    placed-sentence b =
+        subst (λ os. Sentence (steps (volatileIn k) os) b (stands chain b)) (sym (placed-operations l chain 0 ops))
+        (sentence b)
+
+    stand : (p : ℕ) → p < length ps → barriersAt ps p ≡ keptBefore l (volatileIn k) ops p
+    stand p i = placed-before l (volatileIn k) ops p
+
     lane-covered : Covered l (laneItems (volatileIn k) bytes t)
     lane-covered =
-        subst (Covered l) (sym lane-lowered)
-        (λ b h. items-covered chain (stands chain) sentence (keepsAt l ops) b (λ p. h (operationAt ops p)))
+        subst (Covered l) (sym lane-placed-so)
+        (λ b h. items-covered (stepOf (volatileIn k)) ps (stands chain) placed-sentence (keepsAt l ops) stand b
+        (λ p. h (operationAt ops p)))
 
     lane-needed : Needed (laneItems (volatileIn k) bytes t)
-    lane-needed = subst Needed (sym lane-lowered) (items-alone chain (stands chain) sentence (keepsAt l ops))
+    lane-needed =
+        subst Needed (sym lane-placed-so)
+        (items-alone (stepOf (volatileIn k)) ps (stands chain) placed-sentence (keepsAt l ops) stand)
 
     lane-absent : Absent l (laneItems (volatileIn k) bytes t)
-    lane-absent = subst (Absent l) (sym lane-lowered) (kept-only l (volatileIn k) ops)
+    lane-absent =
+        subst (Absent l) (sym lane-placed-so) (λ b h m e.
+        let x = items-kept (stepOf (volatileIn k)) ps (stands chain) placed-sentence (keepsAt l ops) stand b m e in
+        true≢false (sym (x .1) ∙ h (operationAt ops (x .0))))
 
     lane-kept : (p : ℕ) → barriersBefore (laneOf bytes t) p ≡ keptBefore l (volatileIn k) ops p
     lane-kept p = ap (λ x. barriersBefore x p) lane-read ∙ lane-before l (volatileIn k) ops p
@@ -131,7 +131,7 @@ operations-bars : (bs : List Barrier) (is : List Instr) → operationsIn (map ba
 operations-bars [] is = refl
 operations-bars (b ∷ bs) is = operations-bars bs is
 
-operations-cells : (r : ℕ → ℕ) (ps : List Placed) → operationsIn (cells r ps) ≡ map (aim r) (operations ps)
+operations-cells : (r : ℕ → ℕ) (ps : List (Placed Op)) → operationsIn (cells r ps) ≡ map (aim r) (operations ps)
 operations-cells r [] = refl
 operations-cells r (x ∷ ps) =
     operations-bars (x .before) (op (aim r (x .oper)) ∷ cells r ps)

@@ -5,12 +5,16 @@ use mathlib.Core.List.{List, []}
 use mathlib.Core.Option.{none}
 use Prim.Native.Nat.{ℕ}
 use lib.ListN.{length, getD, replicate, List·getD-map}
+use Rattle.file_format.specs.declared.accepted.Op.{Op}
 use Rattle.file_format.specs.Accepted.{Program}
 use Rattle.file_verdict.specs.Verdict.{accepted, verdict}
 use Rattle.file_format.specs.Lawful.{Lawful}
 use Rattle.file_wellformed.proofs.Lawful.{accepted-lawful}
-use Rattle.sheet_format.specs.Layout.{Instr, Placed, start, sheet}
-use Rattle.sheet_format.specs.Levels.{level2, placedLanes, volatileIn}
+use Rattle.barrier_placement.specs.Layout.{Placed, start}
+use Rattle.barrier_placement.proofs.Laws.Layout.{place-within}
+use Rattle.sheet_format.specs.Layout.{Instr, op, barrier, aim, sheet}
+use Rattle.sheet_format.specs.declared.Level.the-variants.{Level2}
+use Rattle.sheet_format.specs.Levels.{placedLanes, volatileIn}
 use Rattle.sheet_format.proofs.ReadBack.{bytes-back}
 use Rattle.machine_spec.specs.declared.Machine.{Machine}
 use Rattle.machine_spec.specs.declared.Machine.the-variants.{Source, Target}
@@ -31,7 +35,6 @@ use Rattle.claims.proofs.DirectMatching.{direct-matching}
 use Rattle.claims.proofs.Stuck.{tso-stuck}
 use Rattle.claims.proofs.ReleasesHeld.{source-runs, target-runs}
 use Rattle.claims.proofs.HeldSets.{heldAt}
-use Rattle.claims.proofs.Laws.Sheets.{place-within}
 use Rattle.machine_spec.specs.Shape.{Shaped, Within}
 use Rattle.claims.proofs.BoundedRuns.{source-shaped, source-within}
 use Rattle.claims.proofs.KernelLanes.{fenced, disciplined, source-program}
@@ -68,8 +71,8 @@ module _ (k : Program) (w : Lawful k) where
   abbrev begun : Outcome
   begun = begin (startOf k)
 
-  abbrev ks : List (List Placed)
-  ks = placedLanes level2 k
+  abbrev ks : List (List (Placed Op))
+  ks = placedLanes Level2 k
 
   abbrev P : List (List Instr)
   P = programFor Source k
@@ -80,18 +83,18 @@ module _ (k : Program) (w : Lawful k) where
   source-ran : (mvs : List Move) → legal n 64 mvs ≡ true → (r : Run) × (runOn Source k mvs ≡ ran r)
   source-ran =
       subst (λ p. (mvs : List Move) → legal n 64 mvs ≡ true → (r : Run) × (run Source vol p begun mvs ≡ ran r))
-      (source-program k level2)
-      (source-runs n (k .locks) ks (λ t. heldAt (getD (k .lanes) t [])) (disciplined k w level2) vol zeros)
+      (source-program k Level2)
+      (source-runs n (k .locks) ks (λ t. heldAt (getD (k .lanes) t [])) (disciplined k w Level2) vol zeros)
 
   -- what the bytes of the sheet stand for are its lanes
   target-program : sheetProgram ks ≡ Q
-  target-program = sym (bytes-back level2 k w)
+  target-program = sym (bytes-back Level2 k w)
 
   tso-ran : (mvs : List Move) → legal n 1 mvs ≡ true → (r : Run) × (runOn (Target Tso) k mvs ≡ ran r)
   tso-ran =
       subst (λ q. (mvs : List Move) → legal n 1 mvs ≡ true → (r : Run) × (run (Target Tso) vol q begun mvs ≡ ran r))
       target-program
-      (target-runs n (k .locks) ks (λ t. heldAt (getD (k .lanes) t [])) (disciplined k w level2) vol Tso
+      (target-runs n (k .locks) ks (λ t. heldAt (getD (k .lanes) t [])) (disciplined k w Level2) vol Tso
       (fenced k w Tso) zeros)
 
   begins : Matched Tso vol ks begun begun
@@ -104,7 +107,7 @@ module _ (k : Program) (w : Lawful k) where
       (run (Target Tso) vol q begun mvs)
 
   matched-seen : Matches P Q
-  matched-seen = subst₂ Matches (source-program k level2) target-program
+  matched-seen = subst₂ Matches (source-program k Level2) target-program
       (λ mvs. observed Tso vol ks _ _ (matching Tso vol ks (fenced k w Tso) mvs begun begun begins))
 
   abbrev Directs : List (List Instr) → List (List Instr) → Type 0
@@ -113,7 +116,7 @@ module _ (k : Program) (w : Lawful k) where
       (run (Target Tso) vol q begun (targetSchedule Tso vol q begun mvs))
 
   direct-seen : Directs P Q
-  direct-seen = subst₂ Directs (source-program k level2) target-program
+  direct-seen = subst₂ Directs (source-program k Level2) target-program
       (λ mvs le st. observed Tso vol ks _ _ (direct-matching Tso vol ks (fenced k w Tso) n mvs none begun begun begins
       (start-ready n zeros (k .locks)) le st))
 
@@ -161,7 +164,8 @@ module _ (k : Program) (w : Lawful k) where
   target-within o r (both-ran e h) t =
       let st = h .lanes t .stands in
       let ps = getD ks t [] in
-      rw (List·getD-map sheet ks t [], st .place) (place-within (start ps) ps _ (st .passed) (st .within))
+      rw (List·getD-map sheet ks t [], st .place)
+      (place-within barrier (λ o. op (aim (start ps) o)) ps _ (st .passed) (st .within))
 
   abbrev Stays : List (List Instr) → Type 0
   Stays q = (mvs : List Move) (r : Run) → run (Target Tso) vol q begun mvs ≡ ran r → Within q (r .state)

@@ -6,11 +6,13 @@ use mathlib.Core.Option.{Option, none, some}
 use Prim.Native.Nat.{ℕ, zero, suc}
 use native.Mathlib.Omega.{arith}
 use lib.ListN.{getElem?, drop}
+use Rattle.laws.proofs.Lists.{getElem?-map}
 use Rattle.file_format.specs.declared.accepted.Op.{Op}
 use Rattle.file_format.specs.declared.accepted.Op.the-variants.{Set, Add, Load, Store, Lock, Unlock, Skip}
 use Rattle.barrier_placement.specs.declared.cookbook.Barrier.{Barrier}
 use Rattle.barrier_placement.specs.declared.cookbook.Barrier.the-variants.{LL, LS, SS, SL}
-use Rattle.sheet_format.specs.Layout.{Instr, op, barrier, Placed, operations, start, aim, sheet}
+use Rattle.barrier_placement.specs.Layout.{Placed, operations, start}
+use Rattle.sheet_format.specs.Layout.{Instr, op, barrier, aim, sheet}
 use Rattle.machine_spec.specs.Entries.{Entry, isNil}
 use Rattle.machine_spec.specs.declared.Machine.the-variants.{Source, Target}
 use Rattle.machine_spec.specs.declared.Model.{Model}
@@ -19,7 +21,6 @@ use Rattle.machine_spec.specs.Step.{Control, Core, Turn, waits, refuses, passes
 use Rattle.machine_spec.specs.Step.{execute, commit}
 use Rattle.claims.specs.Schedules.{leading}
 use Rattle.claims.specs.Stuck.{halted}
-use Rattle.claims.proofs.Laws.Lists.{map-some, map-none}
 use Rattle.claims.proofs.Laws.Sheets.{Here, end, ahead, meet, here}
 use Rattle.claims.proofs.Laws.Pending.{oldest-commits}
 use Rattle.claims.proofs.Stuck.{free-permits, waits-permits}
@@ -56,7 +57,7 @@ no-barrier (op o ∷ l) zero b e k = let z : _≡_ {A = ℕ} 0 1 = cc in omega a
 no-barrier (barrier d ∷ l) zero b e k = omega arith
 no-barrier (i ∷ l) (suc q) b e k = no-barrier l q b e k
 
-pub execute-back : (m : Model) (vol : ℕ → Bool) (ps : List Placed) (w : ℕ) (i k : Control) (c : Core)
+pub execute-back : (m : Model) (vol : ℕ → Bool) (ps : List (Placed Op)) (w : ℕ) (i k : Control) (c : Core)
     → c .pending ≡ [] → Stands m vol ps (i .pos) k (c .pending) → leading (drop (k .pos) (sheet ps)) ≡ 0
     → execute (Target m) vol w k c (getElem? (sheet ps) (k .pos)) ≡ waits
     → execute Source vol w i c (getElem? (map op (operations ps)) (i .pos)) ≡ waits
@@ -67,10 +68,10 @@ execute-back m vol ps w i k c nil st e x =
     go : (a : Option Instr) (o : Option Op) → Here (start ps) a o → getElem? (sheet ps) (k .pos) ≡ a
         → getElem? (operations ps) (i .pos) ≡ o → execute (Target m) vol w k c a ≡ waits
         → execute Source vol w i c (getElem? (map op (operations ps)) (i .pos)) ≡ waits
-    go a o end h j x = rw (map-none op (operations ps) (i .pos) j)
+    go a o end h j x = rw (getElem?-map op (operations ps) (i .pos), j)
     go a o ahead h j x = absurd (no-barrier (sheet ps) (k .pos) _ e h)
     go a o (meet {o = o′}) h j x =
-        rw (map-some op (operations ps) (i .pos) o′ j) (op-back m vol w k i c (start ps) nil o′ x)
+        rw (getElem?-map op (operations ps) (i .pos), j) (op-back m vol w k i c (start ps) nil o′ x)
 
 -- the oldest entry never waits
 pub commit-back : (m : Model) (vol : ℕ → Bool) (k i : Control) (c : Core) (e : Option Entry)

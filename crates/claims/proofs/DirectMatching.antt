@@ -8,8 +8,11 @@ use native.Mathlib.Omega.{arith}
 use lib.Dec.{ltb, leb}
 use borrow.Author.Tests.{ltb-true}
 use lib.ListN.{getD, getElem?, drop}
-use Rattle.barrier_placement.proofs.Laws.Bools.{and-true}
-use Rattle.sheet_format.specs.Layout.{Instr, Placed}
+use Rattle.laws.proofs.Bools.{and-true}
+use Rattle.laws.proofs.Lists.{nil-of-length}
+use Rattle.file_format.specs.declared.accepted.Op.{Op}
+use Rattle.barrier_placement.specs.Layout.{Placed}
+use Rattle.sheet_format.specs.Layout.{Instr}
 use Rattle.machine_spec.specs.declared.Machine.the-variants.{Source, Target}
 use Rattle.machine_spec.specs.declared.Model.{Model}
 use Rattle.machine_spec.specs.Step.{waits}
@@ -21,7 +24,7 @@ use Rattle.claims.proofs.Fenced.{AllFenced, kernelProgram, sheetProgram
 use Rattle.claims.proofs.Matching.{Follows, Matched, both-ran, both-refused, source-turn}
 use Rattle.claims.proofs.DirectLane.{commit-back, commit-not-pass}
 use Rattle.claims.proofs.DirectMove.{exact, through}
-use Rattle.claims.proofs.DirectPending.{Ready, ReadyOut, nil-of-length, honoured, nothing-pending}
+use Rattle.claims.proofs.DirectPending.{Ready, ReadyOut, honoured, nothing-pending}
 use Rattle.claims.proofs.DirectPending.{ready-step}
 
 direct-refused : (vol : ℕ → Bool) (prog : List (List Instr)) (d : Option ℕ) (t k : ℕ) (mvs : List Move)
@@ -29,7 +32,7 @@ direct-refused : (vol : ℕ → Bool) (prog : List (List Instr)) (d : Option ℕ
 direct-refused vol prog d t k [] = refl
 direct-refused vol prog d t k (mv ∷ mvs) = refl
 
-module _ (m : Model) (vol : ℕ → Bool) (ks : List (List Placed)) (f : (t : ℕ) → AllFenced m vol (getD ks t []))
+module _ (m : Model) (vol : ℕ → Bool) (ks : List (List (Placed Op))) (f : (t : ℕ) → AllFenced m vol (getD ks t []))
     (n : ℕ) where
   -- a source move and the target's moves for it
   move-matched : (d : Option ℕ) (r s : Run) → r .row ≡ s .row → Follows m vol ks (r .state) (s .state)

@@ -5,8 +5,10 @@ use mathlib.Core.List.{List, [], foldl}
 use mathlib.Core.Option.{some}
 use Prim.Native.Nat.{ℕ, zero, suc, _<_}
 use lib.ListN.{length, getD, getElem?, drop, List·getD-map}
+use Rattle.file_format.specs.declared.accepted.Op.{Op}
 use Rattle.barrier_placement.specs.declared.cookbook.Barrier.{Barrier}
-use Rattle.sheet_format.specs.Layout.{barrier, Placed, sheet, rank}
+use Rattle.barrier_placement.specs.Layout.{Placed}
+use Rattle.sheet_format.specs.Layout.{barrier, sheet, rank}
 use Rattle.machine_spec.specs.declared.Machine.the-variants.{Source, Target}
 use Rattle.machine_spec.specs.declared.Model.{Model}
 use Rattle.machine_spec.specs.Step.{Control, Core, Turn, waits, refuses, passes, does, goto}
@@ -20,11 +22,12 @@ use Rattle.claims.proofs.Matching.{Follows, Matched, both-ran, source-t
 use Rattle.claims.proofs.DirectLane.{fetch-barrier, no-barrier, execute-back, isPass, passes-barrier}
 use Rattle.claims.proofs.DirectLane.{drained-passes}
 
-matched-ran : {m : Model} {vol : ℕ → Bool} {ks : List (List Placed)} {r s : Run} → Matched m vol ks (ran r) (ran s)
+matched-ran : {m : Model} {vol : ℕ → Bool} {ks : List (List (Placed Op))} {r s : Run} → Matched m vol ks (ran r) (ran s)
     → (r .row ≡ s .row) × Follows m vol ks (r .state) (s .state)
 matched-ran (both-ran e h) = (e, h)
 
-module _ (m : Model) (vol : ℕ → Bool) (ks : List (List Placed)) (f : (t : ℕ) → AllFenced m vol (getD ks t [])) where
+module _ (m : Model) (vol : ℕ → Bool) (ks : List (List (Placed Op)))
+    (f : (t : ℕ) → AllFenced m vol (getD ks t [])) where
   -- a move of the target that passes no barrier, and the same source move
   pub exact : (r s : Run) → r .row ≡ s .row → Follows m vol ks (r .state) (s .state) → (mv : Move)
       → isPass (moveTurn (Target m) vol (sheetProgram ks) (s .state) mv) ≡ false

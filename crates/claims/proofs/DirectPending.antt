@@ -10,9 +10,10 @@ use native.Mathlib.Omega.{arith}
 use lib.Dec.{eqb}
 use borrow.Author.Tests.{eqb-true, eq-eqb, ne-eqb, not-false}
 use lib.ListN.{length, getD, getElem?, length-replicate}
+use Rattle.laws.proofs.Bools.{and-true}
+use Rattle.laws.proofs.Lists.{nil-of-length}
 use Rattle.file_format.specs.declared.accepted.Op.{Op}
 use Rattle.file_format.specs.declared.accepted.Op.the-variants.{Set, Add, Load, Store, Lock, Unlock, Skip}
-use Rattle.barrier_placement.proofs.Laws.Bools.{and-true}
 use Rattle.sheet_format.specs.Layout.{Instr, op, barrier, rank}
 use Rattle.machine_spec.specs.Entries.{Entry, appendEntry}
 use Rattle.machine_spec.specs.declared.Machine.the-variants.{Source}
@@ -102,10 +103,6 @@ module _ (vol : ℕ → Bool) (w : ℕ) (k : Control) (c : Core) where
       go [] h e = absurd (omega arith)
       go (x ∷ []) h e = rw (h, oldest-commits Source vol [] x refl)
       go (x ∷ y ∷ es) h e = absurd (omega arith)
-
-pub nil-of-length : (es : List Entry) → length es ≡ 0 → es ≡ []
-nil-of-length [] e = refl
-nil-of-length (x ∷ es) e = absurd (omega arith)
 
 due-other : (d : Bool) (t i : ℕ) → i ≢ t → due (cond d (some t) none) i ≡ 0
 due-other true t i ne = rw (ne-eqb i t ne)

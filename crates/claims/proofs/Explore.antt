@@ -9,15 +9,15 @@ use native.Mathlib.Omega.{arith}
 use lib.Dec.{ltb, leb}
 use borrow.Author.Tests.{ltb-true, leb-true}
 use lib.ListN.{length}
+use Rattle.laws.proofs.Bools.{and-true}
+use Rattle.laws.proofs.Lists.{at-beyond}
 use Rattle.sheet_format.specs.Layout.{Instr}
 use Rattle.machine_spec.specs.declared.Machine.{Machine}
 use Rattle.machine_spec.specs.Step.{Turn, waits, refuses, passes, does}
 use Rattle.machine_spec.specs.Schedule.{Move, move, legal}
 use Rattle.machine_spec.specs.State.{State, Run, Outcome, ran, refused, laneAt, setLane, applyTurn, moveTurn, run}
 use Rattle.machine_spec.specs.View.{every}
-use Rattle.barrier_placement.proofs.Laws.Bools.{and-true}
-use Rattle.file_format.proofs.Laws.Lists.{at-beyond}
-use Rattle.claims.proofs.Laws.Bools.{every-true}
+use Rattle.claims.proofs.Laws.Bools.{every-at}
 
 -- after a refusal nothing changes
 abbrev pub GoodOut : (State → Bool) → Outcome → Type 0
@@ -59,13 +59,13 @@ module _ (m : Machine) (vol : ℕ → Bool) (prog : List (List Instr)) (n c : �
 
       here : (leb (length (laneAt s t .pending)) c ≡ true) × (tests t ≡ true)
       here = and-true (leb (length (laneAt s t .pending)) c) (tests t)
-          (every-true n (λ t. leb (length (laneAt s t .pending)) c && tests t)
+          (every-at n (λ t. leb (length (laneAt s t .pending)) c && tests t)
           (and-true (good s) (every n (λ t. leb (length (laneAt s t .pending)) c && tests t)) e .1) t lt)
 
       go : Dec (c < x) → child (explore k) s t (moveTurn m vol prog s (move t x)) ≡ true
       go (yes l) = let few = leb-true (length (laneAt s t .pending)) c (here .0) in rw (late s t x (omega arith))
       go (no l) =
-          every-true (suc c) (λ x. child (explore k) s t (moveTurn m vol prog s (move t x))) (here .1) x (omega arith)
+          every-at (suc c) (λ x. child (explore k) s t (moveTurn m vol prog s (move t x))) (here .1) x (omega arith)
 
   onward : (k : ℕ) (r : Run) (t : ℕ) → explore (suc k) (r .state) ≡ true → (mvs : List Move)
       → ((k : ℕ) (r : Run) → explore k (r .state) ≡ true → GoodOut good (run m vol prog (ran r) mvs))

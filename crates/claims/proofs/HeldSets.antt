@@ -1,6 +1,6 @@
 -- The held sets of an accepted lane, as flags: is lock l held on the way to position p.
 use mathlib.Core.Path.{_≡_, refl, ap, _∙_, sym}
-use mathlib.Core.Bool.{Bool, true, false, not, _&&_, _||_, Bool·beq, false≢true}
+use mathlib.Core.Bool.{Bool, true, false, not, _&&_, _||_, Bool·beq}
 use mathlib.Core.List.{List, [], _∷_}
 use mathlib.Core.Option.{some}
 use Prim.Native.Nat.{ℕ, zero, suc, _≤_, _<_}
@@ -10,12 +10,13 @@ use lib.Dec.{eqb}
 use borrow.Author.Tests.{eq-eqb, ne-eqb}
 use lib.ListN.{length, getD, getElem?, take, set, length-set, List·getD-eq-default}
 use lib.Seq.{getD-set-same, getD-set-other}
+use Rattle.laws.proofs.Bools.{beq-true}
+use Rattle.laws.proofs.Lists.{getD-replicate-all}
 use Rattle.file_format.specs.declared.accepted.Op.{Op}
 use Rattle.file_format.specs.declared.accepted.Op.the-variants.{Set, Add, Load, Store, Lock, Unlock, Skip}
 use Rattle.file_format.specs.Held.{noLocks, same, after, heldFrom, held}
 use Rattle.file_format.proofs.Laws.Search.{all-at}
 use Rattle.file_format.specs.Lawful.{LawfulLane}
-use Rattle.claims.proofs.Laws.Lists.{getD-replicate-all}
 
 -- is l held after an operation, b telling whether it was before
 abbrev pub heldAfter : Op → ℕ → Bool → Bool
@@ -87,12 +88,6 @@ flag-after h (Unlock k) l w = go (ℕ-discrete l k)
     go (yes e) = rw (e, eq-eqb k k refl) (getD-set-same h k false false w)
     go (no n) = rw (ne-eqb k l (λ z. n (sym z))) (getD-set-other h k l false false n)
 flag-after h (Skip a t) l w = refl
-
-beq-true : (a b : Bool) → Bool·beq a b ≡ true → a ≡ b
-beq-true true true e = refl
-beq-true true false e = absurd (false≢true e)
-beq-true false true e = absurd (false≢true e)
-beq-true false false e = refl
 
 abbrev flags : List Bool → List Bool → List Bool
 flags h g =

@@ -14,13 +14,15 @@ use Rattle.barrier_placement.specs.declared.steps.Step.the-variants.{Skip as Sk
 use Rattle.barrier_placement.specs.Chain.{at, Forward}
 use Rattle.barrier_placement.proofs.Laws.Paths.{forward-of}
 use Rattle.barrier_placement.specs.Steps.{stepOf, steps}
-use Rattle.sheet_format.specs.Layout.{op, operations}
-use Rattle.sheet_format.specs.Levels.{Level, placed, placedLanes, volatileIn}
-use Rattle.machine_spec.specs.declared.Machine.the-variants.{Source}
+use Rattle.barrier_placement.specs.Layout.{operations}
+use Rattle.sheet_format.specs.Layout.{op}
+use Rattle.sheet_format.specs.declared.Level.{Level}
+use Rattle.sheet_format.specs.Levels.{placed, placedLanes, volatileIn}
+use Rattle.machine_spec.specs.declared.Machine.the-variants.{Source, Target}
 use Rattle.machine_spec.specs.declared.Model.{Model}
-use Rattle.claims.proofs.Fenced.{AllFenced, levelOf, kernelProgram}
-use Rattle.machine_spec.specs.Run.{programFor}
-use Rattle.sheet_format.proofs.LoweredLanes.{placed-operations}
+use Rattle.claims.proofs.Fenced.{AllFenced, kernelProgram}
+use Rattle.machine_spec.specs.Run.{programFor, levelOf}
+use Rattle.sheet_format.proofs.PlacedLanes.{placed-operations}
 use Rattle.claims.proofs.PlacedFenced.{placed-fenced}
 use Rattle.claims.proofs.HeldSets.{Disciplined, heldAt, lane-disciplined}
 
@@ -58,9 +60,9 @@ module _ (k : Program) where
   source-program l = kernel-placed l (volatileIn k) (k .lanes)
 
   module _ (w : Lawful k) where
-    pub fenced : (m : Model) (t : ℕ) → AllFenced m (volatileIn k) (getD (placedLanes (levelOf m) k) t [])
+    pub fenced : (m : Model) (t : ℕ) → AllFenced m (volatileIn k) (getD (placedLanes (levelOf (Target m)) k) t [])
     fenced m t =
-        rw (lane-placed (levelOf m) t)
+        rw (lane-placed (levelOf (Target m)) t)
         (placed-fenced m (volatileIn k) (getD (k .lanes) t []) (forward (w .lane t) (volatileIn k)))
 
     pub disciplined : (l : Level) (t : ℕ)

@@ -8,21 +8,24 @@ use native.Mathlib.Decide.{decLt}
 use native.Mathlib.Omega.{arith}
 use lib.ListN.{length, getD, getElem?, take}
 use lib.Seq.{take-suc, take-length}
+use Rattle.file_format.specs.declared.accepted.Op.{Op}
 use Rattle.barrier_placement.specs.declared.cookbook.Barrier.{Barrier}
 use Rattle.barrier_placement.specs.declared.cookbook.Barrier.the-variants.{LL}
-use Rattle.sheet_format.specs.Layout.{op, barrier, Placed, operations, start, aim, sheet}
+use Rattle.barrier_placement.specs.Layout.{Placed, operations, beforeOf, start}
+use Rattle.barrier_placement.proofs.Laws.Layout.{at-end}
+use Rattle.sheet_format.specs.Layout.{op, barrier, aim, sheet}
 use Rattle.machine_spec.specs.Entries.{Entry, without}
 use Rattle.machine_spec.specs.declared.Machine.the-variants.{Source, Target}
 use Rattle.machine_spec.specs.declared.Model.{Model}
 use Rattle.machine_spec.specs.Rules.{mayCommit, mayPass}
 use Rattle.machine_spec.specs.Step.{Control, Core, Turn, waits, passes, goto, execute, commit, turn}
 use Rattle.claims.proofs.Fenced.{AllFenced}
-use Rattle.claims.proofs.Laws.Sheets.{beforeOf, has-snoc, at-barrier, at-op, at-end, chain-at}
+use Rattle.claims.proofs.Laws.Sheets.{has-snoc, chain-at, barrier-at, op-at}
 use Rattle.claims.proofs.Exposed.{exposed-without, exposed-pass, source-commits}
 use Rattle.claims.proofs.Stands.{Safe, Stands}
 use Rattle.claims.proofs.OpAgrees.{Agrees, wait, passed-by, act, op-agrees}
 
-module _ (m : Model) (vol : ℕ → Bool) (ps : List Placed) where
+module _ (m : Model) (vol : ℕ → Bool) (ps : List (Placed Op)) where
   commit-agrees : (i k : Control) (c : Core) (n : ℕ) (e : Option Entry) → getElem? (c .pending) n ≡ e
       → Stands m vol ps (i .pos) k (c .pending)
       → Agrees m vol ps (i .pos) c (commit (Target m) vol k c n e) (commit Source vol i c n e)
@@ -51,9 +54,9 @@ module _ (m : Model) (vol : ℕ → Bool) (ps : List Placed) where
           u : Turn
           u = execute Source vol w i c (getElem? (map op (operations ps)) (i .pos))
 
-          go : (s : Option Placed) → getElem? ps (i .pos) ≡ s
+          go : (s : Option (Placed Op)) → getElem? ps (i .pos) ≡ s
               → Agrees m vol ps (i .pos) c (execute (Target m) vol w k c (getElem? (sheet ps) (k .pos))) u
-          go none here = rw (st .place, at-end (start ps) ps (i .pos) (st .passed) here) wait
+          go none here = rw (st .place, at-end barrier (λ o. op (aim (start ps) o)) ps (i .pos) (st .passed) here) wait
           go (some s) here = reach (decLt (st .passed) (length (s .before)))
             where
               most : st .passed ≤ length (s .before)
@@ -66,7 +69,7 @@ module _ (m : Model) (vol : ℕ → Bool) (ps : List Placed) where
                   → Agrees m vol ps (i .pos) c (execute (Target m) vol w k c (getElem? (sheet ps) (k .pos))) u
               reach (yes h) =
                   let fetch : getElem? (sheet ps) (k .pos) ≡ some (barrier (getD (s .before) (st .passed) LL)) =
-                  rw (st .place) (at-barrier (start ps) ps (i .pos) (st .passed) s here h) in
+                  rw (st .place) (barrier-at ps (i .pos) s here (st .passed) h) in
                   rw fetch (bar (mayPass (Target m) x (c .pending)) refl)
                 where
                   x : Barrier
@@ -97,7 +100,7 @@ module _ (m : Model) (vol : ℕ → Bool) (ps : List Placed) where
                   let all : st .passed ≡ length (s .before) = omega (arith, most) in
                   let at : k .pos ≡ start ps (i .pos) + length (s .before) = rw (← all) (st .place) in
                   let fetch : getElem? (sheet ps) (k .pos) ≡ some (op (aim (start ps) (s .oper))) =
-                  rw at (at-op (start ps) ps (i .pos) s here) in
+                  rw at (op-at ps (i .pos) s here) in
                   rw (fetch, chain-at ps (i .pos) s here)
                   (op-agrees f (record {
                     here = here;

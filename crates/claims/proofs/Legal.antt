@@ -6,6 +6,7 @@ use Prim.Native.Nat.{ℕ, zero, suc, _≤_}
 use native.Mathlib.Omega.{arith}
 use lib.Dec.{ltb, leb}
 use borrow.Author.Tests.{leb-true, le-leb}
+use Rattle.laws.proofs.Bools.{and-true}
 use Rattle.sheet_format.specs.Layout.{Instr}
 use Rattle.machine_spec.specs.declared.Machine.the-variants.{Target}
 use Rattle.machine_spec.specs.declared.Model.{Model}
@@ -14,7 +15,6 @@ use Rattle.machine_spec.specs.Step.{Turn, waits, refuses, passes, does}
 use Rattle.machine_spec.specs.Schedule.{Move, limit, legal}
 use Rattle.machine_spec.specs.State.{Outcome, ran, refused, advance, run, moveTurn}
 use Rattle.claims.specs.Schedules.{keep, keepMove, sourceSchedule, expand, expandAt, targetSchedule}
-use Rattle.barrier_placement.proofs.Laws.Bools.{and-true}
 
 pub legal-append : (n k : ℕ) (a b : List Move) → legal n k a ≡ true → legal n k b ≡ true → legal n k (a ++ b) ≡ true
 legal-append n k [] b p q = q

@@ -8,16 +8,16 @@ use native.Mathlib.Omega.{arith}
 use lib.Dec.{eqb}
 use borrow.Author.Tests.{eqb-true, eq-eqb}
 use lib.ListN.{length, getD, getElem?, take}
+use Rattle.laws.proofs.Bools.{and-true}
+use Rattle.laws.proofs.Lists.{getElem?-map}
 use Rattle.file_format.specs.declared.accepted.Op.{Op}
 use Rattle.file_format.specs.declared.accepted.Op.the-variants.{Set, Add, Load, Store, Lock, Unlock, Skip}
-use Rattle.barrier_placement.proofs.Laws.Bools.{and-true}
 use Rattle.sheet_format.specs.Layout.{op}
 use Rattle.machine_spec.specs.Entries.{Entry, write, release, anySync, without}
 use Rattle.machine_spec.specs.declared.Machine.the-variants.{Source}
 use Rattle.machine_spec.specs.Rules.{mayCommit}
 use Rattle.machine_spec.specs.Step.{Control, Core, Turn, waits, refuses, passes, does, reg, permits, holds, next}
 use Rattle.machine_spec.specs.Step.{coreAfter, effect, execute, settle, commit, turn}
-use Rattle.claims.proofs.Laws.Lists.{map-some, map-none}
 use Rattle.claims.proofs.HeldSets.{Disciplined}
 use Rattle.claims.proofs.LockClaims.{one, releases, releases-snoc, releases-without, claim, Claims, Kept}
 use Rattle.claims.proofs.LockClaims.{unchanged, taken, let-go}
@@ -116,6 +116,6 @@ module _ (n : ℕ) (os : List Op) (held : ℕ → ℕ → Bool) (D : Disciplined
 
       go : (o : Option Op) → getElem? os (i .pos) ≡ o
           → Sound n held t (c .locks) (execute Source vol (suc t) i c (getElem? (map op os) (i .pos)))
-      go none e = rw (map-none op os (i .pos) e) tt
-      go (some o) e = rw (map-some op os (i .pos) o e) (act o e (permits Source vol c o) refl)
+      go none e = rw (getElem?-map op os (i .pos), e) tt
+      go (some o) e = rw (getElem?-map op os (i .pos), e) (act o e (permits Source vol c o) refl)
   turn-sound (suc x) = commit-sound x (getElem? (c .pending) x) refl

@@ -5,7 +5,11 @@ use mathlib.Core.List.{List, [], _∷_, _++_, map, foldl-append}
 use Prim.Native.Nat.{ℕ, suc}
 use native.Mathlib.Omega.{arith}
 use lib.ListN.{length, getD, length-map, List·getD-map}
-use Rattle.sheet_format.specs.Layout.{op, Placed, operations, start, sheet, rank}
+use Rattle.laws.proofs.Lists.{map-ext}
+use Rattle.file_format.specs.declared.accepted.Op.{Op}
+use Rattle.barrier_placement.specs.Layout.{Placed, operations, start}
+use Rattle.barrier_placement.proofs.Laws.Layout.{start-zero}
+use Rattle.sheet_format.specs.Layout.{op, sheet, rank}
 use Rattle.machine_spec.specs.declared.Machine.the-variants.{Source, Target}
 use Rattle.machine_spec.specs.declared.Model.{Model}
 use Rattle.machine_spec.specs.Step.{Control, Core, Turn, turn}
@@ -15,32 +19,31 @@ use Rattle.machine_spec.specs.State.{loadRow, applyTurn, moveTurn, advance, run
 use Rattle.machine_spec.specs.View.{endedAt, finished, observe, saw}
 use Rattle.claims.specs.Schedules.{keep, keepMove, sourceSchedule}
 use Rattle.claims.proofs.Fenced.{AllFenced, kernelProgram, sheetProgram}
-use Rattle.claims.proofs.Laws.Lists.{map-ext}
 use Rattle.claims.proofs.Laws.Lanes.{set-lane-own, set-lane-count, set-lane-both, start-each}
 use Rattle.claims.proofs.Laws.Bools.{every-ext}
-use Rattle.claims.proofs.Laws.Sheets.{start-zero, rank-cells, ended-cells}
+use Rattle.claims.proofs.Laws.Sheets.{rank-cells, ended-cells}
 use Rattle.claims.proofs.Stands.{Stands}
 use Rattle.claims.proofs.OpAgrees.{Agrees, wait, refuse, passed-by, act}
 use Rattle.claims.proofs.LaneAgrees.{turn-agrees}
 use Rattle.claims.proofs.Exposed.{exposed-nil}
 
 -- a source lane and the target's lane that it matches
-pub record LaneFollows (m : Model) (vol : ℕ → Bool) (ps : List Placed) (a b : Lane) : Type 0 where
+pub record LaneFollows (m : Model) (vol : ℕ → Bool) (ps : List (Placed Op)) (a b : Lane) : Type 0 where
   pub regs : a .regs ≡ b .regs
   pub pending : a .pending ≡ b .pending
   pub stands : Stands m vol ps (a .control .pos) (b .control) (b .pending)
 
-pub record Follows (m : Model) (vol : ℕ → Bool) (ks : List (List Placed)) (a b : State) : Type 0 where
+pub record Follows (m : Model) (vol : ℕ → Bool) (ks : List (List (Placed Op))) (a b : State) : Type 0 where
   pub lanes : (t : ℕ) → LaneFollows m vol (getD ks t []) (laneAt a t) (laneAt b t)
   pub count : length (a .lanes) ≡ length (b .lanes)
   pub memory : a .memory ≡ b .memory
   pub locks : a .locks ≡ b .locks
 
-pub data Matched (m : Model) (vol : ℕ → Bool) (ks : List (List Placed)) : Outcome → Outcome → Type 0 where
+pub data Matched (m : Model) (vol : ℕ → Bool) (ks : List (List (Placed Op))) : Outcome → Outcome → Type 0 where
   both-ran : {r s : Run} → r .row ≡ s .row → Follows m vol ks (r .state) (s .state) → Matched m vol ks (ran r) (ran s)
   both-refused : {t k : ℕ} → Matched m vol ks (refused t k) (refused t k)
 
-module _ (m : Model) (vol : ℕ → Bool) (ks : List (List Placed)) where
+module _ (m : Model) (vol : ℕ → Bool) (ks : List (List (Placed Op))) where
   follows-put : (a b : State) → Follows m vol ks a b → (t : ℕ) (i k : Control) (d : Core)
       → Stands m vol (getD ks t []) (i .pos) k (d .pending) → Follows m vol ks (setLane a t i d) (setLane b t k d)
   follows-put a b h t i k d st = record {
@@ -93,7 +96,7 @@ module _ (m : Model) (vol : ℕ → Bool) (ks : List (List Placed)) where
         t : ℕ
         t = mv .lane
 
-        ps : List Placed
+        ps : List (Placed Op)
         ps = getD ks t []
 
         c : Core

@@ -6,11 +6,12 @@ use mathlib.Core.Option.{Option, some}
 use Prim.Native.Nat.{ℕ, suc}
 use lib.Dec.{eqb}
 use lib.ListN.{getD, set as update}
+use Rattle.laws.proofs.Bools.{and-true}
 use Rattle.file_format.specs.declared.accepted.Op.{Op}
 use Rattle.file_format.specs.declared.accepted.Op.the-variants.{Set, Add, Load, Store, Lock, Unlock, Skip}
 use Rattle.barrier_placement.specs.declared.cookbook.Barrier.the-variants.{SL}
-use Rattle.barrier_placement.proofs.Laws.Bools.{and-true}
-use Rattle.sheet_format.specs.Layout.{op, Placed, start, aim}
+use Rattle.barrier_placement.specs.Layout.{Placed, start}
+use Rattle.sheet_format.specs.Layout.{op, aim}
 use Rattle.machine_spec.specs.Entries.{write, release, anySync, isNil, appendEntry}
 use Rattle.machine_spec.specs.declared.Machine.the-variants.{Source, Target}
 use Rattle.machine_spec.specs.declared.Model.{Model}
@@ -23,7 +24,7 @@ use Rattle.claims.proofs.Laws.Pending.{newest-sync, nil-sync}
 use Rattle.claims.proofs.Stands.{Stands, Reached, onwards, lands, locked-on, appended, parted}
 
 -- a turn of the target and the source turn for it, with the core c before
-pub data Agrees (m : Model) (vol : ℕ → Bool) (ps : List Placed) (p : ℕ) (c : Core) : Turn → Turn → Type 0 where
+pub data Agrees (m : Model) (vol : ℕ → Bool) (ps : List (Placed Op)) (p : ℕ) (c : Core) : Turn → Turn → Type 0 where
   wait : {u : Turn} → Agrees m vol ps p c waits u
   refuse : Agrees m vol ps p c refuses refuses
   passed-by : {k : Control} {u : Turn} → Stands m vol ps p k (c .pending) → Agrees m vol ps p c (passes k c) u
@@ -31,8 +32,9 @@ pub data Agrees (m : Model) (vol : ℕ → Bool) (ps : List Placed) (p : ℕ) (c
       → Agrees m vol ps p c (does j′ d v) (does j d v)
 
 -- both are refused, or both act alike
-both-act : {m : Model} {vol : ℕ → Bool} {ps : List Placed} {p : ℕ} {c : Core} (b : Bool) {b′ : Bool} (j j′ : Control)
-    {d d′ : Core} {v v′ : Option ℕ} → b′ ≡ b → d′ ≡ d → v′ ≡ v → Stands m vol ps (j .pos) j′ (d .pending)
+both-act : {m : Model} {vol : ℕ → Bool} {ps : List (Placed Op)} {p : ℕ} {c : Core} (b : Bool) {b′ : Bool}
+    (j j′ : Control) {d d′ : Core} {v v′ : Option ℕ} → b′ ≡ b → d′ ≡ d → v′ ≡ v
+    → Stands m vol ps (j .pos) j′ (d .pending)
     → Agrees m vol ps p c (cond b′ (does j′ d′ v′) refuses) (cond b (does j d v) refuses)
 both-act true j j′ eb ed ev st = rw (eb, ed, ev) (act st)
 both-act false j j′ eb ed ev st = rw eb refuse
@@ -40,8 +42,8 @@ both-act false j j′ eb ed ev st = rw eb refuse
 keeps-SL : (m : Model) → KeptAt m SL
 keeps-SL Tso o flows = refl
 
-module _ {m : Model} {vol : ℕ → Bool} {ps : List Placed} (f : AllFenced m vol ps) {i k : Control} {c : Core}
-    {s : Placed} (r : Reached m vol ps i k c s) where
+module _ {m : Model} {vol : ℕ → Bool} {ps : List (Placed Op)} (f : AllFenced m vol ps) {i k : Control} {c : Core}
+    {s : Placed Op} (r : Reached m vol ps i k c s) where
   -- the LOAD of a volatile location finds nothing exposed
   load-parted : (a x : ℕ) → s .oper ≡ Load a x → vol x ≡ true → anySync vol (c .pending) ≡ false
   load-parted a x e v = parted r f SL (keeps-SL m) (rw e v)

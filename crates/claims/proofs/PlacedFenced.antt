@@ -1,16 +1,15 @@
 -- The placement fences the lanes of each target: what the paper's sentence comes to for the matching.
 use mathlib.Core.Path.{_≡_, refl, ap, _∙_, sym, subst}
 use mathlib.Core.Bool.{Bool, true, false, _&&_, false≢true}
-use mathlib.Core.List.{List, [], _∷_}
+use mathlib.Core.List.{List}
 use mathlib.Core.Logic.{inl, inr}
 use mathlib.Core.Option.{some}
-use Prim.Native.Nat.{ℕ, zero, suc, _+_, _<_}
-use native.Mathlib.Nat.{zero-add, add-zero}
+use Prim.Native.Nat.{ℕ, _<_}
 use native.Mathlib.Omega.{arith}
 use lib.ListN.{getElem?, length}
+use Rattle.laws.proofs.Lists.{some-at, getElem?-map, map-some}
 use Rattle.file_format.specs.declared.accepted.Op.{Op}
 use Rattle.file_format.specs.declared.accepted.Op.the-variants.{Set, Add, Load, Store, Lock, Unlock, Skip}
-use Rattle.file_format.proofs.Laws.Lists.{some-at}
 use Rattle.barrier_placement.specs.declared.cookbook.Class.{Class}
 use Rattle.barrier_placement.specs.declared.cookbook.Class.the-variants.{VL, VS}
 use Rattle.barrier_placement.specs.declared.cookbook.Barrier.{Barrier}
@@ -20,32 +19,21 @@ use Rattle.barrier_placement.specs.Cookbook.{cell}
 use Rattle.barrier_placement.specs.Chain.{Chain, at, Next, Path, edge, more, Between, Forward}
 use Rattle.file_format.specs.Accepted.{jump}
 use Rattle.barrier_placement.specs.Steps.{classOf, stepOf, steps}
-use Rattle.barrier_placement.specs.Place.{chosen, stands}
+use Rattle.barrier_placement.specs.Place.{stands}
 use Rattle.barrier_placement.specs.Sentence.{Sentence}
 use Rattle.barrier_placement.proofs.Correct.{correct}
-use Rattle.sheet_format.specs.Layout.{Placed, operations, has}
-use Rattle.sheet_format.specs.Levels.{Level, keeps, placeFrom, placed}
-use Rattle.sheet_format.proofs.LoweredLanes.{placed-operations}
-use Rattle.sheet_format.proofs.Before.{has-chosen}
+use Rattle.barrier_placement.specs.Layout.{Placed, operations, beforeOf}
+use Rattle.sheet_format.specs.Layout.{has}
+use Rattle.sheet_format.specs.declared.Level.{Level}
+use Rattle.sheet_format.specs.Levels.{placed}
+use Rattle.sheet_format.specs.Items.{operationAt, keepsAt}
+use Rattle.sheet_format.proofs.PlacedLanes.{placed-operations}
+use Rattle.sheet_format.proofs.Before.{has-chosen, placed-before}
 use Rattle.machine_spec.specs.declared.Model.{Model}
-use Rattle.claims.proofs.Fenced.{publishes, acquires, drains, opens, needs, levelOf, Edge, falls, jumps}
+use Rattle.machine_spec.specs.declared.Machine.the-variants.{Target}
+use Rattle.machine_spec.specs.Run.{levelOf}
+use Rattle.claims.proofs.Fenced.{publishes, acquires, drains, opens, needs, Edge, falls, jumps}
 use Rattle.claims.proofs.Fenced.{Open, starts, goes-on, Fenced, AllFenced}
-use Rattle.claims.proofs.Laws.Lists.{map-some}
-
--- ## a placed lane
-
-placed-before : (l : Level) (s : Chain) (p : ℕ) (os : List Op) (i : ℕ) (x : Placed)
-    → getElem? (placeFrom l s p os) i ≡ some x
-    → x .before ≡ chosen (λ b. keeps l (x .oper) b && stands s b (p + i))
-placed-before l s p [] i x e = cc
-placed-before l s p (o ∷ os) zero x e =
-    rw (add-zero p) (subst (λ (y : Placed). y .before ≡ chosen (λ b. keeps l (y .oper) b && stands s b p)) same refl)
-  where
-    same : record { before = chosen (λ b. keeps l o b && stands s b p); oper = o } ≡ x
-    same = cc
-placed-before l s p (o ∷ os) (suc i) x e =
-    let q : p + suc i ≡ suc p + i = omega arith in
-    rw q (placed-before l s (suc p) os i x e)
 
 -- ## the paper's sentence
 
@@ -101,16 +89,16 @@ jump-step vol (Unlock l) t e = cc
 jump-step vol (Skip a u) t e = cc
 
 -- a placement that has the sentence fences
-module _ (b : Barrier) (vol : ℕ → Bool) (ps : List Placed) (B : ℕ → Bool)
-    (stand : (p : ℕ) (s : Placed) → getElem? ps p ≡ some s → drains (s .oper) ≡ false → has b (s .before) ≡ B p)
+module _ (b : Barrier) (vol : ℕ → Bool) (ps : List (Placed Op)) (B : ℕ → Bool)
+    (stand : (p : ℕ) (s : Placed Op) → getElem? ps p ≡ some s → drains (s .oper) ≡ false → has b (s .before) ≡ B p)
     (sentence : Sentence (steps vol (operations ps)) b B) where
   abbrev chain : Chain
   chain = steps vol (operations ps)
 
-  step-at : (i : ℕ) (s : Placed) → getElem? ps i ≡ some s → (i < length chain) × (at chain i ≡ stepOf vol (s .oper))
+  step-at : (i : ℕ) (s : Placed Op) → getElem? ps i ≡ some s → (i < length chain) × (at chain i ≡ stepOf vol (s .oper))
   step-at i s e =
       some-at chain i (stepOf vol (s .oper)) Other
-      (map-some (stepOf vol) (operations ps) i (s .oper) (map-some (λ z. z .oper) ps i s e))
+      (rw (getElem?-map (stepOf vol) (operations ps) i, getElem?-map (λ (z : Placed Op). z .oper) ps i, e))
 
   -- the way to an open position
   record Way (p : ℕ) : Type 0 where
@@ -121,7 +109,7 @@ module _ (b : Barrier) (vol : ℕ → Bool) (ps : List Placed) (B : ℕ → Bool
     path : Path (Next chain) from p
     clear : (k : ℕ) → Between path k → B k ≡ false
 
-  step : (i p : ℕ) (s : Placed) → getElem? ps i ≡ some s → Edge ps i p → Next chain i p
+  step : (i p : ℕ) (s : Placed Op) → getElem? ps i ≡ some s → Edge ps i p → Next chain i p
   step i p s e falls = (step-at i s e .0, inl refl)
   step i p s e (jumps s′ e′ j) = (step-at i s e .0, inr (step-at i s′ e′ .1 ∙ jump-step vol (s′ .oper) p j))
 
@@ -169,7 +157,7 @@ module _ (b : Barrier) (vol : ℕ → Bool) (ps : List Placed) (B : ℕ → Bool
 
 -- the lanes of a target's level, on every chain whose skips go forward
 pub placed-fenced : (m : Model) (vol : ℕ → Bool) (ops : List Op) → Forward (steps vol ops)
-    → AllFenced m vol (placed (levelOf m) vol ops)
+    → AllFenced m vol (placed (levelOf (Target m)) vol ops)
 placed-fenced m vol ops forward b v =
     sentence-fenced b vol (placed l vol ops) (stands (steps vol ops) b) stand
     (subst (λ (os : List Op). Sentence (steps vol os) b (stands (steps vol ops) b))
@@ -177,11 +165,15 @@ placed-fenced m vol ops forward b v =
     (correct (steps vol ops) b forward))
   where
     l : Level
-    l = levelOf m
+    l = levelOf (Target m)
 
-    stand : (p : ℕ) (x : Placed) → getElem? (placed l vol ops) p ≡ some x → drains (x .oper) ≡ false
+    stand : (p : ℕ) (x : Placed Op) → getElem? (placed l vol ops) p ≡ some x → drains (x .oper) ≡ false
         → has b (x .before) ≡ stands (steps vol ops) b p
     stand p x e flows =
-        ap (has b) (placed-before l (steps vol ops) 0 ops p x e)
-        ∙ has-chosen (λ b. keeps l (x .oper) b && stands (steps vol ops) b (0 + p)) b
-        ∙ rw (v (x .oper) flows, zero-add p)
+        ap (λ y. has b (beforeOf y)) (sym e) ∙ ap (has b) (placed-before l vol ops p)
+        ∙ has-chosen (λ a. keepsAt l ops a p && stands (steps vol ops) a p) b ∙ rw (here, v (x .oper) flows)
+      where
+        here : operationAt ops p ≡ x .oper
+        here =
+            some-at ops p (x .oper) (Set 0 0) (subst (λ os. getElem? os p ≡ some (x .oper))
+            (placed-operations l (steps vol ops) 0 ops) (map-some (λ y. y .oper) (placed l vol ops) p x e)) .1

@@ -7,8 +7,10 @@ use native.Mathlib.Omega.{arith}
 use lib.Dec.{ltb, leb}
 use borrow.Author.Tests.{ltb-true}
 use lib.ListN.{length, getD, replicate, length-replicate, List·getD-map}
-use Rattle.barrier_placement.proofs.Laws.Bools.{and-true}
-use Rattle.sheet_format.specs.Layout.{op, Placed, operations}
+use Rattle.laws.proofs.Bools.{and-true}
+use Rattle.file_format.specs.declared.accepted.Op.{Op}
+use Rattle.barrier_placement.specs.Layout.{Placed, operations}
+use Rattle.sheet_format.specs.Layout.{op}
 use Rattle.machine_spec.specs.declared.Machine.the-variants.{Source, Target}
 use Rattle.machine_spec.specs.declared.Model.{Model}
 use Rattle.machine_spec.specs.Step.{Turn, waits, refuses, passes, does}
@@ -25,7 +27,7 @@ use Rattle.claims.proofs.LockClaims.{claim, Claims}
 use Rattle.claims.proofs.LockTurns.{Sound, turn-sound}
 
 -- of m lanes and n locks
-module _ (m n : ℕ) (ks : List (List Placed)) (held : ℕ → ℕ → ℕ → Bool)
+module _ (m n : ℕ) (ks : List (List (Placed Op))) (held : ℕ → ℕ → ℕ → Bool)
     (D : (t : ℕ) → Disciplined n (operations (getD ks t [])) (held t)) (vol : ℕ → Bool) where
   record Inv (a : State) : Type 0 where
     lanes : length (a .lanes) ≡ m

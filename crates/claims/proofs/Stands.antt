@@ -7,26 +7,28 @@ use Prim.Native.Nat.{ℕ, suc, _+_, _≤_}
 use native.Mathlib.Nat.{add-zero}
 use native.Mathlib.Omega.{arith}
 use lib.ListN.{length, getElem?, take}
+use Rattle.laws.proofs.Bools.{or-right}
+use Rattle.file_format.specs.declared.accepted.Op.{Op}
 use Rattle.file_format.specs.declared.accepted.Op.the-variants.{Skip}
 use Rattle.barrier_placement.specs.declared.cookbook.Barrier.{Barrier}
-use Rattle.barrier_placement.proofs.Laws.Bools.{or-right}
-use Rattle.sheet_format.specs.Layout.{Placed, start, has}
+use Rattle.barrier_placement.specs.Layout.{Placed, barriersAt, start}
+use Rattle.sheet_format.specs.Layout.{has}
 use Rattle.machine_spec.specs.Entries.{Entry, isSync, isNil}
 use Rattle.machine_spec.specs.declared.Model.{Model}
 use Rattle.machine_spec.specs.Step.{Control, Core, goto}
 use Rattle.claims.specs.Direct.{appends}
 use Rattle.claims.proofs.Fenced.{publishes, drains, opens, needs, KeptAt, Edge, falls, jumps, Open, starts}
 use Rattle.claims.proofs.Fenced.{goes-on, AllFenced}
-use Rattle.claims.proofs.Laws.Sheets.{barriersAt, start-suc}
+use Rattle.claims.proofs.Laws.Sheets.{next-begins}
 use Rattle.claims.proofs.Exposed.{exposed, exposed-nil, exposed-snoc}
 
 -- while something is exposed for want of a b, p is open for b, and no b is among those passed
-abbrev pub Safe : Model → (ℕ → Bool) → List Placed → ℕ → List Entry → List Barrier → Type 0
+abbrev pub Safe : Model → (ℕ → Bool) → List (Placed Op) → ℕ → List Entry → List Barrier → Type 0
 Safe m vol ps p es bs =
     (b : Barrier) → KeptAt m b → exposed b vol es ≡ true → Open b vol ps p × (has b bs ≡ false)
 
 -- a lane of the target m at k stands where a source lane at p does: past some of the barriers before p
-pub record Stands (m : Model) (vol : ℕ → Bool) (ps : List Placed) (p : ℕ) (k : Control) (es : List Entry) : Type 0
+pub record Stands (m : Model) (vol : ℕ → Bool) (ps : List (Placed Op)) (p : ℕ) (k : Control) (es : List Entry) : Type 0
   where
     pub passed : ℕ
     pub place : k .pos ≡ start ps p + passed
@@ -34,13 +36,13 @@ pub record Stands (m : Model) (vol : ℕ → Bool) (ps : List Placed) (p : ℕ) 
     pub safe : Safe m vol ps p es (take passed (barriersAt ps p))
 
 -- past all of them: at the operation of s, where the source lane stands at i
-pub record Reached (m : Model) (vol : ℕ → Bool) (ps : List Placed) (i k : Control) (c : Core) (s : Placed) : Type 0
-  where
-    pub here : getElem? ps (i .pos) ≡ some s
-    pub place : k .pos ≡ start ps (i .pos) + length (s .before)
-    pub safe : Safe m vol ps (i .pos) (c .pending) (s .before)
+pub record Reached (m : Model) (vol : ℕ → Bool) (ps : List (Placed Op)) (i k : Control) (c : Core) (s : Placed Op)
+    : Type 0 where
+  pub here : getElem? ps (i .pos) ≡ some s
+  pub place : k .pos ≡ start ps (i .pos) + length (s .before)
+  pub safe : Safe m vol ps (i .pos) (c .pending) (s .before)
 
-module _ {m : Model} {vol : ℕ → Bool} {ps : List Placed} where
+module _ {m : Model} {vol : ℕ → Bool} {ps : List (Placed Op)} where
   -- at the first barrier of p
   fresh : (p : ℕ) (k : Control) (es : List Entry) → k .pos ≡ start ps p
       → ((b : Barrier) → KeptAt m b → exposed b vol es ≡ true → Open b vol ps p) → Stands m vol ps p k es
@@ -51,7 +53,7 @@ module _ {m : Model} {vol : ℕ → Bool} {ps : List Placed} where
     safe = λ b v e. (h b v e, refl);
   }
 
-  module _ {i k : Control} {c : Core} {s : Placed} (r : Reached m vol ps i k c s) where
+  module _ {i k : Control} {c : Core} {s : Placed Op} (r : Reached m vol ps i k c s) where
     -- what is exposed after the operation leaves each way on open
     leads : drains (s .oper) ≡ false → (p′ : ℕ) → Edge ps (i .pos) p′ → (b : Barrier) → KeptAt m b
         → opens b vol (s .oper) || exposed b vol (c .pending) ≡ true → Open b vol ps p′
@@ -64,7 +66,7 @@ module _ {m : Model} {vol : ℕ → Bool} {ps : List Placed} where
             goes-on s (r .safe b v old .0) (r .here) (r .safe b v old .1) nd way
 
     following : suc (k .pos) ≡ start ps (suc (i .pos))
-    following = ap suc (r .place) ∙ sym (start-suc ps (i .pos) s (r .here))
+    following = ap suc (r .place) ∙ sym (next-begins ps (i .pos) s (r .here))
 
     -- with the same entries pending
     pub onwards : drains (s .oper) ≡ false → Stands m vol ps (suc (i .pos)) (goto k (suc (k .pos))) (c .pending)

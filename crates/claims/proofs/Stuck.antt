@@ -1,6 +1,6 @@
 -- A machine has no permitted move exactly when nothing is pending and each lane has ended or stands at a held lock.
 use mathlib.Core.Path.{_≡_, refl, ap, _∙_, sym}
-use mathlib.Core.Bool.{Bool, true, false, not, cond, and-false, false≢true}
+use mathlib.Core.Bool.{Bool, true, false, not, cond, and-false, Bool·not-not, false≢true}
 use mathlib.Core.List.{List, [], _∷_}
 use mathlib.Core.Logic.{_↔_}
 use mathlib.Core.Option.{Option, none, some}
@@ -46,10 +46,6 @@ free-pass (Target m) LS = refl
 free-pass (Target m) SS = refl
 free-pass (Target m) SL = refl
 
-not-not : (b : Bool) → b ≡ not (not b)
-not-not true = refl
-not-not false = refl
-
 -- with nothing pending every machine permits all but a LOCK of a held lock
 pub free-permits : (m : Machine) (vol : ℕ → Bool) (c : Core) → c .pending ≡ [] → (o : Op)
     → permits m vol c o ≡ not (halted (c .locks) (some (op o)))
@@ -59,7 +55,7 @@ free-permits m vol c nil (Load a x) = rw nil (free-load m vol x)
 free-permits m vol c nil (Store a x) = refl
 free-permits m vol c nil (Lock l) =
     let g : mayLock m vol (c .pending) ≡ true = rw nil (free-lock m vol) in
-    rw g (not-not (eqb (getD (c .locks) l 0) 0))
+    rw g (sym (Bool·not-not (eqb (getD (c .locks) l 0) 0)))
 free-permits m vol c nil (Unlock l) = refl
 free-permits m vol c nil (Skip a t) = refl
 

@@ -18,8 +18,10 @@ use Rattle.barrier_placement.specs.Steps.{steps}
 use Rattle.barrier_placement.specs.Sentence.{Sentence}
 use Rattle.barrier_placement.specs.Place.{chosen}
 use Rattle.barrier_placement.specs.Sheet.{Item, bar, item, NextItem, ItemPair, Alone}
-use Rattle.sheet_format.specs.Layout.{Instr, op, barrier, start, aim}
-use Rattle.sheet_format.specs.Levels.{Level, keeps, placed, volatileIn}
+use Rattle.barrier_placement.specs.Layout.{start}
+use Rattle.sheet_format.specs.Layout.{Instr, op, barrier, aim}
+use Rattle.sheet_format.specs.declared.Level.{Level}
+use Rattle.sheet_format.specs.Levels.{keeps, placed, volatileIn}
 use Rattle.sheet_format.specs.Bytes.{sheetBytes, lowerBy}
 use Rattle.sheet_format.specs.Read.{readSheet}
 use Rattle.sheet_format.specs.Items.{items, operationAt}
@@ -54,8 +56,8 @@ pub record Records (s : List ℕ) (k : Program) : Type 0 where
 
 -- ## demand 2: the barriers of a written sheet
 
--- Level: level 1, the barrier sheet, or level 2, the x86 sheet
--- keeps l o b: the level keeps a barrier b that stands before the operation o; level 1 all, level 2 only SL
+-- Level: level 0, the operations alone, level 1, the barrier sheet, or level 2, the x86 sheet
+-- keeps l o b: the level keeps a barrier b before the operation o; level 0 none, level 1 all, level 2 only SL
 -- volatileIn k x: the kernel's mask has location x volatile
 -- readSheet: the instructions of each lane, `op o` or `barrier b`, by the header's counts
 -- items: each instruction as a barrier `bar b`, the class of an access, or the target of a SKIP

@@ -12,10 +12,10 @@ use Rattle.file_format.specs.Rules.{limitA, limitB, limitConstant, limitTarget}
 use Rattle.file_format.specs.Linkage.{chain, walkOf, badLinkage, linkageFrom, chainTooLong}
 use Rattle.file_format.specs.Targets.{member, badTarget, unreachableTarget, position}
 use Rattle.file_format.specs.Accepted.{Program, opOf, opsFrom}
-use Rattle.file_format.specs.Held.{heldFrom, same, partedBy, faultAt, faultPosition, recordAt, lockFault}
+use Rattle.file_format.specs.Held.{heldFrom, same, conflictBelow, faultAt, faultPosition, recordAt, lockFault}
 use Rattle.file_verdict.specs.Verdict.{accepted, verdict, structureThen, refusalOf}
 use Rattle.barrier_placement.specs.declared.cookbook.Barrier.the-variants.{SL}
-use Rattle.barrier_placement.specs.Place.{stands, due, rowsTo}
+use Rattle.barrier_placement.specs.Place.{stands, due, dueAfter}
 use Rattle.sheet_format.specs.Layout.{Instr, op, barrier}
 use Rattle.sheet_format.specs.Levels.{volatileIn}
 use Rattle.sheet_format.specs.Bytes.{sheetBytes}
@@ -51,11 +51,11 @@ stands-for : verdict (storeBuffering 3) ≡ accepted kernel
 unfolding refusalOf structureThen headerRule headRule badRecord recordRule limitA limitB limitConstant limitTarget
     lowest firstOf badLinkage linkageFrom chain member walkOf chainTooLong badTarget unreachableTarget lockFault
     position
-    opOf opsFrom recordAt faultPosition faultAt partedBy heldFrom same
+    opOf opsFrom recordAt faultPosition faultAt conflictBelow heldFrom same
 stands-for = refl
 
 lowered-to : programFor (Target Tso) kernel ≡ lanes2
-unfolding stands due rowsTo sheetBytes readSheet
+unfolding stands due dueAfter sheetBytes readSheet
 lowered-to = refl
 
 -- not finished with register 1 zero in each lane

@@ -7,7 +7,8 @@ use mathlib.Core.List.{List, [], _∷_, _++_, map}
 use lib.Dec.{eqb}
 use lib.ListN.{length, getD, take, drop, replicate}
 use Rattle.file_verdict.specs.Verdict.{verdict}
-use Rattle.sheet_format.specs.Levels.{Level, level1, level2}
+use Rattle.sheet_format.specs.declared.Level.{Level}
+use Rattle.sheet_format.specs.declared.Level.the-variants.{Level1, Level2}
 use Rattle.sheet_format.specs.declared.WriteResult.{WriteResult}
 use Rattle.sheet_format.specs.declared.WriteResult.the-variants.{Wrote, Refuses}
 use Rattle.sheet_format.specs.Bytes.{lowerBy}
@@ -105,7 +106,7 @@ codes = map (λ (o : ℕ). (o, 0))
 unfoldable pub table : List Example
 table =
     -- this kernel: sheet of 80 bytes; 79 bytes give 9
-    writes level2 (storeBuffering 3) (
+    writes Level2 (storeBuffering 3) (
     2 ∷ 2 ∷ 0 ∷ 2 ∷ 0 ∷ 0 ∷ 0 ∷ 0 ∷ 4 ∷ 0 ∷ 4 ∷ 0 ∷ 0 ∷ 0 ∷ 0 ∷ 0
     ∷ 1 ∷ 0 ∷ 0 ∷ 0 ∷ 1 ∷ 0 ∷ 0 ∷ 0 ∷ 4 ∷ 0 ∷ 0 ∷ 0 ∷ 0 ∷ 0 ∷ 0 ∷ 0
     ∷ 15 ∷ 0 ∷ 0 ∷ 0 ∷ 0 ∷ 0 ∷ 0 ∷ 0 ∷ 3 ∷ 1 ∷ 1 ∷ 0 ∷ 0 ∷ 0 ∷ 0 ∷ 0
@@ -126,50 +127,50 @@ table =
     ∷ 49 ∷ 32 ∷ 51 ∷ 32 ∷ 76 ∷ 79 ∷ 65 ∷ 68 ∷ 32 ∷ 49 ∷ 32 ∷ 48 ∷ 10
     ∷ []
     )
-    ∷ fills level2 (storeBuffering 3) 80
-    ∷ refused-by level2 (storeBuffering 3) 79 9 0
+    ∷ fills Level2 (storeBuffering 3) 80
+    ∷ refused-by Level2 (storeBuffering 3) 79 9 0
     -- it never finishes with register 1 zero in both lanes
     ∷ never (Target Tso) (storeBuffering 3)
     ∷ never Source (storeBuffering 3)
     -- mask 1 instead: no barrier at either level; both zero is possible on both machines
-    ∷ shows level1 (storeBuffering 1) ((1, 1) ∷ (4, 0) ∷ (3, 0) ∷ (1, 1) ∷ (4, 0) ∷ (3, 0) ∷ [])
-    ∷ shows level2 (storeBuffering 1) ((1, 1) ∷ (4, 0) ∷ (3, 0) ∷ (1, 1) ∷ (4, 0) ∷ (3, 0) ∷ [])
+    ∷ shows Level1 (storeBuffering 1) ((1, 1) ∷ (4, 0) ∷ (3, 0) ∷ (1, 1) ∷ (4, 0) ∷ (3, 0) ∷ [])
+    ∷ shows Level2 (storeBuffering 1) ((1, 1) ∷ (4, 0) ∷ (3, 0) ∷ (1, 1) ∷ (4, 0) ∷ (3, 0) ∷ [])
     ∷ ends Source (storeBuffering 1) race (0 ∷ 0 ∷ [])
     ∷ ends (Target Tso) (storeBuffering 1) race (0 ∷ 0 ∷ [])
     -- PS, VS: SS at level 1, nothing at level 2
-    ∷ shows level1 (lane (PS ∷ VS ∷ [])) (codes (4 ∷ 13 ∷ 4 ∷ []))
-    ∷ shows level2 (lane (PS ∷ VS ∷ [])) (codes (4 ∷ 4 ∷ []))
+    ∷ shows Level1 (lane (PS ∷ VS ∷ [])) (codes (4 ∷ 13 ∷ 4 ∷ []))
+    ∷ shows Level2 (lane (PS ∷ VS ∷ [])) (codes (4 ∷ 4 ∷ []))
     -- VL, PL: LL
-    ∷ shows level1 (lane (VL ∷ PL ∷ [])) (codes (3 ∷ 11 ∷ 3 ∷ []))
+    ∷ shows Level1 (lane (VL ∷ PL ∷ [])) (codes (3 ∷ 11 ∷ 3 ∷ []))
     -- VS, VL, VL: SL, then LL
-    ∷ shows level1 (lane (VS ∷ VL ∷ VL ∷ [])) (codes (4 ∷ 14 ∷ 3 ∷ 11 ∷ 3 ∷ []))
+    ∷ shows Level1 (lane (VS ∷ VL ∷ VL ∷ [])) (codes (4 ∷ 14 ∷ 3 ∷ 11 ∷ 3 ∷ []))
     -- VS, VS, VL: SS, then SL
-    ∷ shows level1 (lane (VS ∷ VS ∷ VL ∷ [])) (codes (4 ∷ 13 ∷ 4 ∷ 14 ∷ 3 ∷ []))
+    ∷ shows Level1 (lane (VS ∷ VS ∷ VL ∷ [])) (codes (4 ∷ 13 ∷ 4 ∷ 14 ∷ 3 ∷ []))
     -- VS, SKIP to D, VL, D: VL. D has LL and SL
-    ∷ shows level1 (lane (VS ∷ skipTo 4 ∷ VL ∷ VL ∷ [])) ((4, 0) ∷ (7, 4) ∷ codes (14 ∷ 3 ∷ 11 ∷ 14 ∷ 3 ∷ []))
-    ∷ shows level2 (lane (VS ∷ skipTo 4 ∷ VL ∷ VL ∷ [])) ((4, 0) ∷ (7, 4) ∷ codes (15 ∷ 3 ∷ 15 ∷ 3 ∷ []))
+    ∷ shows Level1 (lane (VS ∷ skipTo 4 ∷ VL ∷ VL ∷ [])) ((4, 0) ∷ (7, 4) ∷ codes (14 ∷ 3 ∷ 11 ∷ 14 ∷ 3 ∷ []))
+    ∷ shows Level2 (lane (VS ∷ skipTo 4 ∷ VL ∷ VL ∷ [])) ((4, 0) ∷ (7, 4) ∷ codes (15 ∷ 3 ∷ 15 ∷ 3 ∷ []))
     -- LOCK, PS, UNLOCK: LS before the store, SS before UNLOCK
-    ∷ shows level1 (lane (LOCK ∷ PS ∷ UNLOCK ∷ [])) (codes (5 ∷ 12 ∷ 4 ∷ 13 ∷ 6 ∷ []))
+    ∷ shows Level1 (lane (LOCK ∷ PS ∷ UNLOCK ∷ [])) (codes (5 ∷ 12 ∷ 4 ∷ 13 ∷ 6 ∷ []))
     -- LOCK, UNLOCK, LOCK, UNLOCK: nothing; LS; LL, SL; LS, SS
-    ∷ shows level1 (lane (LOCK ∷ UNLOCK ∷ LOCK ∷ UNLOCK ∷ [])) (codes (5 ∷ 12 ∷ 6 ∷ 11 ∷ 14 ∷ 5 ∷ 12 ∷ 13 ∷ 6 ∷ []))
+    ∷ shows Level1 (lane (LOCK ∷ UNLOCK ∷ LOCK ∷ UNLOCK ∷ [])) (codes (5 ∷ 12 ∷ 6 ∷ 11 ∷ 14 ∷ 5 ∷ 12 ∷ 13 ∷ 6 ∷ []))
     -- no records: 16-byte sheet
-    ∷ fills level1 (lane []) 16
-    ∷ fills level2 (lane []) 16
+    ∷ fills Level1 (lane []) 16
+    ∷ fills Level2 (lane []) 16
     -- 64 records in a lane pass, 65 give 6; a self-chained record gives 5
-    ∷ fills level1 (lane (sets 64)) 528
-    ∷ refused-by level1 (lane (sets 65)) 1000 6 65
-    ∷ refused-by level1 (fileHeader 1 1 0 0 1 1 0 ++ recBytes (rec 1 0 0) 1) 100 5 1
+    ∷ fills Level1 (lane (sets 64)) 528
+    ∷ refused-by Level1 (lane (sets 65)) 1000 6 65
+    ∷ refused-by Level1 (fileHeader 1 1 0 0 1 1 0 ++ recBytes (rec 1 0 0) 1) 100 5 1
     -- 15 bytes: 1
-    ∷ refused-by level1 (take 15 (lane [])) 100 1 0
+    ∷ refused-by Level1 (take 15 (lane [])) 100 1 0
     -- T = 5: 2
-    ∷ refused-by level1 (fileHeader 5 1 0 0 0 0 0) 100 2 0
+    ∷ refused-by Level1 (fileHeader 5 1 0 0 0 0 0) 100 2 0
     -- LOCK twice: 8, second LOCK
-    ∷ refused-by level1 (lane (LOCK ∷ LOCK ∷ [])) 100 8 2
+    ∷ refused-by Level1 (lane (LOCK ∷ LOCK ∷ [])) 100 8 2
     -- 9 SETs and length 123: 3
-    ∷ refused-by level1 (take 123 (lane (sets 9))) 100 3 0
+    ∷ refused-by Level1 (take 123 (lane (sets 9))) 100 3 0
     -- not of the paper: four lanes, 16 locations and four locks; the answers are reference/'s
-    ∷ writes level1 fourLanes fourLanes1
-    ∷ writes level2 fourLanes fourLanes2
+    ∷ writes Level1 fourLanes fourLanes1
+    ∷ writes Level2 fourLanes fourLanes2
     ∷ prints fourLanes fourLanesText
     ∷ leaves Source fourLanes fourLanesMoves fourLanesSource
     ∷ leaves (Target Tso) fourLanes fourLanesMoves fourLanesTso

@@ -8,8 +8,8 @@ ghost use Rattle.file_format.specs.Accepted.{programOf};
 ghost use Rattle.file_format.specs.Linkage.{badLinkage, chainTooLong};
 ghost use Rattle.file_format.specs.Targets.{badTarget};
 ghost use Rattle.file_verdict.specs.Verdict.{verdict, accepted, refusalOf};
-ghost use Rattle.sheet_format.specs.Bytes.{over};
-ghost use Rattle.file_rows.specs.Chains.{chainBytes};
+ghost use Rattle.sheet_format.specs.declared.Level.the-variants.{Level0};
+ghost use Rattle.sheet_format.specs.Bytes.{over, sheetBytes};
 ghost use Rattle.file_accept.specs.Checks.{linkedRefusal};
 use file_chains::link::link;
 use file_chains::targets::bad_target;
@@ -28,7 +28,7 @@ fn judge(file: &[u8], rows: &mut [u8]) -> Refusal
     ensures answer { λ r. ⌜ r ≡ linkedRefusal (now (file .entry)) ⌝ }
     ensures rows { λ r. ⌜ (badLinkage (now (file .entry)) ≡ 0 → chainTooLong (now (file .entry)) ≡ 0
         → badTarget (now (file .entry)) ≡ 0
-        → now (rows .exit) ≡ over (chainBytes (programOf (now (file .entry)))) (now (rows .entry))) ⌝ }
+        → now (rows .exit) ≡ over (sheetBytes Level0 (programOf (now (file .entry)))) (now (rows .entry))) ⌝ }
 {
     let mut order = [0u16; 257];
     let mut place = [0u16; 257];
@@ -60,7 +60,7 @@ pub fn accept(file: &[u8], rows: &mut [u8]) -> Refusal
     requires room { ⌜ (Fielded (now file) → 16 + 8 * recordCount (now file) ≤ length (now rows)) ⌝ }
     ensures answer { λ r. ⌜ r ≡ refusalOf (now (file .entry)) ⌝ }
     ensures rows { λ r. ⌜ (verdict (now (file .entry)) ≡ accepted (programOf (now (file .entry)))
-        → now (rows .exit) ≡ over (chainBytes (programOf (now (file .entry)))) (now (rows .entry))) ⌝ }
+        → now (rows .exit) ≡ over (sheetBytes Level0 (programOf (now (file .entry)))) (now (rows .entry))) ⌝ }
 {
     if file.len() < 16 {
         return Refusal::TruncatedHeader;

@@ -2,7 +2,8 @@
 ghost use mathlib.Core.Path.{_≡_};
 ghost use Prim.Native.Nat.{_≤_};
 ghost use Rattle.file_verdict.specs.Verdict.{verdict};
-ghost use Rattle.file_rows.specs.Chains.{chainBy};
+ghost use Rattle.sheet_format.specs.declared.Level.the-variants.{Level0};
+ghost use Rattle.sheet_format.specs.Bytes.{lowerBy};
 ghost use Rattle.file_accept.specs.Size.{sizeIn};
 use crate::accept::accept;
 use bytes::copy;
@@ -24,7 +25,7 @@ fn size_of(rows: &[u8]) -> usize
 
 // The chains at the front of `out`; a refusal, 9 for a buffer that is too short, leaves `out` as it was.
 pub fn chain_file(file: &[u8], out: &mut [u8]) -> WriteResult
-    ensures { λ r. ⌜ (r, now (out .exit)) ≡ chainBy (verdict (now (file .entry))) (now (out .entry)) ⌝ }
+    ensures { λ r. ⌜ (r, now (out .exit)) ≡ lowerBy Level0 (verdict (now (file .entry))) (now (out .entry)) ⌝ }
 {
     let mut rows = [0u8; 2064];
     let refusal = accept(file, &mut rows);

@@ -8,20 +8,21 @@ use lib.ListN.{getD, getElem?, length}
 use native.Mathlib.Omega.{arith}
 use native.Mathlib.Decide.{decLe}
 use borrow.Author.Tests.{eq-eqb, not-false}
+use Rattle.laws.proofs.Lists.{some-at, at-beyond}
 use Rattle.file_format.specs.declared.accepted.Op.{Op}
 use Rattle.file_format.specs.declared.accepted.Op.the-variants.{Set, Add, Load, Store, Lock, Unlock, Skip}
 use Rattle.file_format.specs.Search.{lowest}
-use Rattle.file_format.specs.Held.{noLocks, same, held, heldFrom, jumpFrom, partsBy, partedBy, parted, misuse}
+use Rattle.file_format.specs.Held.{noLocks, same, held, heldFrom, jumpFrom, conflictsBy, conflictBelow}
+use Rattle.file_format.specs.Held.{conflict, misuse}
 use Rattle.file_format.specs.Held.{faultAt}
 use Rattle.file_format.specs.Held.{faultPosition, recordAt, laneFault}
 use Rattle.file_format.specs.Lawful.{Bounded, Keeps}
-use Rattle.file_format.proofs.Laws.Lists.{some-at, at-past}
 use Rattle.file_format.proofs.Laws.Search.{nothing-found}
 
 -- a lane whose records are none of them 0 names a record wherever its rule breaks
 unbroken : (rs : List ℕ) (ops : List Op) → length rs ≡ length ops → ((p : ℕ) → p < length rs → 1 ≤ getD rs p 0)
     → laneFault rs ops ≡ 0 → faultPosition ops ≡ 0
-unfolding recordAt faultPosition lowest faultAt partedBy heldFrom same
+unfolding recordAt faultPosition lowest faultAt conflictBelow heldFrom same
 unbroken [] [] len nonzero e = refl
 unbroken [] (o ∷ ops) len nonzero e = absurd (omega arith)
 unbroken (r ∷ rs) ops len nonzero e = go (decLe 1 (faultPosition ops))
@@ -52,23 +53,25 @@ module _ (rs : List ℕ) (ops : List Op) (len : length rs ≡ length ops)
   neither true b e = absurd (true≢false e)
   neither false b e = (refl, e)
 
-  split : (p : ℕ) → p ≤ length ops → (parted ops p ≡ false) × (misuse (held ops p) (getElem? ops p) ≡ false)
+  split : (p : ℕ) → p ≤ length ops → (conflict ops p ≡ false) × (misuse (held ops p) (getElem? ops p) ≡ false)
   unfolding faultAt
-  split p h = neither (parted ops p) (misuse (held ops p) (getElem? ops p)) (unfaulted p h)
+  split p h = neither (conflict ops p) (misuse (held ops p) (getElem? ops p)) (unfaulted p h)
 
   -- each SKIP has the set of the position that it leads to, or leads elsewhere
-  agreed : (n q p : ℕ) → partedBy ops n q ≡ false → p < n
-      → partsBy (jumpFrom (getElem? ops p)) q (held ops p) (held ops q) ≡ false
-  unfolding partedBy
+  agreed : (n q p : ℕ) → conflictBelow ops n q ≡ false → p < n
+      → conflictsBy (jumpFrom (getElem? ops p)) q (held ops p) (held ops q) ≡ false
+  unfolding conflictBelow
   agreed zero q p e h = absurd (omega arith)
   agreed (suc n) q p e h =
       go (decLe (suc p) n)
-      (neither (partsBy (jumpFrom (getElem? ops n)) q (held ops n) (held ops q)) (partedBy ops n q) e) (agreed n q p)
+      (neither (conflictsBy (jumpFrom (getElem? ops n)) q (held ops n) (held ops q)) (conflictBelow ops n q) e)
+      (agreed n q p)
     where
       Agrees : ℕ → Type 0
-      Agrees p = partsBy (jumpFrom (getElem? ops p)) q (held ops p) (held ops q) ≡ false
+      Agrees p = conflictsBy (jumpFrom (getElem? ops p)) q (held ops p) (held ops q) ≡ false
 
-      go : Dec (suc p ≤ n) → Agrees n × (partedBy ops n q ≡ false) → (partedBy ops n q ≡ false → p < n → Agrees p)
+      go : Dec (suc p ≤ n) → Agrees n × (conflictBelow ops n q ≡ false)
+          → (conflictBelow ops n q ≡ false → p < n → Agrees p)
           → Agrees p
       go (yes l) both ih = ih (both .1) l
       go (no l) both ih =
@@ -97,4 +100,4 @@ module _ (rs : List ℕ) (ops : List Op) (len : length rs ≡ length ops)
       skip-agrees a q p e (at .0) (b .2)
 
   pub released : same (held ops (length ops)) noLocks ≡ true
-  released = not-false _ (rw (at-past ops) at (split (length ops) (omega arith) .1))
+  released = not-false _ (rw (at-beyond ops (length ops) (omega arith)) at (split (length ops) (omega arith) .1))

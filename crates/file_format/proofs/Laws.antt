@@ -1,5 +1,4 @@
 -- Laws about the definitions of specs/, one file for each.
-pub mod Lists
 pub mod Search
 pub mod Rules
 pub mod Linkage

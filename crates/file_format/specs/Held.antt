@@ -45,18 +45,19 @@ jumpFrom none = none
 jumpFrom (some o) = jump o
 
 -- a jump from a position with the set h leads to p, where the set is another
-abbrev pub partsBy : Option ℕ → ℕ → List Bool → List Bool → Bool
-partsBy none p h g = false
-partsBy (some q) p h g = cond (eqb q p) (not (same h g)) false
+abbrev pub conflictsBy : Option ℕ → ℕ → List Bool → List Bool → Bool
+conflictsBy none p h g = false
+conflictsBy (some q) p h g = cond (eqb q p) (not (same h g)) false
 
 -- some SKIP among the first n operations leads to p with a set other than p's
-unfoldable pub partedBy : List Op → ℕ → ℕ → Bool
-partedBy ops zero p = false
-partedBy ops (suc q) p = cond (partsBy (jumpFrom (getElem? ops q)) p (held ops q) (held ops p)) true (partedBy ops q p)
+unfoldable pub conflictBelow : List Op → ℕ → ℕ → Bool
+conflictBelow ops zero p = false
+conflictBelow ops (suc q) p =
+    cond (conflictsBy (jumpFrom (getElem? ops q)) p (held ops q) (held ops p)) true (conflictBelow ops q p)
 
 -- two ways to p disagree
-abbrev pub parted : List Op → ℕ → Bool
-parted ops p = partedBy ops (length ops) p
+abbrev pub conflict : List Op → ℕ → Bool
+conflict ops p = conflictBelow ops (length ops) p
 
 -- an operation with the set h before it breaks the rule; past the last operation is the end
 abbrev pub misuse : List Bool → Option Op → Bool
@@ -71,7 +72,7 @@ misuse h (some (Skip a q)) = false
 
 -- the rule is broken at position p; the end is the length
 unfoldable pub faultAt : List Op → ℕ → Bool
-faultAt ops p = cond (parted ops p) true (misuse (held ops p) (getElem? ops p))
+faultAt ops p = cond (conflict ops p) true (misuse (held ops p) (getElem? ops p))
 
 -- the first position at which the rule is broken, counted from 1, or 0
 unfoldable pub faultPosition : List Op → ℕ

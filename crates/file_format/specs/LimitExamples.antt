@@ -11,7 +11,7 @@ use Rattle.file_format.specs.Rules.{headerRule, headRule, badRecord, rec
 use Rattle.file_format.specs.Rules.{limitA, limitB, limitConstant, limitTarget}
 use Rattle.file_format.specs.Linkage.{chain}
 use Rattle.file_format.specs.Targets.{position}
-use Rattle.file_format.specs.Accepted.{Program, programOf, opOf, opsFrom}
+use Rattle.file_format.specs.Accepted.{programOf, opOf, opsFrom}
 
 -- a byte at a place
 record Change : Type 0 where

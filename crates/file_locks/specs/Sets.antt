@@ -44,5 +44,5 @@ abbrev pub bring : ℕ → ℕ → ℕ
 bring led h = cond (eqb led 0) (16 + h) (cond (eqb led (16 + h)) led 255)
 
 -- it is another set than the position's set h
-abbrev pub partsLed : ℕ → ℕ → Bool
-partsLed led h = cond (eqb led 0) false (not (eqb led (16 + h)))
+abbrev pub conflictsLed : ℕ → ℕ → Bool
+conflictsLed led h = cond (eqb led 0) false (not (eqb led (16 + h)))

@@ -11,10 +11,10 @@ ghost use Rattle.file_format.specs.Structured.{Structured};
 ghost use Rattle.file_format.specs.Accepted.{programOf};
 ghost use Rattle.file_format.specs.Held.{faultPosition, laneFault, lockFault};
 ghost use Rattle.file_chains.specs.Ordered.{Ordered};
-ghost use Rattle.sheet_format.specs.Bytes.{over};
+ghost use Rattle.sheet_format.specs.declared.Level.the-variants.{Level0};
+ghost use Rattle.sheet_format.specs.Bytes.{over, sheetBytes};
 ghost use Rattle.sheet_rows.specs.Lanes.{fieldsOf};
-ghost use Rattle.file_rows.specs.Chains.{chainBytes};
-ghost use Rattle.file_locks.specs.Sets.{bitFor, stepNumber, partsLed, bring};
+ghost use Rattle.file_locks.specs.Sets.{bitFor, stepNumber, conflictsLed, bring};
 ghost use Rattle.file_locks.specs.Lanes.{LaneIn, Stepped};
 use file_format::fields::wide_word;
 use sheet_rows::number::least;
@@ -76,9 +76,9 @@ fn lead(led: &mut [u8], q: u8, h: u8)
 }
 
 // What SKIPs lead to a position is another set than its set h.
-fn parts(led: u8, h: u8) -> bool
+fn conflicts_led(led: u8, h: u8) -> bool
     requires { ⌜ h < 16 ⌝ }
-    ensures { λ r. ⌜ r ≡ partsLed led h ⌝ }
+    ensures { λ r. ⌜ r ≡ conflictsLed led h ⌝ }
 {
     if led == 0 { false } else { led != 16 + h }
 }
@@ -94,7 +94,7 @@ fn fault_position(rows: &[u8], n: usize) -> usize
     while p < n {
         let code = rows[8 * p];
         let g = after_row(h, code, rows[8 * p + 2]);
-        if either(parts(led[p], h), 15 < g) {
+        if either(conflicts_led(led[p], h), 15 < g) {
             return p + 1;
         }
         if code == 7 {
@@ -103,7 +103,7 @@ fn fault_position(rows: &[u8], n: usize) -> usize
         h = g;
         p += 1;
     }
-    if either(parts(led[n], h), h != 0) {
+    if either(conflicts_led(led[n], h), h != 0) {
         return n + 1;
     }
     0
@@ -131,7 +131,7 @@ fn lane_fault(rows: &[u8], order: &[u16; 257], from: usize, end: usize) -> usize
 pub fn lock_fault(s: &[u8], rows: &[u8], order: &[u16; 257], ends: &[usize; 4]) -> usize
     requires structure { ⌜ Structured (now s) ⌝ }
     requires order { ⌜ ((place : List ℕ) × Ordered (now s) (now order) place (now ends)) ⌝ }
-    requires chains { ⌜ ((own : List ℕ) × (now rows ≡ over (chainBytes (programOf (now s))) own)
+    requires chains { ⌜ ((own : List ℕ) × (now rows ≡ over (sheetBytes Level0 (programOf (now s))) own)
         × (16 + 8 * recordCount (now s) ≤ length own)) ⌝ }
     ensures { λ r. ⌜ r ≡ lockFault (programOf (now (s .entry))) ⌝ }
 {

@@ -1,3 +1,2 @@
 -- Laws of chains as rows.
-pub mod ChainsBack
 pub mod Laws

@@ -7,9 +7,10 @@ ghost use Rattle.file_format.specs.Fields.{recordCount};
 ghost use Rattle.file_format.specs.Structured.{Structured};
 ghost use Rattle.file_format.specs.Accepted.{programOf};
 ghost use Rattle.file_chains.specs.Ordered.{Ordered};
-ghost use Rattle.sheet_format.specs.Bytes.{over};
+ghost use Rattle.sheet_format.specs.declared.Level.the-variants.{Level0};
+ghost use Rattle.sheet_format.specs.Bytes.{over, sheetBytes};
 ghost use Rattle.sheet_format.specs.Put.{inTurn};
-ghost use Rattle.file_rows.specs.Chains.{chainAt, chainBytes};
+ghost use Rattle.file_rows.specs.Chains.{chainAt};
 use crate::chain::write_chain;
 use sheet_rows::put::put_counts;
 use sheet_rows::put::put_first;
@@ -44,7 +45,7 @@ pub fn write_chains(
     requires room { ⌜ 16 + 8 * recordCount (now s) ≤ length (now out) ⌝ }
     requires structure { ⌜ Structured (now s) ⌝ }
     requires order { ⌜ Ordered (now s) (now order) (now place) (now ends) ⌝ }
-    ensures { λ q. ⌜ now (out .exit) ≡ over (chainBytes (programOf (now (s .entry)))) (now (out .entry)) ⌝ }
+    ensures { λ q. ⌜ now (out .exit) ≡ over (sheetBytes Level0 (programOf (now (s .entry)))) (now (out .entry)) ⌝ }
 {
     let mask = word_at(s, 4) as u16;
     put_first(out, byte_at(s, 0), byte_at(s, 1), byte_at(s, 2), 0, mask);

@@ -16,7 +16,7 @@ use Rattle.file_format.specs.Rules.{limitA, limitB, limitConstant, limitTarget}
 use Rattle.file_format.specs.Linkage.{chain, walkOf, badLinkage, linkageFrom, chainTooLong}
 use Rattle.file_format.specs.Targets.{member, badTarget, unreachableTarget, position}
 use Rattle.file_format.specs.Accepted.{Program, opOf, opsFrom}
-use Rattle.file_format.specs.Held.{heldFrom, same, partedBy, faultAt, faultPosition, recordAt, lockFault}
+use Rattle.file_format.specs.Held.{heldFrom, same, conflictBelow, faultAt, faultPosition, recordAt, lockFault}
 use Rattle.file_verdict.specs.Verdict.{structureThen, refusalOf, numberOf, recordOf}
 use Rattle.file_verdict.specs.Verdict.{refused, accepted, verdictFrom}
 
@@ -99,7 +99,7 @@ examples : map (λ e. refusalOf (e .0)) table ≡ map (λ e. e .1) table
 unfolding refusalOf structureThen headerRule headRule badRecord recordRule limitA limitB limitConstant limitTarget
     lowest firstOf badLinkage linkageFrom chain member walkOf chainTooLong badTarget unreachableTarget lockFault
     position
-    opOf opsFrom recordAt faultPosition faultAt partedBy heldFrom same header header2 entry skip sets table
+    opOf opsFrom recordAt faultPosition faultAt conflictBelow heldFrom same header header2 entry skip sets table
 examples = refl
 
 -- the paper's number of each, and the record that it names

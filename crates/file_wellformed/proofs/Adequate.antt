@@ -1,52 +1,26 @@
 -- Two checks of the definitions: 257 records are enough to walk, and a SKIP lands on the record that its target names.
-use Prim.Native.Nat.{ℕ, zero, suc, _+_, _-_, _≤_, _<_}
+use Prim.Native.Nat.{ℕ, suc, _+_, _-_, _≤_, _<_}
 use mathlib.Core.Path.{_≡_, refl, sym, ap, _∙_}
 use mathlib.Core.List.{List, [], _∷_}
-use mathlib.Core.Bool.{Bool, true, false, not, cond, true≢false}
+use mathlib.Core.Bool.{Bool, true, false, not, cond}
 use mathlib.Core.Logic.{_⊎_, inl, inr}
-use lib.ListN.{getD, set, length, take, drop, length-set, length-drop, List·getD-eq-default}
+use lib.ListN.{getD, set, length, take, drop, length-set, length-drop}
 use lib.Seq.{getD-set-other, getD-drop, take-all}
 use lib.Dec.{eqb}
 use native.Mathlib.Omega.{arith}
-use native.Mathlib.Decide.{decLe}
 use borrow.Author.Tests.{eqb-true, not-false}
+use Rattle.laws.proofs.Lists.{count, count-first, count-set}
 use Rattle.file_format.specs.Fields.{recordCount, head, target, next}
 use Rattle.file_format.specs.Linkage.{chain, walkOf, chainTooLong}
 use Rattle.file_format.specs.Targets.{member, unreachableTarget, badTarget, position}
 use Rattle.file_format.specs.Accepted.{recordsAt}
 use Rattle.file_format.proofs.Laws.Search.{nothing-found, nothing-named}
-use Rattle.file_format.proofs.Laws.Linkage.{walkOf-here, walkOf-on, last-one}
-use Rattle.file_format.proofs.Laws.Linkage.{chain-suc, chain-stop, chain-length, chain-front, chain-behind}
+use Rattle.file_format.proofs.Laws.Linkage.{walkOf-here, walkOf-on}
+use Rattle.file_format.proofs.Laws.Linkage.{chain-room, chain-length, chain-front, chain-behind}
 use Rattle.file_format.proofs.Laws.Targets.{member-position, position-at}
 use Rattle.file_format.proofs.Laws.Rules.{head-range}
 use Rattle.file_format.specs.Structured.{Structured}
 use Rattle.file_format.proofs.Bounded.{chain-range}
-
--- how many flags are up
-unfoldable count : List Bool → ℕ
-count [] = 0
-count (true ∷ l) = suc (count l)
-count (false ∷ l) = count l
-
-count-le : (l : List Bool) → count l ≤ length l
-unfolding count
-count-le [] = omega arith
-count-le (true ∷ l) = omega (arith, count-le l)
-count-le (false ∷ l) = omega (arith, count-le l)
-
-count-first : (l : List Bool) → getD l 0 false ≡ false → 0 < length l → count l < length l
-unfolding count
-count-first [] e h = absurd (omega arith)
-count-first (true ∷ l) e h = absurd (true≢false e)
-count-first (false ∷ l) e h = omega (arith, count-le l)
-
-count-set : (l : List Bool) (r : ℕ) → getD l r false ≡ false → r < length l → count (set l r true) ≡ suc (count l)
-unfolding count
-count-set [] r e h = absurd (omega arith)
-count-set (true ∷ l) zero e h = absurd (true≢false e)
-count-set (false ∷ l) zero e h = refl
-count-set (true ∷ l) (suc r) e h = ap suc (count-set l r e (omega arith))
-count-set (false ∷ l) (suc r) e h = count-set l r e (omega arith)
 
 -- records that have a flag each; flag 0 is no record's
 abbrev Flagged : List Bool → List ℕ → Type 0
@@ -81,35 +55,6 @@ walk-ends s ok small met t ht room z e =
     (r .0, omega (arith, r .1, room)) in
     omega (arith, met-few met (chain s 257 (head s t)) z (omega (arith, room)) range e)
 
--- a record that is in a list stands at its position there; 0 stands, or is read past the end
-getD-position : (x : ℕ) (l : List ℕ) → (x ≡ 0) ⊎ (member x l ≡ true) → getD l (position x l) 0 ≡ x
-getD-position x l (inr m) = position-at x l (member-position x l m)
-getD-position x l (inl z) = go (decLe (length l) (position x l))
-  where
-    go : Dec (length l ≤ position x l) → getD l (position x l) 0 ≡ x
-    go (yes past) = List·getD-eq-default l 0 {n = position x l} past ∙ sym z
-    go (no h) = position-at x l (omega arith)
-
--- a chain that ends within k records is the same with more room
-chain-room : (s : List ℕ) (k r j : ℕ) → getD (chain s (suc k) r) k 0 ≡ 0 → chain s (k + j) r ≡ chain s k r
-chain-room s zero r j e =
-    let z : r ≡ 0 = last-one s r ∙ e in
-    chain-stop s (0 + j) r z ∙ sym (chain-stop s 0 r z)
-chain-room s (suc k) r j e = go (decLe 1 r) (chain-room s k (next s r) j)
-  where
-    go : Dec (1 ≤ r) → (getD (chain s (suc k) (next s r)) k 0 ≡ 0 → chain s (k + j) (next s r) ≡ chain s k (next s r))
-        → chain s (suc k + j) r ≡ chain s (suc k) r
-    go (no l) ih =
-        let z : r ≡ 0 = omega arith in
-        chain-stop s (suc k + j) r z ∙ sym (chain-stop s (suc k) r z)
-    go (yes l) ih =
-        let n : r ≡ 0 → ⊥ = λ z. omega arith in
-        let q : suc k + j ≡ suc (k + j) = omega arith in
-        rw q
-        (chain-suc s (k + j) r n
-        ∙ ap (λ l. r ∷ l) (ih (sym (ap (λ l. getD l (suc k) 0) (chain-suc s (suc k) r n)) ∙ e))
-        ∙ sym (chain-suc s k r n))
-
 module _ (s : List ℕ) (ok : Structured s) (t : ℕ) (ht : t < 4) where
   abbrev lane : List ℕ
   lane = recordsAt s (head s t)
@@ -132,7 +77,8 @@ module _ (s : List ℕ) (ok : Structured s) (t : ℕ) (ht : t < 4) where
         ∙ take-all 64 (drop (suc p) lane) (omega (arith, length-drop (suc p) lane))
 
     -- a target is zero, or a record at a later position
-    later : (target s (getD lane p 0) ≡ 0) ⊎ (member (target s (getD lane p 0)) (drop (suc p) lane) ≡ true)
+    later : (target s (getD lane p 0) ≡ 0)
+        ⊎ (position (target s (getD lane p 0)) (drop (suc p) lane) < length (drop (suc p) lane))
     unfolding badTarget unreachableTarget
     later =
         let r = getD lane p 0 in
@@ -143,9 +89,9 @@ module _ (s : List ℕ) (ok : Structured s) (t : ℕ) (ht : t < 4) where
         go (target s r) (eqb (target s r) 0) refl (rw followed at reached)
       where
         go : (x : ℕ) (b : Bool) → eqb x 0 ≡ b → cond (eqb x 0) false (not (member x (drop (suc p) lane))) ≡ false
-            → (x ≡ 0) ⊎ (member x (drop (suc p) lane) ≡ true)
+            → (x ≡ 0) ⊎ (position x (drop (suc p) lane) < length (drop (suc p) lane))
         go x true e reached = inl (eqb-true x 0 e)
-        go x false e reached = inr (not-false _ (rw e at reached))
+        go x false e reached = inr (member-position x (drop (suc p) lane) (not-false _ (rw e at reached)))
 
     -- at the position of a SKIP's target stands its target, and past the last record 0, the end
     pub lands : getD lane (p + 1 + position (target s (getD lane p 0)) (drop (p + 1) lane)) 0 ≡ target s (getD lane p 0)
@@ -153,4 +99,4 @@ module _ (s : List ℕ) (ok : Structured s) (t : ℕ) (ht : t < 4) where
         let x = target s (getD lane p 0) in
         let q : p + 1 ≡ suc p = omega arith in
         rw q
-        (sym (getD-drop (suc p) lane (position x (drop (suc p) lane)) 0) ∙ getD-position x (drop (suc p) lane) later)
+        (sym (getD-drop (suc p) lane (position x (drop (suc p) lane)) 0) ∙ position-at x (drop (suc p) lane) later)

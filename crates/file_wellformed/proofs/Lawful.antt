@@ -6,6 +6,7 @@ use mathlib.Core.Option.{some}
 use lib.ListN.{getD, getElem?, length, take, length-take, length-map, List·getD-eq-default}
 use native.Mathlib.Omega.{arith}
 use native.Mathlib.Decide.{decLt}
+use Rattle.laws.proofs.Lists.{some-at}
 use Rattle.file_format.specs.declared.accepted.Op.{Op}
 use Rattle.file_format.specs.declared.accepted.Op.the-variants.{Set}
 use Rattle.file_verdict.specs.declared.refusal.Refusal.the-variants.{Accepted}
@@ -14,7 +15,6 @@ use Rattle.file_format.specs.Accepted.{Program, recordsAt, opsAt, programOf}
 use Rattle.file_format.specs.Held.{heldFrom, same, laneFault, lockFault}
 use Rattle.file_verdict.specs.Verdict.{accepted, verdict, refusalOf}
 use Rattle.file_format.specs.Lawful.{Bounded, LawfulLane, Lawful}
-use Rattle.file_format.proofs.Laws.Lists.{some-at}
 use Rattle.file_format.proofs.Laws.Search.{nothing-named}
 use Rattle.file_format.proofs.Laws.Rules.{some-lanes, four-lanes, some-locations, few-locations, few-locks}
 use Rattle.file_format.proofs.Laws.Rules.{small-mask}

@@ -10,7 +10,7 @@ use Rattle.file_format.specs.Rules.{limitA, limitB, limitConstant, limitTarget}
 use Rattle.file_format.specs.Linkage.{chain, walkOf, badLinkage, linkageFrom, chainTooLong}
 use Rattle.file_format.specs.Targets.{member, badTarget, unreachableTarget, position}
 use Rattle.file_format.specs.Accepted.{opOf, opsFrom}
-use Rattle.file_format.specs.Held.{heldFrom, same, partedBy, faultAt, faultPosition, recordAt, lockFault}
+use Rattle.file_format.specs.Held.{heldFrom, same, conflictBelow, faultAt, faultPosition, recordAt, lockFault}
 use Rattle.file_verdict.specs.Verdict.{structureThen, refusalOf}
 use Rattle.file_verdict.specs.Examples.{header, entry, sets}
 
@@ -25,5 +25,5 @@ longest : map (λ e. refusalOf (e .0)) table ≡ map (λ e. e .1) table
 unfolding refusalOf structureThen headerRule headRule badRecord recordRule limitA limitB limitConstant limitTarget
     lowest firstOf badLinkage linkageFrom chain member walkOf chainTooLong badTarget unreachableTarget lockFault
     position
-    opOf opsFrom recordAt faultPosition faultAt partedBy heldFrom same header entry sets table
+    opOf opsFrom recordAt faultPosition faultAt conflictBelow heldFrom same header entry sets table
 longest = refl

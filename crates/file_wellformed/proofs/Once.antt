@@ -1,25 +1,24 @@
 -- Each record of an accepted file stands in exactly one lane, at one place of it: `entry-range`, `record-placed` and
 -- `record-once`.
 use Prim.Native.Nat.{ℕ, zero, suc, _+_, _≤_, _<_}
-use mathlib.Core.Path.{_≡_, refl, sym, ap, _∙_, subst}
-use mathlib.Core.List.{List, [], _∷_, _++_, append-nil}
+use mathlib.Core.Path.{_≡_, refl, sym, _∙_, subst}
+use mathlib.Core.List.{List, []}
 use mathlib.Core.Bool.{Bool, true, false, not, true≢false, false≢true}
 use mathlib.Core.Logic.{_⊎_, inl, inr}
 use lib.ListN.{getD, length, take, replicate, length-replicate, length-map, length-take, getD-replicate}
 use lib.ListN.{List·getD-eq-default}
 use lib.Dec.{eqb}
-use native.Mathlib.Nat.{zero-add}
 use native.Mathlib.Omega.{arith}
-use native.Mathlib.Decide.{ℕ-discrete, decLe, decLt}
+use native.Mathlib.Decide.{ℕ-discrete, decLt}
 use borrow.Author.Tests.{eqb-true, eqb-false, not-false}
-use Rattle.file_format.specs.Fields.{laneCount, recordCount, head, heads, next}
+use Rattle.laws.proofs.Lists.{some-at}
+use Rattle.file_format.specs.Fields.{laneCount, recordCount, head, heads}
 use Rattle.file_format.specs.Linkage.{chain, walkLane, linkageFrom, badLinkage, chainTooLong}
 use Rattle.file_format.specs.Structured.{Structured}
 use Rattle.file_format.specs.Accepted.{Program, recordsAt, programOf}
-use Rattle.file_format.proofs.Laws.Lists.{some-at}
 use Rattle.file_format.proofs.Laws.Search.{nothing-found, nothing-named}
 use Rattle.file_format.proofs.Laws.Rules.{few-records, head-range}
-use Rattle.file_format.proofs.Laws.Linkage.{chain-suc, chain-stop, last-one}
+use Rattle.file_format.proofs.Laws.Linkage.{chain-room}
 use Rattle.file_format.proofs.Laws.Lanes.{lane-records}
 use Rattle.file_format.proofs.Bounded.{chain-range}
 use Rattle.file_verdict.specs.Verdict.{accepted, verdict}
@@ -126,24 +125,6 @@ module _ (s : List ℕ) (ok : Structured s) where
 
   -- ## the lanes of the kernel
 
-  -- a chain of k + j records is one of k, and what follows its k-th
-  chain-split : (k j r : ℕ) → chain s (k + j) r ≡ chain s k r ++ chain s j (getD (chain s (suc k) r) k 0)
-  unfolding chain
-  chain-split zero j r = ap (λ n. chain s n r) (zero-add j) ∙ ap (chain s j) (last-one s r)
-  chain-split (suc k) j r = go (decLe 1 r) (chain-split k j (next s r))
-    where
-      go : Dec (1 ≤ r)
-          → chain s (k + j) (next s r) ≡ chain s k (next s r) ++ chain s j (getD (chain s (suc k) (next s r)) k 0)
-          → chain s (suc k + j) r ≡ chain s (suc k) r ++ chain s j (getD (chain s (suc (suc k)) r) (suc k) 0)
-      go (no l) ih =
-          let z : r ≡ 0 = omega arith in
-          rw (chain-stop s (suc k + j) r z, chain-stop s (suc k) r z, chain-stop s (suc (suc k)) r z)
-          (sym (chain-stop s j 0 refl))
-      go (yes l) ih =
-          let n : r ≡ 0 → ⊥ = λ z. omega arith in
-          let q : suc k + j ≡ suc (k + j) = omega arith in
-          rw (q, chain-suc s (k + j) r n, chain-suc s k r n, chain-suc s (suc k) r n) (ap (λ l. r ∷ l) ih)
-
   -- lane t ends within 64 records, so that the walk went along all of it
   lane-whole : (t : ℕ) → t < 4 → getD (programOf s .records) t [] ≡ laneOf t
   unfolding chainTooLong
@@ -151,9 +132,7 @@ module _ (s : List ℕ) (ok : Structured s) where
       let ends : getD (chain s 65 (head s t)) 64 0 ≡ 0 =
       nothing-named (λ n. getD (chain s 65 (head s n)) 64 0) 0 4 t (ok .chains) (omega arith) (omega arith) in
       lane-records s (ok .fields .header) t h
-      ∙ sym (chain-split 64 193 (head s t)
-      ∙ ap (λ l. chain s 64 (head s t) ++ l) (chain-stop s 193 _ ends)
-      ∙ append-nil (chain s 64 (head s t)))
+      ∙ sym (chain-room s 64 (head s t) 193 ends)
 
   abbrev RecordAt : ℕ → ℕ → ℕ → Type 0
   RecordAt t p i = At (getD (programOf s .records) t []) p i

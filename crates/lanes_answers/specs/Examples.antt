@@ -9,9 +9,9 @@ use Rattle.file_format.specs.Rules.{limitA, limitB, limitConstant, limitTarget}
 use Rattle.file_format.specs.Linkage.{chain, walkOf, badLinkage, linkageFrom, chainTooLong}
 use Rattle.file_format.specs.Targets.{member, badTarget, unreachableTarget, position}
 use Rattle.file_format.specs.Accepted.{opOf, opsFrom}
-use Rattle.file_format.specs.Held.{heldFrom, same, partedBy, faultAt, faultPosition, recordAt, lockFault}
+use Rattle.file_format.specs.Held.{heldFrom, same, conflictBelow, faultAt, faultPosition, recordAt, lockFault}
 use Rattle.file_verdict.specs.Verdict.{structureThen, refusalOf}
-use Rattle.barrier_placement.specs.Place.{stands, due, rowsTo}
+use Rattle.barrier_placement.specs.Place.{stands, due, dueAfter}
 use Rattle.sheet_format.specs.Bytes.{sheetBytes}
 use Rattle.sheet_format.specs.Read.{readSheet}
 use Rattle.machine_spec.specs.Moves.{movesIn}
@@ -132,6 +132,6 @@ calls-hold : map (λ (e : Called × Called). e .0) calls ≡ map (λ (e : Called
 unfolding refusalOf structureThen headerRule headRule badRecord recordRule limitA limitB limitConstant limitTarget
     lowest firstOf badLinkage linkageFrom chain member walkOf chainTooLong badTarget unreachableTarget lockFault
     position
-    opOf opsFrom recordAt faultPosition faultAt partedBy heldFrom same stands due rowsTo sheetBytes readSheet
+    opOf opsFrom recordAt faultPosition faultAt conflictBelow heldFrom same stands due dueAfter sheetBytes readSheet
     movesIn inTurn entriesBytes stateLane headBytes recordOf kernel output calls
 calls-hold = refl

@@ -2,7 +2,8 @@
 use Prim.Native.Nat.{ℕ, _+_, _*_, _^_, _≤_}
 use mathlib.Core.List.{List}
 use Rattle.file_verdict.specs.Verdict.{Verdict, verdict}
-use Rattle.sheet_format.specs.Levels.{Level, level1, level2}
+use Rattle.sheet_format.specs.declared.Level.{Level}
+use Rattle.sheet_format.specs.declared.Level.the-variants.{Level1, Level2}
 use Rattle.sheet_format.specs.declared.WriteResult.{WriteResult}
 use Rattle.sheet_format.specs.declared.WriteResult.the-variants.{Wrote, Refuses}
 use Rattle.sheet_format.specs.Bytes.{lowerBy}
@@ -32,10 +33,10 @@ runCallBy m v moves buffer = (packedLowering (runFileBy m v moves buffer .0), ru
 
 -- lanes_lower1, lanes_lower2, lanes_run_source and lanes_run_tso
 abbrev pub callLower1 : List ℕ → List ℕ → ℕ × List ℕ
-callLower1 kernel = lowerCallBy level1 (verdict kernel)
+callLower1 kernel = lowerCallBy Level1 (verdict kernel)
 
 abbrev pub callLower2 : List ℕ → List ℕ → ℕ × List ℕ
-callLower2 kernel = lowerCallBy level2 (verdict kernel)
+callLower2 kernel = lowerCallBy Level2 (verdict kernel)
 
 abbrev pub callRunSource : List ℕ → List ℕ → List ℕ → ℕ × List ℕ
 callRunSource kernel = runCallBy Source (verdict kernel)

@@ -23,7 +23,7 @@ use Rattle.machine_course.specs.declared.course.Course.{Course}
 abbrev pub answerBy : Machine → List ℕ → List Move → Answer
 answerBy m s mvs = runBy m s (verdict s) mvs
 
--- x has the program of the accepted kernel k, whose bytes are in the rows; the store h has its lanes
+-- x has the program of the accepted kernel k, whose bytes are in the rows where these say so; the store h has its lanes
 pub record Prepared (m : Machine) (k : Program) (rows : List ℕ) (x : Course) (h : Blocks) : Type 0 where
   pub machine : x .machine ≡ m
   pub volatile : flags (x .volatile) ≡ volatileIn k
@@ -31,6 +31,7 @@ pub record Prepared (m : Machine) (k : Program) (rows : List ℕ) (x : Course) (
   pub locations : x .locations ≡ k .locations
   pub locks : x .lockwords ≡ k .locks
   pub held : countOf h 0 ≡ length (k .lanes)
+  pub first : x .first ≡ partsIn rows .from
   pub programs : (t : ℕ) → t < length (k .lanes)
       → ProgramAt rows (getD (x .first) t 0) (getD (x .count) t 0) (getD (programFor m k) t [])
 
@@ -64,49 +65,29 @@ pub record Judged (x : Course) (h : Blocks) : Type 0 where
 
 -- ## what the code makes of x
 
+-- with another number and other counts
+abbrev pub counting : Course → ℕ → ℕ → ℕ → Course
+counting x number done waited = record {
+  machine = x .machine;
+  volatile = x .volatile;
+  first = x .first;
+  count = x .count;
+  lanecount = x .lanecount;
+  locations = x .locations;
+  lockwords = x .lockwords;
+  number = number;
+  rec = x .rec;
+  done = done;
+  waited = waited;
+}
+
 abbrev pub counted : Course → Moved → Course
-counted x Waited = record {
-  machine = x .machine;
-  volatile = x .volatile;
-  first = x .first;
-  count = x .count;
-  lanecount = x .lanecount;
-  locations = x .locations;
-  lockwords = x .lockwords;
-  number = x .number;
-  rec = x .rec;
-  done = x .done;
-  waited = x .waited + 1;
-}
-counted x Done = record {
-  machine = x .machine;
-  volatile = x .volatile;
-  first = x .first;
-  count = x .count;
-  lanecount = x .lanecount;
-  locations = x .locations;
-  lockwords = x .lockwords;
-  number = x .number;
-  rec = x .rec;
-  done = x .done + 1;
-  waited = x .waited;
-}
+counted x Waited = counting x (x .number) (x .done) (x .waited + 1)
+counted x Done = counting x (x .number) (x .done + 1) (x .waited)
 counted x ReleaseNotHeld = x
 
 abbrev pub stopped : Course → Course
-stopped x = record {
-  machine = x .machine;
-  volatile = x .volatile;
-  first = x .first;
-  count = x .count;
-  lanecount = x .lanecount;
-  locations = x .locations;
-  lockwords = x .lockwords;
-  number = 10;
-  rec = x .rec;
-  done = 0;
-  waited = 0;
-}
+stopped x = counting x 10 0 0
 
 abbrev pub blocked : Machine → ℕ → ℕ → Course
 blocked m n r = record {

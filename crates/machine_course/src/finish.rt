@@ -2,12 +2,11 @@
 ghost use mathlib.Core.Path.{_≡_};
 ghost use mathlib.Core.List.{List};
 ghost use Prim.Native.Nat.{ℕ};
-ghost use lib.ListN.{take};
 ghost use Rattle.machine_spec.specs.Schedule.{Move};
 ghost use Rattle.machine_spec.specs.declared.Machine.{Machine};
 ghost use Rattle.machine_course.specs.Stands.{Stands, Judged, answerBy};
 ghost use Rattle.machine_course.specs.Returned.{Answers, Fits, Holds};
-ghost use Rattle.machine_state.specs.States.{rowAt, stateIn, Sized};
+ghost use Rattle.machine_state.specs.States.{SHARED, MEMORY, LOCKWORDS, firsts, wordAt, stateIn, Sized};
 use crate::course::Course;
 use machine_lane::lane::Lane;
 use machine_run::judge::ended;
@@ -20,6 +19,7 @@ use machine_state::state::LOCKWORDS;
 use machine_state::state::MEMORY;
 use machine_state::state::SHARED;
 use machine_state::state::State;
+use machine_state::state::word_at;
 
 // The end state: the first `lanecount` lanes, `locations` of memory and `lockwords` of the locks.
 pub struct End {
@@ -43,8 +43,7 @@ pub struct Ran {
 
 // The first words of memory.
 fn memory_of(state: &State) -> [u32; 16]
-    requires { ⌜ Sized (now state) ⌝ }
-    ensures { λ r. ⌜ r ≡ take 16 (rowAt (now (state .entry)) 4 0) ⌝ }
+    ensures { λ r. ⌜ r ≡ firsts 16 (wordAt (now (state .entry)) SHARED MEMORY) ⌝ }
 {
     let w = state[SHARED][MEMORY];
     [
@@ -69,8 +68,7 @@ fn memory_of(state: &State) -> [u32; 16]
 
 // The first of the lock words.
 fn locks_of(state: &State) -> [u32; 4]
-    requires { ⌜ Sized (now state) ⌝ }
-    ensures { λ r. ⌜ r ≡ take 4 (rowAt (now (state .entry)) 4 1) ⌝ }
+    ensures { λ r. ⌜ r ≡ firsts 4 (wordAt (now (state .entry)) SHARED LOCKWORDS) ⌝ }
 {
     let w = state[SHARED][LOCKWORDS];
     [w[0], w[1], w[2], w[3]]
@@ -88,9 +86,9 @@ fn end_of(state: &State) -> End
     let memory = memory_of(state);
     let locks = locks_of(state);
     End {
-        lanecount: state[SHARED][COUNTS][LANES],
-        locations: state[SHARED][COUNTS][LOCATIONS],
-        lockwords: state[SHARED][COUNTS][LOCKS],
+        lanecount: word_at(state, SHARED, COUNTS, LANES),
+        locations: word_at(state, SHARED, COUNTS, LOCATIONS),
+        lockwords: word_at(state, SHARED, COUNTS, LOCKS),
         lanes,
         memory,
         locks,

@@ -7,8 +7,8 @@ use native.Mathlib.Nat.{add-zero, one-mul, mod-eq-of-lt}
 use native.Mathlib.Omega.{arith}
 use lib.Dec.{eqb}
 use lib.ListN.{length, getD, getElem?, take, drop}
+use Rattle.laws.proofs.Lists.{at-some}
 use Rattle.file_format.specs.Fields.{byte}
-use Rattle.file_format.proofs.Laws.Lists.{at-some}
 use Rattle.sheet_format.specs.Bytes.{wordBytes, quadBytes}
 use Rattle.sheet_format.specs.Put.{inTurn}
 use Rattle.machine_spec.specs.Entries.{Entry, write, release}

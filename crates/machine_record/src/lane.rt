@@ -10,9 +10,9 @@ ghost use Rattle.machine_lane.specs.Lanes.{entryOf, entriesOf, laneIn};
 ghost use Rattle.machine_record.specs.Lanes.{entryBytes, placeBytes, entriesBytes, stateLane};
 ghost use Rattle.machine_record.specs.SmallCells.{SmallCells};
 use crate::put::put_table;
-use crate::put::put_words;
 use machine_lane::lane::Lane;
-use sheet_rows::put::put_row;
+use sheet_rows::put::put_words;
+use sheet_rows::put::store_row;
 
 // A pending entry: kind 1 is a store, 2 the release of a lock.
 fn write_entry(out: &mut [u8], at: usize, cell: u32, value: u32) -> usize
@@ -21,11 +21,9 @@ fn write_entry(out: &mut [u8], at: usize, cell: u32, value: u32) -> usize
     ensures { λ r. ⌜ Puts (now (out .entry)) at (entryBytes (entryOf cell value)) (now (out .exit)) r ⌝ }
 {
     if cell < 16 {
-        put_row(out, at, 1, cell as u8, 0, value);
-        return at + 8;
+        return store_row(out, at, 1, cell as u8, 0, value);
     }
-    put_row(out, at, 2, (cell - 16) as u8, 0, 0);
-    at + 8
+    store_row(out, at, 2, (cell - 16) as u8, 0, 0)
 }
 
 // A place for an entry: zero where none is pending.
@@ -38,8 +36,7 @@ fn write_place(out: &mut [u8], at: usize, pending: bool, cell: u32, value: u32) 
     if pending {
         return write_entry(out, at, cell, value);
     }
-    put_row(out, at, 0, 0, 0, 0);
-    at + 8
+    store_row(out, at, 0, 0, 0, 0)
 }
 
 // The 64 places, of which the first `len` have an entry.

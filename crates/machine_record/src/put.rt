@@ -1,39 +1,11 @@
-// Writing numbers one after the other, little-endian. Each function answers with the position behind what it wrote.
+// Writing a row of words.
 ghost use mathlib.Core.Path.{_≡_};
-ghost use mathlib.Core.List.{[], _∷_, _++_};
 ghost use Prim.Native.Nat.{_+_, _*_, _≤_};
 ghost use lib.ListN.{length, getD};
-ghost use Rattle.sheet_format.specs.Bytes.{wordBytes, quadBytes};
+ghost use Rattle.sheet_format.specs.Bytes.{quadBytes};
 ghost use Rattle.sheet_format.specs.Put.{Puts, inTurn};
-use sheet_rows::number::low;
 use sheet_rows::number::wide;
-
-pub fn put_four(out: &mut [u8], at: usize, a: u8, b: u8, c: u8, d: u8) -> usize
-    requires { ⌜ at + 4 ≤ length (now out) ⌝ }
-    ensures { λ r. ⌜ Puts (now (out .entry)) at (a ∷ b ∷ c ∷ d ∷ []) (now (out .exit)) r ⌝ }
-{
-    out[at] = a;
-    out[at + 1] = b;
-    out[at + 2] = c;
-    out[at + 3] = d;
-    at + 4
-}
-
-// Two numbers of 16 bits.
-pub fn put_words(out: &mut [u8], at: usize, a: usize, b: usize) -> usize
-    requires { ⌜ at + 4 ≤ length (now out) ⌝ }
-    ensures { λ r. ⌜ Puts (now (out .entry)) at (wordBytes a ++ wordBytes b) (now (out .exit)) r ⌝ }
-{
-    put_four(out, at, low(a), low(a / 256), low(b), low(b / 256))
-}
-
-// A number of 32 bits.
-pub fn put_quad(out: &mut [u8], at: usize, n: usize) -> usize
-    requires { ⌜ at + 4 ≤ length (now out) ⌝ }
-    ensures { λ r. ⌜ Puts (now (out .entry)) at (quadBytes n) (now (out .exit)) r ⌝ }
-{
-    put_words(out, at, n, n / 65536)
-}
+use sheet_rows::put::put_quad;
 
 // Word i of a row; 0 past its end.
 pub fn word_at(words: &[u32], i: usize) -> usize

@@ -10,8 +10,6 @@ ghost use Rattle.machine_record.specs.Lanes.{stateLane};
 ghost use Rattle.machine_record.specs.Record.{double, flag, headBytes, recordOf};
 ghost use Rattle.machine_record.specs.SmallStates.{SmallLocks, SmallEntries, Small};
 use crate::lane::write_lane;
-use crate::put::put_four;
-use crate::put::put_quad;
 use machine_lane::lane::Lane;
 use machine_state::held::take;
 use machine_state::shared::lock_at;
@@ -21,6 +19,8 @@ use machine_state::state::LANES;
 use machine_state::state::SHARED;
 use machine_state::state::State;
 use sheet_rows::number::wide;
+use sheet_rows::put::put_four;
+use sheet_rows::put::put_quad;
 
 // A number of 64 bits.
 fn put_double(out: &mut [u8], at: usize, n: usize) -> usize

@@ -1,2 +1,3 @@
--- Small laws of the machines by subject.
+-- What is proved of the machines: small laws by subject, and the level that each runs.
 pub mod Laws
+pub mod Levels

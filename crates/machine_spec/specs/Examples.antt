@@ -9,7 +9,7 @@ use Rattle.file_format.specs.declared.accepted.Op.{Op}
 use Rattle.file_format.specs.declared.accepted.Op.the-variants.{Set, Load, Store, Lock, Unlock, Skip}
 use Rattle.file_format.specs.Accepted.{Program}
 use Rattle.barrier_placement.specs.declared.cookbook.Barrier.the-variants.{SS, SL}
-use Rattle.barrier_placement.specs.Place.{stands, due, rowsTo}
+use Rattle.barrier_placement.specs.Place.{stands, due, dueAfter}
 use Rattle.sheet_format.specs.Layout.{Instr, op, barrier}
 use Rattle.sheet_format.specs.Bytes.{sheetBytes}
 use Rattle.sheet_format.specs.Read.{readSheet}
@@ -230,7 +230,7 @@ runs =
     ∷ []
 
 runs-hold : map (λ (e : Ran × Ran). e .0) runs ≡ map (λ (e : Ran × Ran). e .1) runs
-unfolding runs readSheet sheetBytes stands due rowsTo
+unfolding runs readSheet sheetBytes stands due dueAfter
 runs-hold = refl
 
 -- ## schedules as bytes

@@ -8,7 +8,9 @@ use Rattle.file_format.specs.Fields.{laneCount, locations, locks}
 use Rattle.file_format.specs.Accepted.{Program}
 use Rattle.file_verdict.specs.Verdict.{Verdict, refused as rejected, accepted, verdict}
 use Rattle.sheet_format.specs.Layout.{Instr, op}
-use Rattle.sheet_format.specs.Levels.{level2, volatileIn}
+use Rattle.sheet_format.specs.declared.Level.{Level}
+use Rattle.sheet_format.specs.declared.Level.the-variants.{Level0, Level2}
+use Rattle.sheet_format.specs.Levels.{volatileIn}
 use Rattle.sheet_format.specs.Bytes.{sheetBytes}
 use Rattle.sheet_format.specs.Read.{readSheet}
 use Rattle.machine_spec.specs.declared.Machine.{Machine}
@@ -49,10 +51,15 @@ answerOf prog records s (ran r) = record {
 abbrev pub startOf : Program → State
 startOf k = startState (length (k .lanes)) (replicate (k .locations) 0) (k .locks)
 
+-- the level that a machine runs
+abbrev pub levelOf : Machine → Level
+levelOf Source = Level0
+levelOf (Target Tso) = Level2
+
 -- the machine's program: the kernel's chains, or what the bytes of the level 2 sheet stand for
 abbrev pub programFor : Machine → Program → List (List Instr)
 programFor Source k = map (map op) (k .lanes)
-programFor (Target Tso) k = readSheet (sheetBytes level2 k)
+programFor (Target Tso) k = readSheet (sheetBytes Level2 k)
 
 abbrev pub runOn : Machine → Program → List Move → Outcome
 runOn m k mvs = run m (volatileIn k) (programFor m k) (begin (startOf k)) mvs

@@ -5,7 +5,7 @@ use mathlib.Core.List.{List, [], _∷_, _++_, map}
 use Prim.Native.Nat.{ℕ}
 use Rattle.file_format.specs.declared.accepted.Op.the-variants.{Set, Add, Load, Store, Lock, Unlock}
 use Rattle.file_format.specs.Accepted.{Program}
-use Rattle.barrier_placement.specs.Place.{stands, due, rowsTo}
+use Rattle.barrier_placement.specs.Place.{stands, due, dueAfter}
 use Rattle.sheet_format.specs.Bytes.{sheetBytes}
 use Rattle.sheet_format.specs.Read.{readSheet}
 use Rattle.machine_spec.specs.Entries.{write, release}
@@ -58,7 +58,7 @@ tso-shows : shown (runProgram (Target Tso) kernel (opening ++ move 1 0 ∷ move 
   locks = 0 ∷ 1 ∷ [];
   pending = (write 1 5 ∷ []) ∷ [] ∷ [];
 }
-unfolding readSheet sheetBytes stands due rowsTo
+unfolding readSheet sheetBytes stands due dueAfter
 tso-shows = refl
 
 -- ## limits of schedules: choice 64 and 65, choice 1 and 2, lane T − 1 and T
@@ -70,7 +70,7 @@ source-limits : map (number Source) (move 0 64 ∷ move 0 65 ∷ move 1 64 ∷ m
 source-limits = refl
 
 tso-limits : map (number (Target Tso)) (move 0 1 ∷ move 0 2 ∷ move 1 1 ∷ move 2 0 ∷ []) ≡ 0 ∷ 10 ∷ 0 ∷ 10 ∷ []
-unfolding readSheet sheetBytes stands due rowsTo
+unfolding readSheet sheetBytes stands due dueAfter
 tso-limits = refl
 
 -- a legal schedule counts as itself, another as the empty one

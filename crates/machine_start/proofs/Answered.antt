@@ -21,11 +21,11 @@ module _ (s : List ℕ) (k : Program) (e : verdict s ≡ accepted k) where
   c : Claims s k
   c = claims s k e
 
-  shaped : (m : Machine) (mvs : List Move) → Shaped k (shown (runBy m s (verdict s) (countsAs m k mvs)))
+  pub shaped : (m : Machine) (mvs : List Move) → Shaped k (shown (runBy m s (verdict s) (countsAs m k mvs)))
   shaped Source = c .bounds .source-bounds
   shaped (Target Tso) = c .bounds .tso-bounds
 
-  within : (m : Machine) (mvs : List Move)
+  pub within : (m : Machine) (mvs : List Move)
       → Within (programFor m k) (runBy m s (verdict s) (countsAs m k mvs) .state)
   within Source = c .bounds .source-within
   within (Target Tso) = c .bounds .tso-within

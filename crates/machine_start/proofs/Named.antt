@@ -8,7 +8,7 @@ use native.Mathlib.Omega.{arith}
 use lib.Dec.{ltb, leb}
 use lib.ListN.{getElem?, take}
 use borrow.Author.Tests.{ltb-true, leb-true}
-use Rattle.barrier_placement.proofs.Laws.Bools.{and-true}
+use Rattle.laws.proofs.Bools.{and-true}
 use Rattle.machine_spec.specs.Schedule.{Move, legal}
 
 module _ (n c : ℕ) where

@@ -1,24 +1,24 @@
--- The programs of an accepted kernel: each operand has a cell, and each lane is short.
+-- The programs of an accepted kernel: each operand has a cell, each LOAD a register, and each lane is short.
 use Prim.Native.Nat.{ℕ, zero, suc, _≤_, _<_}
 use mathlib.Core.Path.{_≡_, refl, sym, ap, subst, _∙_}
-use mathlib.Core.List.{List, [], _∷_, map}
+use mathlib.Core.List.{List, [], _∷_}
 use mathlib.Core.Option.{some}
 use native.Mathlib.Omega.{arith}
-use lib.ListN.{length, getD, getElem?, length-map, List·getD-map}
+use lib.ListN.{length, getD, getElem?, List·getD-map}
 use Rattle.file_format.specs.declared.accepted.Op.{Op}
 use Rattle.file_format.specs.declared.accepted.Op.the-variants.{Set, Add, Load, Store, Lock, Unlock, Skip}
 use Rattle.file_format.specs.Accepted.{Program}
 use Rattle.file_format.specs.Lawful.{Bounded, Lawful}
+use Rattle.barrier_placement.specs.declared.cookbook.Barrier.{Barrier}
 use Rattle.barrier_placement.specs.Steps.{steps}
-use Rattle.sheet_format.specs.Layout.{Instr, op, start, aim, sheet}
-use Rattle.sheet_format.specs.Levels.{level2, placed, placedLanes, volatileIn}
+use Rattle.barrier_placement.specs.Layout.{start}
+use Rattle.sheet_format.specs.Layout.{Instr, op, barrier, aim, sheet}
+use Rattle.sheet_format.specs.Levels.{placed, placedLanes, volatileIn}
 use Rattle.sheet_format.proofs.Laws.Cells.{Each, cells-each, lane-length}
-use Rattle.sheet_format.proofs.ReadBack.{bytes-back}
 use Rattle.machine_spec.specs.declared.Machine.{Machine}
-use Rattle.machine_spec.specs.declared.Machine.the-variants.{Source, Target}
-use Rattle.machine_spec.specs.declared.Model.the-variants.{Tso}
 use Rattle.machine_spec.specs.State.{idle}
-use Rattle.machine_spec.specs.Run.{programFor}
+use Rattle.machine_spec.specs.Run.{programFor, levelOf}
+use Rattle.machine_spec.proofs.Levels.{program-lanes, program-narrow}
 use Rattle.claims.proofs.KernelLanes.{lane-placed}
 use Rattle.machine_state.specs.Ready.{Asks}
 
@@ -31,10 +31,6 @@ module _ (P : Instr → Type 0) where
   each-at [] h p i e = let z : _≡_ {A = ℕ} 0 1 = cc in absurd (omega arith)
   each-at (x ∷ is) h zero i e = let same : x ≡ i = cc in subst P same (h .0)
   each-at (x ∷ is) h (suc p) i e = each-at is (h .1) p i e
-
-  each-map : (os : List Op) → ((i : ℕ) (o : Op) → getElem? os i ≡ some o → P (op o)) → Each P (map op os)
-  each-map [] h = tt
-  each-map (o ∷ os) h = (h 0 o refl, each-map os (λ i. h (suc i)))
 
 module _ (ls ks n p : ℕ) (wl : ls ≤ 16) (wk : ks ≤ 4) where
   ranged-op : (o : Op) → Bounded ls ks n p o → Ranged (op o)
@@ -56,40 +52,59 @@ ranged-aim r (Lock l) h = h
 ranged-aim r (Unlock l) h = h
 ranged-aim r (Skip a t) h = h
 
--- a lane's program that a run can hold
-abbrev Kept : List Instr → Type 0
-Kept is = Each Ranged is × (length is < 65536)
+-- a LOAD has a register
+abbrev Loads : Instr → Type 0
+Loads i = (a x : ℕ) → i ≡ op (Load a x) → a < 8
+
+load-aimed : (r : ℕ → ℕ) (o : Op) (a x : ℕ) → aim r o ≡ Load a x → o ≡ Load a x
+load-aimed r (Set b c) a x e = e
+load-aimed r (Add b c) a x e = e
+load-aimed r (Load b y) a x e = e
+load-aimed r (Store b y) a x e = e
+load-aimed r (Lock l) a x e = e
+load-aimed r (Unlock l) a x e = e
+load-aimed r (Skip b u) a x e = let z : _≡_ {A = ℕ} 0 1 = cc in absurd (omega arith)
 
 module _ (k : Program) (w : Lawful k) (t : ℕ) where
   abbrev os : List Op
   os = getD (k .lanes) t []
 
-  ranged-at : (i : ℕ) (o : Op) → getElem? os i ≡ some o → Ranged (op o)
-  ranged-at i o e =
-      ranged-op (k .locations) (k .locks) (length os) i (w .few-locations) (w .few-locks) o (w .lane t .bounded i o e)
+  program-is : (m : Machine) → getD (programFor m k) t [] ≡ sheet (placed (levelOf m) (volatileIn k) os)
+  program-is m =
+      ap (λ x. getD x t []) (program-lanes k w m) ∙ List·getD-map sheet (placedLanes (levelOf m) k) t []
+      ∙ ap sheet (lane-placed k (levelOf m) t)
 
-  source-kept : Kept (map op os)
-  source-kept = (each-map Ranged os ranged-at, omega (arith, length-map os op, w .lane t .short))
-
-  tso-kept : Kept (sheet (placed level2 (volatileIn k) os))
-  tso-kept =
-      let at = start (placed level2 (volatileIn k) os) in (
-        cells-each level2 (steps (volatileIn k) os) at Ranged (λ b. tt) os 0
-            (λ i o e. ranged-aim at o (ranged-at i o e)),
-        omega (arith, lane-length level2 (volatileIn k) os, w .lane t .short),
-      )
-
-  kept : (m : Machine) → Kept (getD (programFor m k) t [])
-  kept Source = subst Kept (sym (List·getD-map (map op) (k .lanes) t [])) source-kept
-  kept (Target Tso) =
-      subst Kept
-      (sym (ap (λ x. getD x t []) (bytes-back level2 k w) ∙ List·getD-map sheet (placedLanes level2 k) t []
-      ∙ ap sheet (lane-placed k level2 t)))
-      tso-kept
+  -- what holds of each operation, wherever a SKIP is aimed, and of each barrier
+  module _ (P : Instr → Type 0) (bars : (b : Barrier) → P (barrier b))
+      (aims : (r : ℕ → ℕ) (o : Op) → P (op o) → P (op (aim r o)))
+      (ops : (i : ℕ) (o : Op) → getElem? os i ≡ some o → P (op o)) where
+    program-each : (m : Machine) (p : ℕ) (i : Instr) → getElem? (getD (programFor m k) t []) p ≡ some i → P i
+    program-each m =
+        let at = start (placed (levelOf m) (volatileIn k) os) in
+        each-at P (getD (programFor m k) t [])
+        (subst (Each P) (sym (program-is m))
+        (cells-each (levelOf m) (steps (volatileIn k) os) at P bars os 0 (λ i o e. aims at o (ops i o e))))
 
   -- each instruction's operand has a cell
   pub program-ranged : (m : Machine) (p : ℕ) (i : Instr) → getElem? (getD (programFor m k) t []) p ≡ some i → Ranged i
-  program-ranged m = each-at Ranged (getD (programFor m k) t []) (kept m .0)
+  program-ranged =
+      program-each Ranged (λ b. tt) ranged-aim
+      (λ i o e. ranged-op (k .locations) (k .locks) (length os) i (w .few-locations) (w .few-locks) o
+      (w .lane t .bounded i o e))
+
+  -- each LOAD names one of eight registers
+  pub program-loads : (m : Machine) (p a x : ℕ) → getElem? (getD (programFor m k) t []) p ≡ some (op (Load a x)) → a < 8
+  program-loads m p a x e =
+      program-each Loads (λ b a x q. let z : _≡_ {A = ℕ} 0 1 = cc in absurd (omega arith))
+      (λ r o h a x q. let aimed : aim r o ≡ Load a x = cc in h a x (ap op (load-aimed r o a x aimed)))
+      (λ i o at a x q. let same : o ≡ Load a x = cc in w .lane t .bounded i (Load a x) (at ∙ ap some same) .0)
+      m p (op (Load a x)) e a x refl
 
   pub program-short : (m : Machine) → length (getD (programFor m k) t []) < 65536
-  program-short m = kept m .1
+  program-short m =
+      omega (
+        arith,
+        ap length (program-is m),
+        lane-length (levelOf m) (volatileIn k) os (w .lane t .short),
+        program-narrow m,
+      )

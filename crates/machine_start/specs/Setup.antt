@@ -9,15 +9,14 @@ use Rattle.file_verdict.specs.Verdict.{accepted, verdict}
 use Rattle.sheet_format.specs.declared.WriteResult.{WriteResult}
 use Rattle.sheet_format.specs.declared.WriteResult.the-variants.{Wrote}
 use Rattle.sheet_format.specs.Levels.{volatileIn}
-use Rattle.sheet_format.specs.Bytes.{over}
+use Rattle.sheet_format.specs.Bytes.{over, sheetBytes}
 use Rattle.machine_spec.specs.Schedule.{Move, limit, legal}
-use Rattle.machine_spec.specs.Run.{startOf, programFor, runProgram}
+use Rattle.machine_spec.specs.Run.{startOf, programFor, runProgram, levelOf}
 use Rattle.machine_spec.specs.Moves.{movesIn}
 use Rattle.machine_spec.specs.declared.Machine.{Machine}
 use Rattle.machine_state.specs.States.{Blocks, countOf, stateIn, Sized}
 use Rattle.machine_run.specs.Runs.{ProgramAt}
 use Rattle.machine_record.specs.Record.{stateBytes}
-use Rattle.machine_start.specs.Programs.{programBytes}
 
 -- the kernel k of the file s, and moves that number 10 lets through
 pub record Legal (m : Machine) (mvs : List Move) (s : List ℕ) (k : Program) : Type 0 where
@@ -30,7 +29,7 @@ pub record ProgramIn (m : Machine) (mask : ℕ) (rows moves s : List ℕ) (k : P
   pub masked : mask ≡ k .mask
   pub own : List ℕ
   pub room : 4112 ≤ length own
-  pub front : rows ≡ over (programBytes m k) own
+  pub front : rows ≡ over (sheetBytes (levelOf m) k) own
 
 -- of some file
 pub record Startable (m : Machine) (mask : ℕ) (rows moves : List ℕ) : Type 0 where

@@ -1,7 +1,8 @@
 // What a machine runs: its program as rows.
 ghost use mathlib.Core.Path.{_≡_};
 ghost use Rattle.file_verdict.specs.Verdict.{verdict};
-ghost use Rattle.machine_start.specs.Programs.{programBy};
+ghost use Rattle.sheet_format.specs.Bytes.{lowerBy};
+ghost use Rattle.machine_spec.specs.Run.{levelOf};
 use file_accept::output::chain_file;
 use machine_spec::Machine;
 use sheet_format::WriteResult;
@@ -9,7 +10,7 @@ use sheet_level2::lower::lower2;
 
 // The rows at the front of `rows`: the chains for the source machine, the level 2 sheet for the tso machine.
 pub fn program_of(machine: Machine, file: &[u8], rows: &mut [u8]) -> WriteResult
-    ensures { λ r. ⌜ (r, now (rows .exit)) ≡ programBy machine (verdict (now (file .entry)))
+    ensures { λ r. ⌜ (r, now (rows .exit)) ≡ lowerBy (levelOf machine) (verdict (now (file .entry)))
         (now (rows .entry)) ⌝ }
 {
     match machine {

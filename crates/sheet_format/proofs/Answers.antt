@@ -1,5 +1,5 @@
 -- What an answer tells of the file, where the buffer takes the bytes of every kernel, and how small a refusal is.
-use Prim.Native.Nat.{ℕ, _≤_}
+use Prim.Native.Nat.{ℕ, _+_, _*_, _≤_}
 use mathlib.Core.Path.{_≡_, refl, sym, ap, ap₂, _∙_, subst}
 use mathlib.Core.Bool.{Bool, true, false, cond}
 use mathlib.Core.List.{List}
@@ -13,7 +13,8 @@ use Rattle.file_wellformed.proofs.Lawful.{accepted-lawful}
 use Rattle.file_wellformed.proofs.Named.{number-small, record-named}
 use Rattle.sheet_format.specs.declared.WriteResult.{WriteResult}
 use Rattle.sheet_format.specs.declared.WriteResult.the-variants.{Wrote, Refuses}
-use Rattle.sheet_format.specs.Levels.{Level}
+use Rattle.sheet_format.specs.declared.Level.{Level}
+use Rattle.sheet_format.specs.Levels.{widest}
 use Rattle.sheet_format.specs.Bytes.{sheetBytes, over, answerBy, lowerBy}
 use Rattle.sheet_format.proofs.Laws.Written.{written-all}
 use Rattle.sheet_format.proofs.Sizes.{sheet-small}
@@ -112,15 +113,15 @@ module _
       → BytesIn bytes s own after
   wrote-by = wrote-any bytes s own
 
--- a buffer of 10,256 bytes takes every sheet
-module _ (l : Level) (s own : List ℕ) (big : 10256 ≤ length own) where
+-- a buffer that takes every sheet of a level
+module _ (l : Level) (s own : List ℕ) (big : 16 + 2048 * widest l ≤ length own) where
   pub refuses-as : {n r : ℕ} {after : List ℕ} → (Refuses n r, after) ≡ lowerBy l (verdict s) own
       → verdict s ≡ refused n r
-  refuses-as = refuses-by (sheetBytes l) 10256 (sheet-small l) s own big
+  refuses-as = refuses-by (sheetBytes l) (16 + 2048 * widest l) (sheet-small l) s own big
 
   pub wrote-as : {n : ℕ} {after : List ℕ} → (Wrote n, after) ≡ lowerBy l (verdict s) own
       → BytesIn (sheetBytes l) s own after
-  wrote-as = wrote-by (sheetBytes l) 10256 (sheet-small l) s own big
+  wrote-as = wrote-by (sheetBytes l) (16 + 2048 * widest l) (sheet-small l) s own big
 
 -- ## the number and the record of a refusal are small
 

@@ -15,8 +15,10 @@ use Rattle.barrier_placement.specs.Cookbook.{same}
 use Rattle.barrier_placement.specs.Chain.{Chain}
 use Rattle.barrier_placement.specs.Steps.{stepOf, steps}
 use Rattle.barrier_placement.specs.Place.{standsAt, due, stands, keep, chosen}
-use Rattle.sheet_format.specs.Layout.{Instr, op, barrier, start, aim, cells, sheet, has}
-use Rattle.sheet_format.specs.Levels.{Level, keeps, placeFrom, placed}
+use Rattle.barrier_placement.specs.Layout.{Placed, barriersAt, start}
+use Rattle.sheet_format.specs.Layout.{Instr, op, barrier, aim, cells, sheet, has}
+use Rattle.sheet_format.specs.declared.Level.{Level}
+use Rattle.sheet_format.specs.Levels.{keeps, placeFrom, placed}
 use Rattle.sheet_format.specs.Items.{operationAt, keptBefore}
 use Rattle.sheet_format.specs.Before.{barriersBefore}
 
@@ -59,33 +61,37 @@ before-later : (bs : List Barrier) (o : Op) (is : List Instr) (p : ℕ)
 before-later [] o is p = refl
 before-later (b ∷ bs) o is p = before-later bs o is p
 
-module _ (l : Level) (s : Chain) (r : ℕ → ℕ) where
-  -- the operations from position q of the chain on, behind which nothing stands
-  cells-before : (os : List Op) (q p : ℕ) → ((b : Barrier) (i : ℕ) → length os ≤ i → stands s b (q + i) ≡ false)
-      → barriersBefore (cells r (placeFrom l s q os)) p
-      ≡ chosen (λ b. keeps l (operationAt os p) b && stands s b (q + p))
-  cells-before [] q p h =
-      let o : Op = operationAt [] p in
-      chosen-ext {f = λ b. false}
-      (λ b. sym (ap (λ x. keeps l o b && x) (h b p (omega arith)) ∙ and-false (keeps l o b)))
-  cells-before (o ∷ os) q zero h =
-      before-first _ (aim r o) (cells r (placeFrom l s (suc q) os))
-      ∙ ap (λ n. chosen (λ b. keeps l o b && stands s b n)) (sym (add-zero q))
-  cells-before (o ∷ os) q (suc p) h =
-      let shift : (i : ℕ) → suc q + i ≡ q + suc i = λ i. omega arith in
-      before-later (chosen (λ b. keeps l o b && stands s b q)) (aim r o) (cells r (placeFrom l s (suc q) os)) p
-      ∙ cells-before os (suc q) p (λ b i g. ap (stands s b) (shift i) ∙ h b (suc i) (omega arith))
-      ∙ ap (λ n. chosen (λ b. keeps l (operationAt os p) b && stands s b n)) (shift p)
+cells-before : (r : ℕ → ℕ) (ps : List (Placed Op)) (p : ℕ) → barriersBefore (cells r ps) p ≡ barriersAt ps p
+cells-before r [] p = refl
+cells-before r (x ∷ ps) zero = before-first (x .before) (aim r (x .oper)) (cells r ps)
+cells-before r (x ∷ ps) (suc p) = before-later (x .before) (aim r (x .oper)) (cells r ps) p ∙ cells-before r ps p
+
+-- of the operations from position q of the chain on, behind which nothing stands
+from-before : (l : Level) (s : Chain) (os : List Op) (q p : ℕ)
+    → ((b : Barrier) (i : ℕ) → length os ≤ i → stands s b (q + i) ≡ false)
+    → barriersAt (placeFrom l s q os) p ≡ chosen (λ b. keeps l (operationAt os p) b && stands s b (q + p))
+from-before l s [] q p h =
+    let o : Op = operationAt [] p in
+    chosen-ext {f = λ b. false}
+    (λ b. sym (ap (λ x. keeps l o b && x) (h b p (omega arith)) ∙ and-false (keeps l o b)))
+from-before l s (o ∷ os) q zero h = ap (λ n. chosen (λ b. keeps l o b && stands s b n)) (sym (add-zero q))
+from-before l s (o ∷ os) q (suc p) h =
+    let shift : (i : ℕ) → suc q + i ≡ q + suc i = λ i. omega arith in
+    from-before l s os (suc q) p (λ b i g. ap (stands s b) (shift i) ∙ h b (suc i) (omega arith))
+    ∙ ap (λ n. chosen (λ b. keeps l (operationAt os p) b && stands s b n)) (shift p)
 
 -- nothing stands at the end of a chain, nor behind it
 stands-none : (s : Chain) (b : Barrier) (p : ℕ) → length s ≤ p → stands s b p ≡ false
 unfolding stands
 stands-none s b p h = ap (λ x. standsAt x (due s b p)) (List·getD-eq-default s Other {n = p} h)
 
-pub lane-before : (l : Level) (vol : ℕ → Bool) (ops : List Op) (p : ℕ)
-    → barriersBefore (sheet (placed l vol ops)) p ≡ keptBefore l vol ops p
-lane-before l vol ops p =
-    cells-before l (steps vol ops) (start (placed l vol ops)) ops 0 p
-    (λ b i g. ap (stands (steps vol ops) b) (zero-add i)
-    ∙ stands-none (steps vol ops) b i (omega (arith, length-map ops (stepOf vol))))
-    ∙ ap (λ n. chosen (λ b. keeps l (operationAt ops p) b && stands (steps vol ops) b n)) (zero-add p)
+module _ (l : Level) (vol : ℕ → Bool) (ops : List Op) (p : ℕ) where
+  pub placed-before : barriersAt (placed l vol ops) p ≡ keptBefore l vol ops p
+  placed-before =
+      from-before l (steps vol ops) ops 0 p
+      (λ b i g. ap (stands (steps vol ops) b) (zero-add i)
+      ∙ stands-none (steps vol ops) b i (omega (arith, length-map ops (stepOf vol))))
+      ∙ ap (λ n. chosen (λ b. keeps l (operationAt ops p) b && stands (steps vol ops) b n)) (zero-add p)
+
+  pub lane-before : barriersBefore (sheet (placed l vol ops)) p ≡ keptBefore l vol ops p
+  lane-before = cells-before (start (placed l vol ops)) (placed l vol ops) p ∙ placed-before

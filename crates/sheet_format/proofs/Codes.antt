@@ -7,6 +7,7 @@ use mathlib.Core.List.{List, [], _∷_, _++_, map, append-assoc}
 use mathlib.Core.Logic.{inl, inr}
 use mathlib.Core.Option.{some}
 use lib.ListN.{length, getD, getElem?, drop, length-map, List·getD-map}
+use Rattle.laws.proofs.Bools.{and-true}
 use Rattle.file_format.specs.declared.accepted.Op.{Op}
 use Rattle.file_format.specs.declared.accepted.Op.the-variants.{Set, Add, Load, Store, Lock, Unlock, Skip}
 use Rattle.file_format.specs.Accepted.{Program}
@@ -16,10 +17,12 @@ use Rattle.barrier_placement.specs.declared.cookbook.Barrier.the-variants.{LL, 
 use Rattle.barrier_placement.specs.Chain.{Chain}
 use Rattle.barrier_placement.specs.Steps.{steps}
 use Rattle.barrier_placement.specs.Place.{stands, chosen}
-use Rattle.barrier_placement.proofs.Laws.Bools.{and-true}
 use Rattle.barrier_placement.proofs.Laws.Chosen.{chosen-only}
-use Rattle.sheet_format.specs.Layout.{Instr, op, barrier, Placed, start, aim, cells, sheet}
-use Rattle.sheet_format.specs.Levels.{Level, level1, level2, keeps, placeFrom, placed, placedLanes, sheetLanes}
+use Rattle.barrier_placement.specs.Layout.{Placed, start}
+use Rattle.sheet_format.specs.Layout.{Instr, op, barrier, aim, cells, sheet}
+use Rattle.sheet_format.specs.declared.Level.{Level}
+use Rattle.sheet_format.specs.declared.Level.the-variants.{Level0, Level1, Level2}
+use Rattle.sheet_format.specs.Levels.{keeps, placeFrom, placed, placedLanes, sheetLanes}
 use Rattle.sheet_format.specs.Levels.{volatileIn}
 use Rattle.sheet_format.specs.Bytes.{instrBytes, joined, laneBytes, barrierCode, levelNumber, maskAt, header}
 use Rattle.sheet_format.specs.Bytes.{sheetBytes}
@@ -97,14 +100,15 @@ operation-code l (Skip a t) = inl (omega arith, omega arith)
 
 -- of a barrier that the level keeps
 kept-code : (l : Level) (o : Op) (b : Barrier) → keeps l o b ≡ true → BarrierCode l (barrierCode l b)
-kept-code level1 o LL e = (omega arith, omega arith)
-kept-code level1 o LS e = (omega arith, omega arith)
-kept-code level1 o SS e = (omega arith, omega arith)
-kept-code level1 o SL e = (omega arith, omega arith)
-kept-code level2 o LL e = absurd (false≢true e)
-kept-code level2 o LS e = absurd (false≢true e)
-kept-code level2 o SS e = absurd (false≢true e)
-kept-code level2 o SL e = refl
+kept-code Level0 o b e = absurd (false≢true e)
+kept-code Level1 o LL e = (omega arith, omega arith)
+kept-code Level1 o LS e = (omega arith, omega arith)
+kept-code Level1 o SS e = (omega arith, omega arith)
+kept-code Level1 o SL e = (omega arith, omega arith)
+kept-code Level2 o LL e = absurd (false≢true e)
+kept-code Level2 o LS e = absurd (false≢true e)
+kept-code Level2 o SS e = absurd (false≢true e)
+kept-code Level2 o SL e = refl
 
 abbrev Coded : Level → Instr → Type 0
 Coded l i = Code l (codeOf l i)
@@ -143,7 +147,7 @@ lawful-codes l k w rest t p c e =
     os : List Op
     os = getD (k .lanes) t []
 
-    ps : List Placed
+    ps : List (Placed Op)
     ps = placed l (volatileIn k) os
 
     lane : getD (codesIn (sheetBytes l k ++ rest)) t [] ≡ map (codeOf l) (sheet ps)

@@ -11,9 +11,11 @@ use Rattle.file_format.specs.declared.accepted.Op.the-variants.{Set, Add, Load,
 use Rattle.file_format.specs.Accepted.{Program, jump}
 use Rattle.file_format.specs.Lawful.{Bounded, LawfulLane, Lawful}
 use Rattle.barrier_placement.specs.Steps.{steps}
-use Rattle.sheet_format.specs.Layout.{Instr, op, barrier, start, aim, sheet}
-use Rattle.sheet_format.specs.Levels.{Level, placed, sheetLanes, volatileIn}
-use Rattle.sheet_format.proofs.Laws.Cells.{Each, start-small, cells-each, lane-length}
+use Rattle.barrier_placement.specs.Layout.{start}
+use Rattle.sheet_format.specs.Layout.{Instr, op, barrier, aim, sheet}
+use Rattle.sheet_format.specs.declared.Level.{Level}
+use Rattle.sheet_format.specs.Levels.{placed, sheetLanes, volatileIn}
+use Rattle.sheet_format.proofs.Laws.Cells.{Each, widest-few, cells-each, lane-length, lane-start}
 
 -- the registers and operands fit a byte, the constant or position fits four
 abbrev pub Fits : Instr → Type 0
@@ -45,14 +47,14 @@ module _ (l : Level) (vol : ℕ → Bool) (ls ks : ℕ) (wl : ls ≤ 256) (wk : 
   lane-fits os w = (
     cells-each l (steps vol os) at Fits (λ b. tt) os 0
         (λ i o e. fits-op at ls ks (length os) i o wl wk (w .bounded i o e) (λ t j. near t)),
-    omega (arith, lane-length l vol os, w .short),
+    omega (arith, lane-length l vol os (w .short), widest-few l),
   )
     where
       at : ℕ → ℕ
       at = start (placed l vol os)
 
       near : (t : ℕ) → at t < 2 ^ 32
-      near t = omega (arith, start-small l (steps vol os) os 0 t, w .short)
+      near t = omega (arith, lane-start l vol os (w .short) t, widest-few l)
 
   each-fits : (lanes : List (List Op)) → ((t : ℕ) → LawfulLane ls ks (getD lanes t []))
       → Each LaneFits (map sheet (map (placed l vol) lanes))

@@ -4,16 +4,18 @@ use native.Mathlib.Omega.{arith}
 use mathlib.Core.Path.{_≡_, refl, sym, ap, ap₂, _∙_}
 use mathlib.Core.List.{List, [], _∷_, _++_, map, append-assoc, append-nil}
 use lib.ListN.{length, getD, take, drop, length-map}
+use Rattle.laws.proofs.Bytes.{word-back, quad-back}
 use Rattle.file_format.specs.declared.accepted.Op.the-variants.{Set, Add, Load, Store, Lock, Unlock, Skip}
 use Rattle.file_format.specs.Accepted.{Program}
 use Rattle.file_format.specs.Lawful.{Lawful}
 use Rattle.barrier_placement.specs.declared.cookbook.Barrier.the-variants.{LL, LS, SS, SL}
 use Rattle.sheet_format.specs.Layout.{Instr, op, barrier, sheet}
-use Rattle.sheet_format.specs.Levels.{Level, level1, level2, placed, placedLanes, sheetLanes, volatileIn}
+use Rattle.sheet_format.specs.declared.Level.{Level}
+use Rattle.sheet_format.specs.declared.Level.the-variants.{Level0, Level1, Level2}
+use Rattle.sheet_format.specs.Levels.{placed, placedLanes, sheetLanes, volatileIn}
 use Rattle.sheet_format.specs.Bytes.{instrBytes, joined, laneBytes, levelNumber, maskAt, headerBy, sheetBytes}
 use Rattle.sheet_format.specs.Read.{readInstr, readRows, pastRows, readLanes, counts, readSheet}
 use Rattle.sheet_format.proofs.Laws.Cells.{Each}
-use Rattle.sheet_format.proofs.Laws.Rows.{word-back, quad-back}
 use Rattle.sheet_format.proofs.Fitting.{Fits, LaneFits, lanes-fit}
 
 pub read-back : (l : Level) (i : Instr) (rest : List ℕ) → Fits i
@@ -25,14 +27,18 @@ read-back l (op (Store a x)) rest h = (refl, refl)
 read-back l (op (Lock x)) rest h = (refl, refl)
 read-back l (op (Unlock x)) rest h = (refl, refl)
 read-back l (op (Skip a t)) rest h = (ap (λ n. op (Skip a n)) (quad-back t (h .1)), refl)
-read-back level1 (barrier LL) rest h = (refl, refl)
-read-back level1 (barrier LS) rest h = (refl, refl)
-read-back level1 (barrier SS) rest h = (refl, refl)
-read-back level1 (barrier SL) rest h = (refl, refl)
-read-back level2 (barrier LL) rest h = (refl, refl)
-read-back level2 (barrier LS) rest h = (refl, refl)
-read-back level2 (barrier SS) rest h = (refl, refl)
-read-back level2 (barrier SL) rest h = (refl, refl)
+read-back Level0 (barrier LL) rest h = (refl, refl)
+read-back Level0 (barrier LS) rest h = (refl, refl)
+read-back Level0 (barrier SS) rest h = (refl, refl)
+read-back Level0 (barrier SL) rest h = (refl, refl)
+read-back Level1 (barrier LL) rest h = (refl, refl)
+read-back Level1 (barrier LS) rest h = (refl, refl)
+read-back Level1 (barrier SS) rest h = (refl, refl)
+read-back Level1 (barrier SL) rest h = (refl, refl)
+read-back Level2 (barrier LL) rest h = (refl, refl)
+read-back Level2 (barrier LS) rest h = (refl, refl)
+read-back Level2 (barrier SS) rest h = (refl, refl)
+read-back Level2 (barrier SL) rest h = (refl, refl)
 
 pub rows-back : (l : Level) (is : List Instr) (rest : List ℕ) → Each Fits is
     → (readRows (length is) (laneBytes l is ++ rest) ≡ is) × (pastRows (length is) (laneBytes l is ++ rest) ≡ rest)

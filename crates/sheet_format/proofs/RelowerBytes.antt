@@ -7,23 +7,24 @@ use Rattle.file_format.specs.declared.accepted.Op.{Op}
 use Rattle.file_format.specs.Accepted.{Program}
 use Rattle.file_format.specs.Lawful.{Lawful}
 use Rattle.sheet_format.specs.Layout.{Instr, sheet}
-use Rattle.sheet_format.specs.Levels.{level1, level2, placed, sheetLanes, volatileIn}
+use Rattle.sheet_format.specs.declared.Level.the-variants.{Level1, Level2}
+use Rattle.sheet_format.specs.Levels.{placed, sheetLanes, volatileIn}
 use Rattle.sheet_format.specs.Bytes.{joined, laneBytes, header, sheetBytes}
 use Rattle.sheet_format.specs.Relower.{relower, relowerLanes, relowerBytes}
 use Rattle.sheet_format.proofs.ReadBack.{lawful-back}
 use Rattle.sheet_format.proofs.Relowered.{relowered}
 
 lanes-relowered : (vol : ℕ → Bool) (lanes : List (List Op))
-    → map (relower level2) (map sheet (map (placed level1 vol) lanes)) ≡ map sheet (map (placed level2 vol) lanes)
+    → map (relower Level2) (map sheet (map (placed Level1 vol) lanes)) ≡ map sheet (map (placed Level2 vol) lanes)
 lanes-relowered vol [] = refl
-lanes-relowered vol (ops ∷ lanes) = ap₂ (λ x xs. x ∷ xs) (relowered level2 vol ops) (lanes-relowered vol lanes)
+lanes-relowered vol (ops ∷ lanes) = ap₂ (λ x xs. x ∷ xs) (relowered Level2 vol ops) (lanes-relowered vol lanes)
 
 module _ (k : Program) (rest : List ℕ) (law : Lawful k) where
-  pub relowered-lanes : relowerLanes (sheetBytes level1 k ++ rest) ≡ sheetLanes level2 k
-  relowered-lanes = ap (map (relower level2)) (lawful-back level1 k rest law)
+  pub relowered-lanes : relowerLanes (sheetBytes Level1 k ++ rest) ≡ sheetLanes Level2 k
+  relowered-lanes = ap (map (relower Level2)) (lawful-back Level1 k rest law)
       ∙ lanes-relowered (volatileIn k) (k .lanes)
 
-  pub relowered-bytes : relowerBytes (sheetBytes level1 k ++ rest) ≡ sheetBytes level2 k
+  pub relowered-bytes : relowerBytes (sheetBytes Level1 k ++ rest) ≡ sheetBytes Level2 k
   unfolding relowerBytes sheetBytes
   relowered-bytes =
-      ap (λ (xs : List (List Instr)). header level2 k xs ++ joined (map (laneBytes level2) xs)) relowered-lanes
+      ap (λ (xs : List (List Instr)). header Level2 k xs ++ joined (map (laneBytes Level2) xs)) relowered-lanes

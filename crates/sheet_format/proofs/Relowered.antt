@@ -13,8 +13,11 @@ use Rattle.barrier_placement.specs.declared.cookbook.Barrier.the-variants.{LL, 
 use Rattle.barrier_placement.specs.Chain.{Chain}
 use Rattle.barrier_placement.specs.Steps.{steps}
 use Rattle.barrier_placement.specs.Place.{stands, keep, chosen}
-use Rattle.sheet_format.specs.Layout.{Instr, op, barrier, start, aim, cells, sheet}
-use Rattle.sheet_format.specs.Levels.{Level, level1, level2, keeps, placeFrom, placed}
+use Rattle.barrier_placement.specs.Layout.{start}
+use Rattle.sheet_format.specs.Layout.{Instr, op, barrier, aim, cells, sheet}
+use Rattle.sheet_format.specs.declared.Level.{Level}
+use Rattle.sheet_format.specs.declared.Level.the-variants.{Level0, Level1, Level2}
+use Rattle.sheet_format.specs.Levels.{keeps, placeFrom, placed}
 use Rattle.sheet_format.specs.Relower.{nextOp, newPosition, relowerBy, relower}
 
 -- whether a barrier is kept before a SKIP does not depend on its target
@@ -25,11 +28,12 @@ keeps-aim l r (Load a x) b = refl
 keeps-aim l r (Store a x) b = refl
 keeps-aim l r (Lock x) b = refl
 keeps-aim l r (Unlock x) b = refl
-keeps-aim level1 r (Skip a t) b = refl
-keeps-aim level2 r (Skip a t) LL = refl
-keeps-aim level2 r (Skip a t) LS = refl
-keeps-aim level2 r (Skip a t) SS = refl
-keeps-aim level2 r (Skip a t) SL = refl
+keeps-aim Level0 r (Skip a t) b = refl
+keeps-aim Level1 r (Skip a t) b = refl
+keeps-aim Level2 r (Skip a t) LL = refl
+keeps-aim Level2 r (Skip a t) LS = refl
+keeps-aim Level2 r (Skip a t) SS = refl
+keeps-aim Level2 r (Skip a t) SL = refl
 
 -- the barriers that pass a test
 abbrev those : (Barrier → Bool) → List Barrier → List Barrier
@@ -116,13 +120,13 @@ module _ (l : Level) where
 
     -- an operation begins where the level has it begin
     position-start : (r : ℕ → ℕ) (os : List Op) (p t : ℕ)
-        → newPosition l (cells r (placeFrom level1 s p os)) (start (placeFrom level1 s p os) t)
+        → newPosition l (cells r (placeFrom Level1 s p os)) (start (placeFrom Level1 s p os) t)
         ≡ start (placeFrom l s p os) t
     position-start r [] p t = refl
-    position-start r (o ∷ os) p zero = position-zero (cells r (placeFrom level1 s p (o ∷ os)))
+    position-start r (o ∷ os) p zero = position-zero (cells r (placeFrom Level1 s p (o ∷ os)))
     position-start r (o ∷ os) p (suc t) =
-        position-block (chosen (λ b. stands s b p)) (aim r o) (cells r (placeFrom level1 s (suc p) os))
-        (start (placeFrom level1 s (suc p) os) t)
+        position-block (chosen (λ b. stands s b p)) (aim r o) (cells r (placeFrom Level1 s (suc p) os))
+        (start (placeFrom Level1 s (suc p) os) t)
         ∙ ap₂ (λ (x : List Barrier) (y : ℕ). length x + suc y) (kept r o p) (position-start r os (suc p) t)
 
     aim-twice : (r q m : ℕ → ℕ) → ((t : ℕ) → r (q t) ≡ m t) → (o : Op) → aim r (aim q o) ≡ aim m o
@@ -135,10 +139,10 @@ module _ (l : Level) where
     aim-twice r q m h (Skip a t) = ap (Skip a) (h t)
 
     relower-cells : (r q m : ℕ → ℕ) → ((t : ℕ) → r (q t) ≡ m t) → (os : List Op) (p : ℕ)
-        → relowerBy l r (cells q (placeFrom level1 s p os)) ≡ cells m (placeFrom l s p os)
+        → relowerBy l r (cells q (placeFrom Level1 s p os)) ≡ cells m (placeFrom l s p os)
     relower-cells r q m h [] p = refl
     relower-cells r q m h (o ∷ os) p =
-        let behind : List Instr = cells q (placeFrom level1 s (suc p) os) in
+        let behind : List Instr = cells q (placeFrom Level1 s (suc p) os) in
         relower-block r (chosen (λ b. stands s b p)) (aim q o) behind
         ∙ ap₂ (λ (x : List Barrier) (y : Op). map barrier x ++ op y ∷ relowerBy l r behind)
         (kept q o p) (aim-twice r q m h o)
@@ -146,9 +150,9 @@ module _ (l : Level) where
         (relower-cells r q m h os (suc p))
 
   pub relowered : (vol : ℕ → Bool) (ops : List Op)
-      → relower l (sheet (placed level1 vol ops)) ≡ sheet (placed l vol ops)
+      → relower l (sheet (placed Level1 vol ops)) ≡ sheet (placed l vol ops)
   relowered vol ops =
       let s : Chain = steps vol ops in
-      let q : ℕ → ℕ = start (placed level1 vol ops) in
-      relower-cells s (newPosition l (sheet (placed level1 vol ops))) q (start (placed l vol ops))
+      let q : ℕ → ℕ = start (placed Level1 vol ops) in
+      relower-cells s (newPosition l (sheet (placed Level1 vol ops))) q (start (placed l vol ops))
       (position-start s q ops 0) ops 0

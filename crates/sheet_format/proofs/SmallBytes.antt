@@ -9,7 +9,9 @@ use Rattle.file_format.specs.Lawful.{Lawful}
 use Rattle.barrier_placement.specs.declared.cookbook.Barrier.{Barrier}
 use Rattle.barrier_placement.specs.declared.cookbook.Barrier.the-variants.{LL, LS, SS, SL}
 use Rattle.sheet_format.specs.Layout.{Instr, op, barrier}
-use Rattle.sheet_format.specs.Levels.{Level, level1, level2, sheetLanes}
+use Rattle.sheet_format.specs.declared.Level.{Level}
+use Rattle.sheet_format.specs.declared.Level.the-variants.{Level0, Level1, Level2}
+use Rattle.sheet_format.specs.Levels.{sheetLanes}
 use Rattle.sheet_format.specs.Bytes.{wordBytes, quadBytes, row, instrBytes, joined, laneBytes, header, sheetBytes}
 use Rattle.sheet_format.specs.Bytes.{barrierCode, levelNumber, maskAt, countBytes}
 use Rattle.sheet_format.proofs.Laws.Cells.{Each}
@@ -46,14 +48,18 @@ row-small : (o a b c : ℕ) → o < 256 → a < 256 → b < 256 → Small (row o
 row-small o a b c ho ha hb = ho ▸ ha ▸ hb ▸ zero-small ▸ quad-small c
 
 code-small : (l : Level) (b : Barrier) → barrierCode l b < 256
-code-small level1 LL = omega arith
-code-small level1 LS = omega arith
-code-small level1 SS = omega arith
-code-small level1 SL = omega arith
-code-small level2 LL = omega arith
-code-small level2 LS = omega arith
-code-small level2 SS = omega arith
-code-small level2 SL = omega arith
+code-small Level0 LL = omega arith
+code-small Level0 LS = omega arith
+code-small Level0 SS = omega arith
+code-small Level0 SL = omega arith
+code-small Level1 LL = omega arith
+code-small Level1 LS = omega arith
+code-small Level1 SS = omega arith
+code-small Level1 SL = omega arith
+code-small Level2 LL = omega arith
+code-small Level2 LS = omega arith
+code-small Level2 SS = omega arith
+code-small Level2 SL = omega arith
 
 instr-small : (l : Level) (i : Instr) → Fits i → Small (instrBytes l i)
 instr-small l (op (Set a c)) h = row-small 1 a 0 c (omega arith) (h .0) (omega arith)
@@ -75,8 +81,9 @@ lane-small : (l : Level) (is : List Instr) → LaneFits is → Small (laneBytes 
 lane-small l is h = joined-small (instrBytes l) Fits (instr-small l) is (h .0)
 
 level-small : (l : Level) → levelNumber l < 256
-level-small level1 = omega arith
-level-small level2 = omega arith
+level-small Level0 = omega arith
+level-small Level1 = omega arith
+level-small Level2 = omega arith
 
 header-small : (l : Level) (k : Program) (xs : List (List Instr)) → Lawful k → Small (header l k xs)
 header-small l k xs w =

@@ -8,9 +8,10 @@ use Rattle.file_format.specs.declared.accepted.Op.{Op}
 use Rattle.file_format.specs.declared.accepted.Op.the-variants.{Load, Store}
 use Rattle.barrier_placement.specs.declared.cookbook.Barrier.{Barrier}
 use Rattle.barrier_placement.specs.declared.cookbook.Barrier.the-variants.{LL, SL}
-use Rattle.barrier_placement.specs.Place.{stands, due, rowsTo}
+use Rattle.barrier_placement.specs.Place.{stands, due, dueAfter}
 use Rattle.sheet_format.specs.Layout.{Instr, op, barrier, sheet, has}
-use Rattle.sheet_format.specs.Levels.{level1, level2, placed}
+use Rattle.sheet_format.specs.declared.Level.the-variants.{Level1, Level2}
+use Rattle.sheet_format.specs.Levels.{placed}
 
 -- those directly before the p-th operation, from 0; those behind the last operation count as before the next
 abbrev pub barriersBefore : List Instr → ℕ → List Barrier
@@ -33,16 +34,16 @@ abbrev lane : List Op
 lane = Store 0 1 ∷ Load 0 0 ∷ Load 0 1 ∷ []
 
 -- SL stands before the VL and not before the PL, nor behind the last operation
-example : map (standsBefore SL (sheet (placed level2 vol lane))) (0 ∷ 1 ∷ 2 ∷ 3 ∷ [])
+example : map (standsBefore SL (sheet (placed Level2 vol lane))) (0 ∷ 1 ∷ 2 ∷ 3 ∷ [])
     ≡ false ∷ false ∷ true ∷ false ∷ []
-unfolding stands due rowsTo
+unfolding stands due dueAfter
 example = refl
 
 -- VL, PL: LL stands before the PL at level 1, and not at level 2
-kept : standsBefore LL (sheet (placed level1 vol (Load 0 1 ∷ Load 0 0 ∷ []))) 1 ≡ true
-unfolding stands due rowsTo
+kept : standsBefore LL (sheet (placed Level1 vol (Load 0 1 ∷ Load 0 0 ∷ []))) 1 ≡ true
+unfolding stands due dueAfter
 kept = refl
 
-dropped : standsBefore LL (sheet (placed level2 vol (Load 0 1 ∷ Load 0 0 ∷ []))) 1 ≡ false
-unfolding stands due rowsTo
+dropped : standsBefore LL (sheet (placed Level2 vol (Load 0 1 ∷ Load 0 0 ∷ []))) 1 ≡ false
+unfolding stands due dueAfter
 dropped = refl

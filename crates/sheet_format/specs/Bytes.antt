@@ -14,7 +14,9 @@ use Rattle.barrier_placement.specs.Cookbook.{codeOf}
 use Rattle.sheet_format.specs.declared.WriteResult.{WriteResult}
 use Rattle.sheet_format.specs.declared.WriteResult.the-variants.{Wrote, Refuses}
 use Rattle.sheet_format.specs.Layout.{Instr, op, barrier}
-use Rattle.sheet_format.specs.Levels.{Level, level1, level2, sheetLanes}
+use Rattle.sheet_format.specs.declared.Level.{Level}
+use Rattle.sheet_format.specs.declared.Level.the-variants.{Level0, Level1, Level2}
+use Rattle.sheet_format.specs.Levels.{sheetLanes}
 
 -- little-endian, of 16 and of 32 bits
 abbrev pub wordBytes : ℕ → List ℕ
@@ -38,11 +40,12 @@ opBytes (Skip a t) = row 7 a 0 t
 
 -- level 2 writes 14, SL, as 15, MFENCE
 abbrev pub barrierCode : Level → Barrier → ℕ
-barrierCode level1 b = codeOf b
-barrierCode level2 LL = 11
-barrierCode level2 LS = 12
-barrierCode level2 SS = 13
-barrierCode level2 SL = 15
+barrierCode Level0 b = codeOf b
+barrierCode Level1 b = codeOf b
+barrierCode Level2 LL = 11
+barrierCode Level2 LS = 12
+barrierCode Level2 SS = 13
+barrierCode Level2 SL = 15
 
 abbrev pub instrBytes : Level → Instr → List ℕ
 instrBytes l (op o) = opBytes o
@@ -56,13 +59,15 @@ abbrev pub laneBytes : Level → List Instr → List ℕ
 laneBytes l is = joined (map (instrBytes l) is)
 
 abbrev pub levelNumber : Level → ℕ
-levelNumber level1 = 1
-levelNumber level2 = 2
+levelNumber Level0 = 0
+levelNumber Level1 = 1
+levelNumber Level2 = 2
 
 -- the mask is zero at level 2
 abbrev pub maskAt : Level → Program → ℕ
-maskAt level1 k = k .mask
-maskAt level2 k = 0
+maskAt Level0 k = k .mask
+maskAt Level1 k = k .mask
+maskAt Level2 k = 0
 
 -- a lane's instruction count in two bytes, zero for lanes that are not there
 abbrev pub countBytes : List (List Instr) → ℕ → List ℕ
@@ -98,7 +103,7 @@ abbrev pub lowerBy : Level → Verdict → List ℕ → WriteResult × List ℕ
 lowerBy l = answerBy (sheetBytes l)
 
 abbrev pub lower1 : List ℕ → List ℕ → WriteResult × List ℕ
-lower1 s = lowerBy level1 (verdict s)
+lower1 s = lowerBy Level1 (verdict s)
 
 abbrev pub lower2 : List ℕ → List ℕ → WriteResult × List ℕ
-lower2 s = lowerBy level2 (verdict s)
+lower2 s = lowerBy Level2 (verdict s)

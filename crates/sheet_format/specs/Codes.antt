@@ -4,7 +4,8 @@ use mathlib.Core.Path.{_≡_, refl}
 use mathlib.Core.List.{List, [], _∷_}
 use mathlib.Core.Logic.{_⊎_}
 use lib.ListN.{getD, drop}
-use Rattle.sheet_format.specs.Levels.{Level, level1, level2}
+use Rattle.sheet_format.specs.declared.Level.{Level}
+use Rattle.sheet_format.specs.declared.Level.the-variants.{Level0, Level1, Level2}
 use Rattle.sheet_format.specs.Read.{pastRows, counts}
 
 -- the first byte of each of n rows of 8 bytes
@@ -21,10 +22,11 @@ laneCodes (n ∷ ns) b = rowCodes n b ∷ laneCodes ns (pastRows n b)
 unfoldable pub codesIn : List ℕ → List (List ℕ)
 codesIn b = laneCodes (counts b) (drop 16 b)
 
--- 11 LL, 12 LS, 13 SS, 14 SL; at level 2 just 15 MFENCE
+-- none at level 0; 11 LL, 12 LS, 13 SS, 14 SL; at level 2 just 15 MFENCE
 abbrev pub BarrierCode : Level → ℕ → Type 0
-BarrierCode level1 c = (11 ≤ c) × (c ≤ 14)
-BarrierCode level2 c = c ≡ 15
+BarrierCode Level0 c = ⊥
+BarrierCode Level1 c = (11 ≤ c) × (c ≤ 14)
+BarrierCode Level2 c = c ≡ 15
 
 -- an operation, 1 to 7, or a barrier of the level
 abbrev pub Code : Level → ℕ → Type 0

@@ -8,9 +8,10 @@ use Rattle.file_format.specs.declared.accepted.Op.{Op}
 use Rattle.file_format.specs.declared.accepted.Op.the-variants.{Set, Load, Store, Lock, Unlock, Skip}
 use Rattle.file_format.specs.Accepted.{Program}
 use Rattle.barrier_placement.specs.declared.cookbook.Barrier.the-variants.{LL, LS, SS, SL}
-use Rattle.barrier_placement.specs.Place.{stands, due, rowsTo}
+use Rattle.barrier_placement.specs.Place.{stands, due, dueAfter}
 use Rattle.sheet_format.specs.Layout.{Instr, op, barrier, sheet}
-use Rattle.sheet_format.specs.Levels.{level1, level2, placed, sheetLanes}
+use Rattle.sheet_format.specs.declared.Level.the-variants.{Level1, Level2}
+use Rattle.sheet_format.specs.Levels.{placed, sheetLanes}
 use Rattle.sheet_format.specs.declared.WriteResult.the-variants.{Wrote, Refuses}
 use Rattle.sheet_format.specs.Bytes.{sheetBytes, writeInto}
 use Rattle.sheet_format.specs.Read.{readSheet}
@@ -26,7 +27,7 @@ record Example : Type 0 where
   second : List Instr
 
 abbrev lowerBoth : List Op → Example
-lowerBoth os = record { lane = os; first = sheet (placed level1 vol os); second = sheet (placed level2 vol os) }
+lowerBoth os = record { lane = os; first = sheet (placed Level1 vol os); second = sheet (placed Level2 vol os) }
 
 examples : List Example
 examples =
@@ -73,7 +74,7 @@ examples =
     []
 
 examples-hold : map (λ (e : Example). lowerBoth (e .lane)) examples ≡ examples
-unfolding examples stands due rowsTo
+unfolding examples stands due dueAfter
 examples-hold = refl
 
 -- two lanes of unlike length
@@ -103,12 +104,12 @@ second =
     ∷ 3 ∷ 4 ∷ 1 ∷ 0 ∷ 0 ∷ 0 ∷ 0 ∷ 0
     ∷ 1 ∷ 5 ∷ 0 ∷ 0 ∷ 2 ∷ 1 ∷ 0 ∷ 0 ∷ []
 
-bytes-hold : sheetBytes level1 kernel ∷ sheetBytes level2 kernel ∷ [] ≡ first ∷ second ∷ []
-unfolding sheetBytes stands due rowsTo
+bytes-hold : sheetBytes Level1 kernel ∷ sheetBytes Level2 kernel ∷ [] ≡ first ∷ second ∷ []
+unfolding sheetBytes stands due dueAfter
 bytes-hold = refl
 
-read-holds : readSheet second ≡ sheetLanes level2 kernel
-unfolding readSheet stands due rowsTo
+read-holds : readSheet second ≡ sheetLanes Level2 kernel
+unfolding readSheet stands due dueAfter
 read-holds = refl
 
 -- a buffer that is longer keeps what lies behind the sheet; one that is shorter is as it was

@@ -13,7 +13,8 @@ use Rattle.barrier_placement.specs.Steps.{stepOf, steps}
 use Rattle.barrier_placement.specs.Place.{stands}
 use Rattle.barrier_placement.specs.Sheet.{Item, bar, op as stepItem, written}
 use Rattle.sheet_format.specs.Layout.{Instr, op, barrier}
-use Rattle.sheet_format.specs.Levels.{Level, keeps}
+use Rattle.sheet_format.specs.declared.Level.{Level}
+use Rattle.sheet_format.specs.Levels.{keeps}
 
 abbrev pub itemOf : (ℕ → Bool) → Instr → Item
 itemOf vol (op o) = stepItem (stepOf vol o)

@@ -9,34 +9,41 @@ use Rattle.barrier_placement.specs.declared.cookbook.Barrier.the-variants.{LL, 
 use Rattle.barrier_placement.specs.Chain.{Chain}
 use Rattle.barrier_placement.specs.Steps.{steps}
 use Rattle.barrier_placement.specs.Place.{stands, chosen}
-use Rattle.sheet_format.specs.Layout.{Instr, Placed, sheet}
+use Rattle.barrier_placement.specs.Layout.{Placed}
+use Rattle.sheet_format.specs.declared.Level.{Level}
+use Rattle.sheet_format.specs.declared.Level.the-variants.{Level0, Level1, Level2}
+use Rattle.sheet_format.specs.Layout.{Instr, sheet}
 
--- level 1: the barrier sheet; level 2: the x86 sheet
-pub data Level : Type 0 where
-  level1 level2 : Level
-
--- Does the level keep a barrier that stands before this operation? Level 2 drops 11 to 13, that is, all but SL.
+-- Does the level keep a barrier that stands before this operation? Level 0 drops all of them, level 2 drops 11 to 13,
+-- that is, all but SL.
 abbrev pub keeps : Level → Op → Barrier → Bool
-keeps level1 o b = true
-keeps level2 o LL = false
-keeps level2 o LS = false
-keeps level2 o SS = false
-keeps level2 o SL = true
+keeps Level0 o b = false
+keeps Level1 o b = true
+keeps Level2 o LL = false
+keeps Level2 o LS = false
+keeps Level2 o SS = false
+keeps Level2 o SL = true
+
+-- how many instructions an operation makes at most, with its barriers
+abbrev pub widest : Level → ℕ
+widest Level0 = 1
+widest Level1 = 5
+widest Level2 = 2
 
 -- the operations from position p of a chain on, each with the barriers before it that the level keeps
-abbrev pub placeFrom : Level → Chain → ℕ → List Op → List Placed
+abbrev pub placeFrom : Level → Chain → ℕ → List Op → List (Placed Op)
 placeFrom l s p [] = []
 placeFrom l s p (o ∷ os) =
     record { before = chosen (λ b. keeps l o b && stands s b p); oper = o } ∷ placeFrom l s (suc p) os
 
-abbrev pub placed : Level → (ℕ → Bool) → List Op → List Placed
+abbrev pub placed : Level → (ℕ → Bool) → List Op → List (Placed Op)
 placed l vol ops = placeFrom l (steps vol ops) 0 ops
 
 abbrev pub volatileIn : Program → ℕ → Bool
 volatileIn k = isVolatile (k .mask)
 
 -- the lanes of an accepted kernel at a level, and their instructions
-abbrev pub placedLanes : Level → Program → List (List Placed)
+abbrev pub placedLanes : Level → Program → List (List (Placed Op))
 placedLanes l k = map (placed l (volatileIn k)) (k .lanes)
 
 abbrev pub sheetLanes : Level → Program → List (List Instr)

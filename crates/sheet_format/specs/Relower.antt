@@ -9,7 +9,9 @@ use Rattle.file_format.specs.declared.accepted.Op.{Op}
 use Rattle.file_format.specs.declared.accepted.Op.the-variants.{Set, Load, Store, Skip}
 use Rattle.barrier_placement.specs.declared.cookbook.Barrier.the-variants.{LL, SL}
 use Rattle.sheet_format.specs.Layout.{Instr, op, barrier, aim}
-use Rattle.sheet_format.specs.Levels.{Level, level2, keeps}
+use Rattle.sheet_format.specs.declared.Level.{Level}
+use Rattle.sheet_format.specs.declared.Level.the-variants.{Level2}
+use Rattle.sheet_format.specs.Levels.{keeps}
 use Rattle.sheet_format.specs.Bytes.{joined, laneBytes, levelNumber, headerBy}
 use Rattle.sheet_format.specs.Read.{readSheet}
 
@@ -44,15 +46,15 @@ relower l is = relowerBy l (newPosition l is) is
 -- ## level 2 from the bytes of a level 1 sheet
 
 abbrev pub relowerLanes : List ℕ → List (List Instr)
-relowerLanes s = map (relower level2) (readSheet s)
+relowerLanes s = map (relower Level2) (readSheet s)
 
 unfoldable pub relowerBytes : List ℕ → List ℕ
 relowerBytes s =
-    headerBy (byte s 0) (byte s 1) (byte s 2) (levelNumber level2) 0 (relowerLanes s)
-    ++ joined (map (laneBytes level2) (relowerLanes s))
+    headerBy (byte s 0) (byte s 1) (byte s 2) (levelNumber Level2) 0 (relowerLanes s)
+    ++ joined (map (laneBytes Level2) (relowerLanes s))
 
 -- LL goes, SL stays, and the SKIP is aimed at SL, its target's first barrier that is left
-example : relower level2
+example : relower Level2
     (op (Store 0 1) ∷ op (Skip 0 4) ∷ barrier LL ∷ op (Load 0 0) ∷ barrier LL ∷ barrier SL ∷ op (Load 0 1) ∷ [])
     ≡ op (Store 0 1) ∷ op (Skip 0 3) ∷ op (Load 0 0) ∷ barrier SL ∷ op (Load 0 1) ∷ []
 example = refl

@@ -9,11 +9,12 @@ use Rattle.barrier_placement.specs.Steps.{steps}
 use Rattle.barrier_placement.specs.Place.{before}
 use Rattle.barrier_placement.specs.Plan.{standing, Counted}
 use Rattle.sheet_format.specs.Layout.{Instr, sheet}
-use Rattle.sheet_format.specs.Levels.{level1, placed}
+use Rattle.sheet_format.specs.declared.Level.the-variants.{Level1}
+use Rattle.sheet_format.specs.Levels.{placed}
 
 -- a lane's operations at level 1
 abbrev pub instrs1 : (ℕ → Bool) → List Op → List Instr
-instrs1 vol ops = sheet (placed level1 vol ops)
+instrs1 vol ops = sheet (placed Level1 vol ops)
 
 -- the plan of a lane of these operations, which makes `size` instructions
 pub record Planned (vol : ℕ → Bool) (ops : List Op) (plan : List ℕ) (size : ℕ) : Type 0 where

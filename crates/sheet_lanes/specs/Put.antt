@@ -11,23 +11,24 @@ use Rattle.file_format.specs.Fields.{byte, word}
 use Rattle.barrier_placement.specs.declared.cookbook.Barrier.{Barrier}
 use Rattle.barrier_placement.specs.Placed.{bit}
 use Rattle.barrier_placement.specs.Plan.{standing, beginning}
-use Rattle.sheet_format.specs.Layout.{Placed, op, barrier, sheet}
-use Rattle.sheet_format.specs.Levels.{level1}
+use Rattle.barrier_placement.specs.Layout.{Placed}
+use Rattle.sheet_format.specs.Layout.{op, barrier, sheet}
+use Rattle.sheet_format.specs.declared.Level.the-variants.{Level1}
 use Rattle.sheet_format.specs.Bytes.{row, laneBytes}
 use Rattle.sheet_format.specs.Put.{inTurn}
 
 -- the operations of a chain, the first of which stands at position p, with the barriers that pre puts before each
-abbrev pub placedBy : (ℕ → List Barrier) → ℕ → List Op → List Placed
+abbrev pub placedBy : (ℕ → List Barrier) → ℕ → List Op → List (Placed Op)
 placedBy pre p [] = []
 placedBy pre p (o ∷ os) = record { before = pre p; oper = o } ∷ placedBy pre (suc p) os
 
 -- the bytes of an operation at level 1, with these barriers before it
 abbrev pub stepBytes : List Barrier → Op → List ℕ
-stepBytes bs o = laneBytes level1 (map barrier bs ++ (op o ∷ []))
+stepBytes bs o = laneBytes Level1 (map barrier bs ++ (op o ∷ []))
 
 -- the bytes of a lane at level 1, with its barriers where the plan says
 abbrev pub laneWith : List ℕ → List Op → List ℕ
-laneWith plan ops = laneBytes level1 (sheet (placedBy (standing plan) 0 ops))
+laneWith plan ops = laneBytes Level1 (sheet (placedBy (standing plan) 0 ops))
 
 -- ## from the lane's rows
 

@@ -10,7 +10,7 @@ use crate::starts::bit_at;
 use crate::starts::start_of;
 use sheet_rows::put::copy_eight;
 use sheet_rows::put::put_row;
-use sheet_rows::put::store_eight;
+use sheet_rows::put::store_row;
 use sheet_rows::read::word_at;
 
 // The codes of the barriers.
@@ -29,7 +29,7 @@ fn put_barrier(out: &mut [u8], at: usize, stands: bool, code: u8) -> usize
     ensures bytes { λ r. ⌜ now (out .exit) ≡ sets (now (out .entry)) at (row code 0 0 0) ⌝ }
     ensures behind { λ r. ⌜ r ≡ at + length (rowIf stands code) ⌝ }
 {
-    store_eight(out, at, code, 0, 0, 0, 0, 0, 0, 0);
+    store_row(out, at, code, 0, 0, 0);
     at + 8 * (stands as usize)
 }
 

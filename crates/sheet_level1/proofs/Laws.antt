@@ -1,4 +1,3 @@
 -- Laws by subject.
-pub mod Targets
 pub mod Held
 pub mod Level1

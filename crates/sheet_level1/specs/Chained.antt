@@ -4,11 +4,11 @@ use mathlib.Core.Path.{_≡_}
 use mathlib.Core.List.{List}
 use lib.ListN.{length}
 use Rattle.file_format.specs.Accepted.{programOf}
-use Rattle.sheet_format.specs.Bytes.{over}
-use Rattle.file_rows.specs.Chains.{chainBytes}
+use Rattle.sheet_format.specs.declared.Level.the-variants.{Level0}
+use Rattle.sheet_format.specs.Bytes.{over, sheetBytes}
 
 -- the buffer begins with the chains of file s
 pub record ChainsOf (s rows : List ℕ) : Type 0 where
   pub own : List ℕ
-  pub room : length (chainBytes (programOf s)) ≤ length own
-  pub front : rows ≡ over (chainBytes (programOf s)) own
+  pub room : length (sheetBytes Level0 (programOf s)) ≤ length own
+  pub front : rows ≡ over (sheetBytes Level0 (programOf s)) own

@@ -4,7 +4,7 @@ use mathlib.Core.List.{List}
 use Rattle.file_format.specs.Fields.{mask, head}
 use Rattle.file_format.specs.Accepted.{isVolatile, opsAt, programOf}
 use Rattle.sheet_format.specs.Layout.{Instr}
-use Rattle.sheet_format.specs.Levels.{level1}
+use Rattle.sheet_format.specs.declared.Level.the-variants.{Level1}
 use Rattle.sheet_format.specs.Bytes.{laneBytes, sheetBytes}
 use Rattle.sheet_lanes.specs.Plans.{instrs1}
 
@@ -13,8 +13,8 @@ abbrev pub instrs1At : List ℕ → ℕ → List Instr
 instrs1At s t = instrs1 (isVolatile (mask s)) (opsAt s (head s t))
 
 abbrev pub lane1At : List ℕ → ℕ → List ℕ
-lane1At s t = laneBytes level1 (instrs1At s t)
+lane1At s t = laneBytes Level1 (instrs1At s t)
 
 -- the level 1 sheet of a file
 abbrev pub sheet1 : List ℕ → List ℕ
-sheet1 s = sheetBytes level1 (programOf s)
+sheet1 s = sheetBytes Level1 (programOf s)

@@ -5,7 +5,7 @@ use mathlib.Core.List.{List, []}
 use lib.ListN.{length, getD, drop}
 use Rattle.sheet_rows.specs.Rows.{partsIn}
 use Rattle.sheet_format.specs.Layout.{Instr}
-use Rattle.sheet_format.specs.Levels.{level2}
+use Rattle.sheet_format.specs.declared.Level.the-variants.{Level2}
 use Rattle.sheet_format.specs.Bytes.{laneBytes}
 use Rattle.sheet_format.specs.Read.{readSheet}
 use Rattle.sheet_format.specs.Relower.{relower}
@@ -24,11 +24,11 @@ Fitting sheet new = (t : ℕ) → t < 4 → getD (partsIn sheet .count) t 0 < le
 
 -- lane t at level 2
 abbrev pub laneAt2 : List ℕ → ℕ → List Instr
-laneAt2 sheet t = relower level2 (getD (readSheet sheet) t [])
+laneAt2 sheet t = relower Level2 (getD (readSheet sheet) t [])
 
 -- its bytes
 abbrev pub rowsAt2 : List ℕ → ℕ → List ℕ
-rowsAt2 sheet t = laneBytes level2 (laneAt2 sheet t)
+rowsAt2 sheet t = laneBytes Level2 (laneAt2 sheet t)
 
 -- how many rows of each lane stay
 pub record Kept (sheet kept : List ℕ) : Type 0 where

@@ -4,7 +4,7 @@ ghost use mathlib.Core.Bool.{cond};
 ghost use Prim.Native.Nat.{ℕ, _*_, _+_, _≤_, _<_};
 ghost use lib.Dec.{eqb};
 ghost use lib.ListN.{length, drop};
-ghost use Rattle.sheet_format.specs.Levels.{level2};
+ghost use Rattle.sheet_format.specs.declared.Level.the-variants.{Level2};
 ghost use Rattle.sheet_format.specs.Bytes.{laneBytes};
 ghost use Rattle.sheet_format.specs.Read.{readRows};
 ghost use Rattle.sheet_format.specs.Relower.{relower};
@@ -66,8 +66,8 @@ fn put_row_if_kept(out: &mut [u8], at: usize, rows: &[u8], p: usize, n: usize, n
 pub fn relower_lane(out: &mut [u8], rows: &[u8], n: usize, new: &mut [u32])
     requires rows { ⌜ (n ≤ 320) × (8 * n ≤ length (now rows)) × (n < length (now new)) ⌝ }
     requires proper { ⌜ ((p : ℕ) → p < n → Proper (drop (8 * p) (now rows))) ⌝ }
-    requires { ⌜ length (laneBytes level2 (relower level2 (readRows n (now rows)))) ≡ length (now out) ⌝ }
-    ensures { λ r. ⌜ now (out .exit) ≡ laneBytes level2 (relower level2 (readRows n (now (rows .entry)))) ⌝ }
+    requires { ⌜ length (laneBytes Level2 (relower Level2 (readRows n (now rows)))) ≡ length (now out) ⌝ }
+    ensures { λ r. ⌜ now (out .exit) ≡ laneBytes Level2 (relower Level2 (readRows n (now (rows .entry)))) ⌝ }
 {
     find_positions(rows, n, new);
     let mut at = 0;

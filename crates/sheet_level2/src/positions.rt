@@ -2,7 +2,7 @@
 ghost use mathlib.Core.Path.{_≡_};
 ghost use Prim.Native.Nat.{_*_, _≤_, _<_};
 ghost use lib.ListN.{length};
-ghost use Rattle.sheet_format.specs.Levels.{level2};
+ghost use Rattle.sheet_format.specs.declared.Level.the-variants.{Level2};
 ghost use Rattle.sheet_format.specs.Read.{readRows};
 ghost use Rattle.sheet_format.specs.Relower.{relower};
 ghost use Rattle.sheet_level2.specs.Rows.{staysBy, PositionsTo};
@@ -38,7 +38,7 @@ pub(crate) fn find_positions(rows: &[u8], n: usize, new: &mut [u32])
 // How many of n rows stay.
 pub fn count_kept(rows: &[u8], n: usize) -> usize
     requires { ⌜ (n ≤ 320) × (8 * n ≤ length (now rows)) ⌝ }
-    ensures { λ r. ⌜ r ≡ length (relower level2 (readRows n (now (rows .entry)))) ⌝ }
+    ensures { λ r. ⌜ r ≡ length (relower Level2 (readRows n (now (rows .entry)))) ⌝ }
 {
     let mut kept: u32 = 0;
     let mut p = 0;

@@ -6,7 +6,7 @@ ghost use lib.Seq.{sets};
 ghost use Rattle.sheet_rows.specs.Rows.{partsIn};
 ghost use Rattle.sheet_format.specs.Bytes.{writeInto};
 ghost use Rattle.sheet_format.specs.Put.{inTurn};
-ghost use Rattle.sheet_format.specs.Levels.{level2};
+ghost use Rattle.sheet_format.specs.declared.Level.the-variants.{Level2};
 ghost use Rattle.sheet_format.specs.Read.{readRows};
 ghost use Rattle.sheet_format.specs.Relower.{relower as relowerAt, relowerBytes};
 ghost use Rattle.sheet_level2.specs.Readable.{Readable, Fitting, Kept, rowsAt2};
@@ -22,7 +22,7 @@ use sheet_rows::read::byte_at;
 // How many of the n rows from a byte on stay.
 fn kept_at(sheet: &[u8], first: usize, n: usize) -> usize
     requires { ⌜ (n ≤ 320) × (first + 8 * n ≤ length (now sheet)) ⌝ }
-    ensures { λ r. ⌜ (r ≡ length (relowerAt level2 (readRows n (drop first (now (sheet .entry)))))) × (r ≤ 320) ⌝ }
+    ensures { λ r. ⌜ (r ≡ length (relowerAt Level2 (readRows n (drop first (now (sheet .entry)))))) × (r ≤ 320) ⌝ }
 {
     count_kept(&sheet[first..], n)
 }

@@ -1,6 +1,4 @@
 -- Laws by subject.
--- Laws by subject.
-pub mod Fits
 pub mod Read
 pub mod Lanes
 pub mod Parts

@@ -7,12 +7,12 @@ use lib.ListN.{length, take, getElem?}
 use Rattle.file_format.specs.declared.accepted.Op.{Op}
 use Rattle.file_format.specs.declared.accepted.Op.the-variants.{Set, Add, Load, Store, Lock, Unlock, Skip}
 use Rattle.sheet_format.specs.Layout.{op}
-use Rattle.sheet_format.specs.Levels.{level1}
+use Rattle.sheet_format.specs.declared.Level.the-variants.{Level0}
 use Rattle.sheet_format.specs.Bytes.{laneBytes}
 use Rattle.sheet_rows.specs.declared.read.Row.{Row}
 
 abbrev pub opRows : List Op → List ℕ
-opRows ops = laneBytes level1 (map op ops)
+opRows ops = laneBytes Level0 (map op ops)
 
 -- the fields of an operation's row
 abbrev pub fieldsOf : Op → Row

@@ -1,68 +1,63 @@
-// Writing eight bytes of a sheet: a half of its header, or an instruction. Where they do not fit, nothing is written.
+// Writing bytes in place, numbers little-endian. Each `put_` that answers with a position needs room, and answers with
+// the position behind what it wrote; a half of a sheet's header and `put_row` write nothing where they do not fit.
 ghost use mathlib.Core.Path.{_≡_};
 ghost use mathlib.Core.List.{[], _∷_, _++_};
 ghost use Prim.Native.Nat.{_+_, _≤_};
 ghost use lib.ListN.{length};
 ghost use lib.Seq.{sets};
-ghost use Rattle.sheet_format.specs.Bytes.{wordBytes, row};
-ghost use Rattle.sheet_format.specs.Put.{laid};
+ghost use Rattle.sheet_format.specs.Bytes.{wordBytes, quadBytes, row};
+ghost use Rattle.sheet_format.specs.Put.{Puts, laid};
 ghost use Rattle.sheet_rows.specs.Eight.{eightIn};
 use crate::number::fits;
 use crate::number::low;
 
-// Eight bytes from `at` on, where there is room for them.
-pub fn store_eight(
-    out: &mut [u8],
-    at: usize,
-    a: u8,
-    b: u8,
-    c: u8,
-    d: u8,
-    e: u8,
-    f: u8,
-    g: u8,
-    h: u8,
-)
-    requires { ⌜ at + 8 ≤ length (now out) ⌝ }
-    ensures { λ r.
-        ⌜ now (out .exit) ≡ sets (now (out .entry)) at (a ∷ b ∷ c ∷ d ∷ e ∷ f ∷ g ∷ h ∷ []) ⌝ }
+pub fn put_four(out: &mut [u8], at: usize, a: u8, b: u8, c: u8, d: u8) -> usize
+    requires { ⌜ at + 4 ≤ length (now out) ⌝ }
+    ensures { λ r. ⌜ Puts (now (out .entry)) at (a ∷ b ∷ c ∷ d ∷ []) (now (out .exit)) r ⌝ }
 {
     out[at] = a;
     out[at + 1] = b;
     out[at + 2] = c;
     out[at + 3] = d;
-    out[at + 4] = e;
-    out[at + 5] = f;
-    out[at + 6] = g;
-    out[at + 7] = h;
+    at + 4
 }
 
-// Eight bytes from i on, copied.
+// Two numbers of 16 bits.
+pub fn put_words(out: &mut [u8], at: usize, a: usize, b: usize) -> usize
+    requires { ⌜ at + 4 ≤ length (now out) ⌝ }
+    ensures { λ r. ⌜ Puts (now (out .entry)) at (wordBytes a ++ wordBytes b) (now (out .exit)) r ⌝ }
+{
+    put_four(out, at, low(a), low(a / 256), low(b), low(b / 256))
+}
+
+// A number of 32 bits.
+pub fn put_quad(out: &mut [u8], at: usize, n: usize) -> usize
+    requires { ⌜ at + 4 ≤ length (now out) ⌝ }
+    ensures { λ r. ⌜ Puts (now (out .entry)) at (quadBytes n) (now (out .exit)) r ⌝ }
+{
+    put_words(out, at, n, n / 65536)
+}
+
+// Eight bytes from i on, copied. All are read before the first is written: so they are one store.
 pub fn copy_eight(out: &mut [u8], at: usize, s: &[u8], i: usize)
     requires { ⌜ (at + 8 ≤ length (now out)) × (i + 8 ≤ length (now s)) ⌝ }
     ensures { λ q. ⌜ now (out .exit) ≡ sets (now (out .entry)) at (eightIn (now (s .entry)) i) ⌝ }
 {
-    store_eight(
-        out,
-        at,
-        s[i],
-        s[i + 1],
-        s[i + 2],
-        s[i + 3],
-        s[i + 4],
-        s[i + 5],
-        s[i + 6],
-        s[i + 7],
-    );
+    let e = s[i + 4];
+    let f = s[i + 5];
+    let g = s[i + 6];
+    let h = s[i + 7];
+    let next = put_four(out, at, s[i], s[i + 1], s[i + 2], s[i + 3]);
+    put_four(out, next, e, f, g, h);
 }
 
-fn put_eight(out: &mut [u8], at: usize, a: u8, b: u8, c: u8, d: u8, e: u8, f: u8, g: u8, h: u8)
-    ensures { λ r.
-        ⌜ now (out .exit) ≡ laid (now (out .entry)) at (a ∷ b ∷ c ∷ d ∷ e ∷ f ∷ g ∷ h ∷ []) ⌝ }
+// An instruction: operation, a, b, zero and the four bytes of c.
+pub fn store_row(out: &mut [u8], at: usize, o: u8, a: u8, b: u8, c: u32) -> usize
+    requires { ⌜ at + 8 ≤ length (now out) ⌝ }
+    ensures { λ r. ⌜ Puts (now (out .entry)) at (row o a b c) (now (out .exit)) r ⌝ }
 {
-    if fits(out.len(), at) {
-        store_eight(out, at, a, b, c, d, e, f, g, h);
-    }
+    let next = put_four(out, at, o, a, b, 0);
+    put_quad(out, next, c as usize)
 }
 
 // The first half of the header: T, L, K, level, mask, two zero bytes.
@@ -70,18 +65,10 @@ pub fn put_first(out: &mut [u8], t: u8, ls: u8, ks: u8, level: u8, mask: u16)
     ensures { λ r. ⌜ now (out .exit) ≡ laid (now (out .entry)) 0
         (t ∷ ls ∷ ks ∷ level ∷ wordBytes mask ++ 0 ∷ 0 ∷ []) ⌝ }
 {
-    put_eight(
-        out,
-        0,
-        t,
-        ls,
-        ks,
-        level,
-        low(mask as usize),
-        low(mask as usize / 256),
-        0,
-        0,
-    );
+    if 8 <= out.len() {
+        let next = put_four(out, 0, t, ls, ks, level);
+        put_words(out, next, mask as usize, 0);
+    }
 }
 
 // The second half: four instruction counts.
@@ -90,35 +77,17 @@ pub fn put_counts(out: &mut [u8], a: usize, b: usize, c: usize, d: usize)
         ⌜ now (out .exit) ≡ laid (now (out .entry)) 8
         (wordBytes a ++ (wordBytes b ++ (wordBytes c ++ (wordBytes d ++ [])))) ⌝ }
 {
-    put_eight(
-        out,
-        8,
-        low(a),
-        low(a / 256),
-        low(b),
-        low(b / 256),
-        low(c),
-        low(c / 256),
-        low(d),
-        low(d / 256),
-    );
+    if 16 <= out.len() {
+        let next = put_words(out, 8, a, b);
+        put_words(out, next, c, d);
+    }
 }
 
-// Operation, a, b, zero and the four bytes of c from `at` on.
+// An instruction, where it fits.
 pub fn put_row(out: &mut [u8], at: usize, o: u8, a: u8, b: u8, c: u32)
     ensures { λ r. ⌜ now (out .exit) ≡ laid (now (out .entry)) at (row o a b c) ⌝ }
 {
-    let n = c as usize;
-    put_eight(
-        out,
-        at,
-        o,
-        a,
-        b,
-        0,
-        low(n),
-        low(n / 256),
-        low(n / 65536),
-        low(n / 65536 / 256),
-    );
+    if fits(out.len(), at) {
+        store_row(out, at, o, a, b, c);
+    }
 }

@@ -1,5 +1,3 @@
--- Small laws by subject.
 -- Laws by subject.
 pub mod Line
-pub mod Ones
 pub mod Sheet

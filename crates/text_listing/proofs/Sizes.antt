@@ -1,20 +1,21 @@
 -- How long a text is: at most 37 bytes of a refusal, and 26,187 of a lawful kernel's listing.
-use Prim.Native.Nat.{ℕ, zero, suc, _+_, _*_, _/_, _^_, _≤_, _<_}
+use Prim.Native.Nat.{ℕ, suc, _+_, _*_, _^_, _≤_, _<_}
 use mathlib.Core.List.{List, [], _∷_}
 use native.Mathlib.Omega.{arith}
-use lib.Count.{onesIn}
 use lib.ListN.{length, length-append, length-map}
+use Rattle.laws.proofs.Numbers.{ones-few}
 use Rattle.file_format.specs.declared.accepted.Op.the-variants.{Set, Add, Load, Store, Lock, Unlock, Skip}
 use Rattle.file_format.specs.Accepted.{Program}
 use Rattle.file_format.specs.Lawful.{Lawful}
 use Rattle.barrier_placement.specs.declared.cookbook.Barrier.the-variants.{LL, LS, SS, SL}
 use Rattle.sheet_format.specs.Layout.{Instr, op, barrier, sheet}
-use Rattle.sheet_format.specs.Levels.{level2, placed, placedLanes, sheetLanes, volatileIn}
+use Rattle.sheet_format.specs.declared.Level.the-variants.{Level2}
+use Rattle.sheet_format.specs.Levels.{placed, placedLanes, sheetLanes, volatileIn}
 use Rattle.sheet_format.specs.Read.{instrBy}
 use Rattle.sheet_format.proofs.Laws.Cells.{Each}
 use Rattle.sheet_format.proofs.Laws.Rows.{total}
 use Rattle.sheet_format.proofs.Fitting.{Fits, LaneFits, lanes-fit}
-use Rattle.sheet_format.proofs.Sizes.{sheet-size, sheet2-small}
+use Rattle.sheet_format.proofs.Sizes.{sheet-size, sheet-small}
 use Rattle.text_listing.specs.Line.{lineOf, firstLine, refusalLine}
 use Rattle.text_listing.specs.Ones.{ones}
 use Rattle.text_listing.specs.Listing.{laneLines, sheetLines, listing}
@@ -68,11 +69,6 @@ lanes-small lane (x ∷ xs) h w =
       lanes-small (suc lane) xs (omega arith) (w .1),
     )
 
-ones-few : (n m : ℕ) → onesIn n m ≤ n
-unfolding onesIn
-ones-few zero m = omega arith
-ones-few (suc n) m = omega (arith, ones-few n (m / 2))
-
 ones-small : (m : ℕ) → ones m ≤ 16
 unfolding ones
 ones-small m = ones-few 16 m
@@ -90,15 +86,15 @@ refusal-small n r hn hr = simp length-append (omega (arith, decimal-few n hn, de
 pub listing-small : (k : Program) → Lawful k → length (listing k) ≤ 26187
 unfolding listing
 listing-small k w =
-    let xs : List (List Instr) = sheetLanes level2 k in
+    let xs : List (List Instr) = sheetLanes Level2 k in
     let four : length xs ≤ 4 =
-    omega (arith, length-map (placedLanes level2 k) sheet, length-map (k .lanes) (placed level2 (volatileIn k))) in
+    omega (arith, length-map (placedLanes Level2 k) sheet, length-map (k .lanes) (placed Level2 (volatileIn k))) in
     omega (
       arith,
       length-append (firstLine (length (k .lanes)) (k .locations) (ones (k .mask)) (k .locks)) (sheetLines 0 xs),
       first-small (length (k .lanes)) (k .locations) (ones (k .mask)) (k .locks) (omega arith) (omega arith)
           (omega (arith, ones-small (k .mask))) (omega arith),
-      lanes-small 0 xs (omega arith) (lanes-fit level2 k w),
-      sheet-size level2 k,
-      sheet2-small k w,
+      lanes-small 0 xs (omega arith) (lanes-fit Level2 k w),
+      sheet-size Level2 k,
+      sheet-small Level2 k w,
     )

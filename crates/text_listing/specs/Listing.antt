@@ -5,7 +5,8 @@ use lib.ListN.{length, getD}
 use Rattle.file_format.specs.Accepted.{Program}
 use Rattle.file_verdict.specs.Verdict.{Verdict, refused, accepted, verdict}
 use Rattle.sheet_format.specs.Layout.{Instr}
-use Rattle.sheet_format.specs.Levels.{level2, sheetLanes}
+use Rattle.sheet_format.specs.declared.Level.the-variants.{Level2}
+use Rattle.sheet_format.specs.Levels.{sheetLanes}
 use Rattle.sheet_format.specs.Read.{readSheet}
 use Rattle.text_listing.specs.Line.{lineOf, firstLine, refusalLine}
 use Rattle.text_listing.specs.Ones.{ones}
@@ -23,7 +24,7 @@ sheetLines lane (is ∷ rest) = laneLines lane 0 is ++ sheetLines (suc lane) res
 -- The listing of an accepted kernel. The level 2 mask is zero: the volatile locations are the kernel's.
 unfoldable pub listing : Program → List ℕ
 listing k =
-    firstLine (length (k .lanes)) (k .locations) (ones (k .mask)) (k .locks) ++ sheetLines 0 (sheetLanes level2 k)
+    firstLine (length (k .lanes)) (k .locations) (ones (k .mask)) (k .locks) ++ sheetLines 0 (sheetLanes Level2 k)
 
 -- what is printed of a kernel file
 abbrev pub printedBy : Verdict → List ℕ

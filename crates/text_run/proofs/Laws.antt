@@ -1,5 +1,6 @@
 -- Small laws by subject.
--- Small laws by subject.
 pub mod Places
 pub mod Entry
 pub mod Moves
+pub mod Lines
+pub mod Ends

@@ -9,9 +9,9 @@ use lib.Dec.{eqb}
 use lib.ListN.{length, getD, getElem?, take, drop}
 use lib.Seq.{getD-set-same}
 use borrow.Author.Tests.{eq-eqb, ne-eqb}
+use Rattle.laws.proofs.Lists.{some-at}
 use Rattle.file_format.specs.declared.accepted.Op.{Op}
 use Rattle.file_format.specs.declared.accepted.Op.the-variants.{Set, Add, Load, Store, Lock, Unlock, Skip}
-use Rattle.file_format.proofs.Laws.Lists.{some-at}
 use Rattle.sheet_format.specs.Layout.{Instr, op, barrier, rank}
 use Rattle.sheet_format.specs.Read.{readInstr}
 use Rattle.machine_spec.specs.Entries.{Entry}

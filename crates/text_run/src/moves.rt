@@ -110,7 +110,8 @@ pub fn tell_move(
     t: u8,
     c: u8,
 ) -> usize
-    ensures { λ r. ⌜ Puts (now (out .entry)) 0
+    ensures { λ r. ⌜ (r ≤ 128)
+        × Puts (now (out .entry)) 0
         (moveLine (now (rows .entry)) (now (before .entry)) (now (after .entry)) n t c) (now (out .exit)) r ⌝ }
 {
     let i = put_decimal(out, 0, n);

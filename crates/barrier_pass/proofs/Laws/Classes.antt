@@ -3,16 +3,18 @@ use Prim.Native.Nat.{ℕ, _+_, _*_, _/_, _%_, _^_, _<_, _≤_}
 use native.Mathlib.Nat.{div-eq-of-lt}
 use native.Mathlib.Omega.{arith}
 use mathlib.Core.Path.{_≡_, refl, sym, ap, _∙_}
-use mathlib.Core.Bool.{Bool, true, false, cond}
+use mathlib.Core.Bool.{Bool, true, cond, Bool·beq}
 use mathlib.Core.List.{List}
 use lib.Dec.{leb, eqb}
 use lib.ListN.{getD}
 use borrow.Author.Tests.{leb-true}
 use mir.Val.{boolByte}
+use Rattle.laws.proofs.Bools.{by-test, beq-true}
+use Rattle.laws.proofs.Lists.{map-at}
+use Rattle.laws.proofs.Numbers.{values-at}
 use Rattle.file_format.specs.declared.accepted.Op.{Op}
 use Rattle.file_format.specs.declared.accepted.Op.the-variants.{Set, Add, Load, Store, Lock, Unlock, Skip as SkipOp}
 use Rattle.file_format.specs.Stored.{noOp}
-use Rattle.file_format.proofs.Laws.Lists.{map-at}
 use Rattle.barrier_placement.specs.declared.cookbook.Class.{Class}
 use Rattle.barrier_placement.specs.declared.cookbook.Class.the-variants.{PL, PS, VL, VS}
 use Rattle.barrier_placement.specs.declared.cookbook.Barrier.{Barrier}
@@ -24,7 +26,6 @@ use Rattle.barrier_placement.specs.Place.{standsAt, raises}
 use Rattle.barrier_placement.specs.Placed.{bit, bitOf, dueIn, landing}
 use Rattle.barrier_placement.specs.Steps.{stepOf, steps}
 use Rattle.barrier_placement.proofs.Laws.Bits.{bit-zero, bit-four}
-use Rattle.barrier_placement.proofs.Laws.Bools.{agrees, agree, below-at}
 use Rattle.barrier_placement.proofs.Laws.Bytes.{bit-small}
 use Rattle.barrier_placement.proofs.Laws.Cookbook.{everyClass, class-at, barrier-at}
 use Rattle.sheet_rows.specs.Lanes.{fieldsOf, Holds}
@@ -35,12 +36,7 @@ abbrev pub classIn : ℕ → ℕ
 classIn i = 4837750300328657988 / 2 ^ (4 * i) % 16
 
 pub class-small : (i : ℕ) → i < 16 → classIn i ≤ 4
-class-small i h = leb-true (classIn i) 4 (below-at (λ k. leb (classIn k) 4) 16 refl i h)
-
--- a law of a test, by its two values
-by-test : (f g : Bool → ℕ) → f true ≡ g true → f false ≡ g false → (u : Bool) → f u ≡ g u
-by-test f g t e true = t
-by-test f g t e false = e
+class-small i h = leb-true (classIn i) 4 (values-at (λ k. leb (classIn k) 4) (λ k. true) 16 i refl h)
 
 module _ (vol : ℕ → Bool) where
   abbrev entry : ℕ → Bool → ℕ
@@ -48,13 +44,13 @@ module _ (vol : ℕ → Bool) where
 
   -- the entry of an operation's code and location
   pub class-of : (o : Op) → entry (fieldsOf o .code % 8) (vol (fieldsOf o .b)) ≡ classByte (stepOf vol o)
-  class-of (Set a c) = by-test (entry 1) (λ u. 4) refl refl (vol 0)
-  class-of (Add a b) = by-test (entry 2) (λ u. 4) refl refl (vol b)
-  class-of (Load a x) = by-test (entry 3) (λ u. numberOf (cond u VL PL)) refl refl (vol x)
-  class-of (Store a x) = by-test (entry 4) (λ u. numberOf (cond u VS PS)) refl refl (vol x)
-  class-of (Lock l) = by-test (entry 5) (λ u. 2) refl refl (vol l)
-  class-of (Unlock l) = by-test (entry 6) (λ u. 3) refl refl (vol l)
-  class-of (SkipOp a t) = by-test (entry 7) (λ u. 4) refl refl (vol 0)
+  class-of (Set a c) = by-test (λ u. entry 1 u ≡ 4) refl refl (vol 0)
+  class-of (Add a b) = by-test (λ u. entry 2 u ≡ 4) refl refl (vol b)
+  class-of (Load a x) = by-test (λ u. entry 3 u ≡ numberOf (cond u VL PL)) refl refl (vol x)
+  class-of (Store a x) = by-test (λ u. entry 4 u ≡ numberOf (cond u VS PS)) refl refl (vol x)
+  class-of (Lock l) = by-test (λ u. entry 5 u ≡ 2) refl refl (vol l)
+  class-of (Unlock l) = by-test (λ u. entry 6 u ≡ 3) refl refl (vol l)
+  class-of (SkipOp a t) = by-test (λ u. entry 7 u ≡ 4) refl refl (vol 0)
 
   -- only a SKIP lands elsewhere than at 0
   pub landing-by : (o : Op)
@@ -77,11 +73,11 @@ class-stands Other n b h = ap (λ y. bit (y % 16) (bitOf b)) (div-eq-of-lt h) �
 
 -- one test of every cell
 abbrev callAgrees : Barrier → Class → Class → Bool
-callAgrees b c d = agrees (dueIn (getD callTable (numberOf c) 0) b d) (calls b c d)
+callAgrees b c d = Bool·beq (dueIn (getD callTable (numberOf c) 0) b d) (calls b c d)
 
 pub class-raises : (b : Barrier) (s : Step) (d : Class) → dueIn (getD callTable (classByte s) 0) b d ≡ raises b s d
 class-raises b (Access c) d =
-    agree _ _
+    beq-true _ _
     (class-at (callAgrees b c)
     (class-at (λ x. everyClass (callAgrees b x))
     (barrier-at (λ a. everyClass (λ x. everyClass (callAgrees a x))) refl b) c) d)

@@ -4,9 +4,11 @@ use native.Mathlib.Nat.{mod-lt, zero-div}
 use native.Mathlib.Omega.{arith}
 use mathlib.Core.Path.{_≡_, refl, _∙_, ap}
 use mathlib.Core.Bool.{Bool, true, false, not, _&&_, _||_, cond}
+use mathlib.Core.List.{[], _∷_}
 use lib.Bits.{bitOr, bitAnd, bitXor, or-shr, or-mod, and-shr, and-mod, xor-shr, xor-mod}
 use lib.Dec.{eqb}
 use lib.Pow.{shr-shr, field, mod-mod-pow}
+use Rattle.laws.proofs.Numbers.{table-at}
 use Rattle.barrier_placement.specs.Placed.{bit}
 
 -- an operation that works bit by bit, as a test does on the two bits
@@ -15,20 +17,13 @@ module _ (op : ℕ → ℕ → ℕ) (test : Bool → Bool → Bool)
     (low : (a b k : ℕ) → op a b % 2 ^ k ≡ op (a % 2 ^ k) (b % 2 ^ k))
     (none : eqb (op 0 0) 1 ≡ test false false) (second : eqb (op 0 1) 1 ≡ test false true)
     (first : eqb (op 1 0) 1 ≡ test true false) (both : eqb (op 1 1) 1 ≡ test true true) where
-  digit-by : (u v : ℕ) → u < 2 → v < 2 → eqb (op u v) 1 ≡ test (eqb u 1) (eqb v 1)
-  digit-by zero zero h k = none
-  digit-by zero (suc zero) h k = second
-  digit-by (suc zero) zero h k = first
-  digit-by (suc zero) (suc zero) h k = both
-  digit-by zero (suc (suc v)) h k = absurd (omega arith)
-  digit-by (suc zero) (suc (suc v)) h k = absurd (omega arith)
-  digit-by (suc (suc u)) v h k = absurd (omega arith)
-
   bit-by : (a b j : ℕ) → bit (op a b) j ≡ test (bit a j) (bit b j)
   bit-by a b j =
       ap (λ (x : ℕ). eqb (x % 2) 1) (shr a b j)
       ∙ ap (λ (x : ℕ). eqb x 1) (low (a / 2 ^ j) (b / 2 ^ j) 1)
-      ∙ digit-by (a / 2 ^ j % 2) (b / 2 ^ j % 2) (mod-lt (a / 2 ^ j) (omega arith)) (mod-lt (b / 2 ^ j) (omega arith))
+      ∙ table-at (λ u v. eqb (op u v) 1) (λ u v. test (eqb u 1) (eqb v 1)) 2 2
+      (λ i. (both i ∷ first i ∷ []) ∷ (second i ∷ none i ∷ []) ∷ [])
+      (a / 2 ^ j % 2) (b / 2 ^ j % 2) (mod-lt (a / 2 ^ j) (omega arith)) (mod-lt (b / 2 ^ j) (omega arith))
 
 pub bit-or : (a b j : ℕ) → bit (bitOr a b) j ≡ (bit a j || bit b j)
 bit-or = bit-by bitOr _||_ or-shr or-mod refl refl refl refl

@@ -2,14 +2,15 @@
 use Prim.Native.Nat.{ℕ, _*_, _/_, _%_, _^_, _<_, _≤_}
 use native.Mathlib.Omega.{arith}
 use mathlib.Core.Path.{_≡_, refl}
-use mathlib.Core.Bool.{Bool, true, false, cond}
+use mathlib.Core.Bool.{Bool, true, false, cond, Bool·beq}
 use mathlib.Core.Option.{Option, none, some}
 use lib.Dec.{leb, ltb}
 use borrow.Author.Tests.{leb-true, ltb-true}
+use Rattle.laws.proofs.Bools.{beq-true}
+use Rattle.laws.proofs.Numbers.{values-at}
 use Rattle.barrier_placement.specs.Cookbook.{Class, Barrier, LL, LS, SS, SL, codeOf, cellCode}
 use Rattle.barrier_placement.specs.Chain.{Step, Access, Skip, Other}
 use Rattle.barrier_placement.specs.Placed.{bit, bitOf, dueIn, setOf, landing}
-use Rattle.barrier_placement.proofs.Laws.Bools.{agrees, agree, below-at}
 use Rattle.barrier_placement.proofs.Laws.Cookbook.{everyClass, class-at, everyBarrier, barrier-at}
 
 pub bit-small : (b : Barrier) → bitOf b < 4
@@ -33,14 +34,14 @@ set-small (some b) = leb-true (2 ^ bitOf b) 8 (barrier-at (λ a. leb (2 ^ bitOf 
 
 -- a set of barriers, four times over
 abbrev spreadAgrees : ℕ → Barrier → Class → Bool
-spreadAgrees n b c = agrees (dueIn (n * 4369) b c) (bit n (bitOf b))
+spreadAgrees n b c = Bool·beq (dueIn (n * 4369) b c) (bit n (bitOf b))
 
 pub spread : (n : ℕ) → n < 16 → (b : Barrier) (c : Class) → dueIn (n * 4369) b c ≡ bit n (bitOf b)
 spread n h b c =
-    agree _ _
+    beq-true _ _
     (class-at (spreadAgrees n b)
     (barrier-at (λ a. everyClass (spreadAgrees n a))
-    (below-at (λ k. everyBarrier (λ a. everyClass (spreadAgrees k a))) 16 refl n h) b) c)
+    (values-at (λ k. everyBarrier (λ a. everyClass (spreadAgrees k a))) (λ k. true) 16 n refl h) b) c)
 
 pub landing-small : (s : Step) → landing s ≤ 64
 landing-small (Access c) = omega arith

@@ -7,9 +7,9 @@ use mathlib.Core.Option.{Option, none, some}
 use lib.Dec.{eqb, leb}
 use lib.ListN.{getD}
 use borrow.Author.Tests.{eqb-true, leb-true, eq-eqb}
+use Rattle.laws.proofs.Bools.{all-four}
 use Rattle.barrier_placement.specs.Cookbook.{Class, PL, PS, VL, VS, Barrier, LL, LS, SS, SL}
 use Rattle.barrier_placement.specs.Cookbook.{cell, codeOf, cellCode, numberOf, same, holds, calls}
-use Rattle.barrier_placement.proofs.Laws.Bools.{all-four}
 
 -- A test that passes at every class passes at each, and so for barriers.
 abbrev pub everyClass : (Class → Bool) → Bool

@@ -12,15 +12,16 @@ use lib.Dec.{eqb, leb}
 use lib.ListN.{length, getD, set, replicate, length-set}
 use lib.Seq.{getD-set-same, getD-set-other}
 use borrow.Author.Tests.{eq-eqb, ne-eqb, eqb-true, eqb-false, leb-false}
+use Rattle.laws.proofs.Bools.{or-absorbs}
+use Rattle.laws.proofs.Lists.{getD-replicate-all}
 use Rattle.barrier_placement.specs.Cookbook.{Class, Barrier, numberOf}
 use Rattle.barrier_placement.specs.Chain.{Step, Access, Skip, Other, Chain, at}
-use Rattle.barrier_placement.specs.Place.{has, noClasses, standsAt, raises, after, jumps, arrives, rowsTo, due}
+use Rattle.barrier_placement.specs.Place.{has, noClasses, standsAt, raises, after, jumps, arrives, dueAfter, due}
 use Rattle.barrier_placement.specs.Place.{stands}
 use Rattle.barrier_placement.specs.Placed.{bit, bitOf, dueIn, landing}
 use Rattle.barrier_placement.proofs.Laws.Bits.{bit-or, bit-zero}
 use Rattle.barrier_placement.proofs.Laws.Bytes.{landing-small}
-use Rattle.file_format.proofs.Laws.Lists.{replicate-at}
-use Rattle.barrier_placement.proofs.Laws.Rows.{row-has}
+use Rattle.barrier_placement.proofs.Laws.DueAfter.{due-after-has}
 
 -- a step jumps to a position ahead exactly where its landing is that position
 landing-jumps : (x : Step) (q : ℕ) → 0 < q → q ≤ 64 → jumps x q ≡ eqb (landing x) q
@@ -31,11 +32,6 @@ landing-jumps (Skip t) q h k = go (leb t 64) refl
     go true l = refl
     go false l = ne-eqb t q (λ e. omega (arith, leb-false t 64 l)) ∙ sym (ne-eqb 0 q (λ e. omega arith))
 landing-jumps Other q h k = sym (ne-eqb 0 q (λ e. omega arith))
-
-absorbed : (t u v : Bool) → (u || v) ≡ (u || ((t && u) || v))
-absorbed t true v = refl
-absorbed true false v = refl
-absorbed false false v = refl
 
 module _ (s : Chain) (b : Barrier) where
   -- what is due after position q
@@ -53,23 +49,23 @@ module _ (s : Chain) (b : Barrier) where
   jumped (suc q) x d = (jumps (at s q) x && left q d) || jumped q x d
 
   -- from below the position before p only jumps lead to p
-  arrives-jumped : (p k : ℕ) (d : Class) → k < p → arrives s (rowsTo s b p) k p d ≡ jumped k p d
+  arrives-jumped : (p k : ℕ) (d : Class) → k < p → arrives s (dueAfter s b p) k p d ≡ jumped k p d
   arrives-jumped p zero d h = refl
   arrives-jumped p (suc q) d h =
       let far : eqb p (suc q) ≡ false = ne-eqb p (suc q) (λ e. absurd (omega arith)) in
-      ap₂ (λ (t u : Bool). ((t || jumps (at s q) p) && has (getD (rowsTo s b p) q noClasses) d) || u)
+      ap₂ (λ (t u : Bool). ((t || jumps (at s q) p) && has (getD (dueAfter s b p) q noClasses) d) || u)
       far (arrives-jumped p q d (omega arith))
-      ∙ ap (λ (r : Bool). (jumps (at s q) p && r) || jumped q p d) (row-has s b p q d (omega arith))
+      ∙ ap (λ (r : Bool). (jumps (at s q) p && r) || jumped q p d) (due-after-has s b p q d (omega arith))
 
   -- what is due at p comes from the position before it, or was brought by jumps
   due-by : (p : ℕ) (d : Class) → due s b p d ≡ (passed p d || jumped p p d)
   unfolding due
   due-by zero d = refl
   due-by (suc q) d =
-      ap₂ (λ (t u : Bool). ((t || jumps (at s q) (suc q)) && has (getD (rowsTo s b (suc q)) q noClasses) d) || u)
+      ap₂ (λ (t u : Bool). ((t || jumps (at s q) (suc q)) && has (getD (dueAfter s b (suc q)) q noClasses) d) || u)
       (eq-eqb (suc q) (suc q) refl) (arrives-jumped (suc q) q d (omega arith))
-      ∙ ap (λ (r : Bool). r || jumped q (suc q) d) (row-has s b (suc q) q d (omega arith))
-      ∙ absorbed (jumps (at s q) (suc q)) (left q d) (jumped q (suc q) d)
+      ∙ ap (λ (r : Bool). r || jumped q (suc q) d) (due-after-has s b (suc q) q d (omega arith))
+      ∙ or-absorbs (left q d) (jumped q (suc q) d) (jumps (at s q) (suc q))
 
   -- what jumps from below p bring to each position from p on, gathered in a list of sets
   pub record Gathered (l : List ℕ) (p : ℕ) : Type 0 where
@@ -79,7 +75,9 @@ module _ (s : Chain) (b : Barrier) where
   gathered-none : Gathered (replicate 65 0) 0
   gathered-none = record {
     long = refl;
-    ahead = λ x h k d. ap (λ (n : ℕ). dueIn n b d) (replicate-at 65 x 0) ∙ bit-zero (4 * numberOf d + bitOf b);
+    ahead = λ x h k d.
+        let none = bit-zero (4 * numberOf d + bitOf b) in
+        getD-replicate-all (λ n. dueIn n b d ≡ false) 65 0 0 none none x;
   }
 
   -- one position more, at a step that does not jump to x, or does

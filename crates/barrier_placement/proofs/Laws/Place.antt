@@ -9,10 +9,10 @@ use mathlib.Core.Logic.{_⊎_, inl, inr}
 use lib.Dec.{eqb}
 use lib.ListN.{length}
 use borrow.Author.Tests.{eqb-true, eq-eqb}
+use Rattle.laws.proofs.Bools.{or-true, or-left, or-right}
 use Rattle.barrier_placement.specs.Cookbook.{Class, PL, PS, VL, VS, Barrier, cell}
 use Rattle.barrier_placement.specs.Chain.{Step, Access, Skip, Other, Chain, at, Next}
 use Rattle.barrier_placement.specs.Place.{has, classes, standsAt, raises, jumps, leads}
-use Rattle.barrier_placement.proofs.Laws.Bools.{or-true, or-left, or-right}
 use Rattle.barrier_placement.proofs.Laws.Cookbook.{calls-cell}
 
 pub has-classes : (f : Class → Bool) (c : Class) → has (classes f) c ≡ f c

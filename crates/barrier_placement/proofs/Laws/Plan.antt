@@ -1,27 +1,19 @@
 -- Laws of a plan that is written position by position.
-use Prim.Native.Nat.{ℕ, zero, suc, _+_, _*_, _/_, _%_, _<_, _≤_}
+use Prim.Native.Nat.{ℕ, suc, _+_, _*_, _/_, _%_, _<_, _≤_}
 use native.Mathlib.Nat.{div-one, eq-or-lt-of-le}
 use native.Mathlib.Numerals.{add-one}
 use native.Mathlib.Omega.{arith}
-use mathlib.Core.Path.{_≡_, refl, sym, _∙_, ap, ap₂, subst}
+use mathlib.Core.Path.{_≡_, sym, _∙_, ap}
 use mathlib.Core.List.{List, []}
 use mathlib.Core.Logic.{inl, inr}
-use lib.ListN.{length, set}
+use lib.ListN.{length, getD, set}
 use lib.Seq.{getD-set-same, getD-set-other}
 use Rattle.barrier_placement.specs.Cookbook.{Barrier, LL, LS, SS, SL}
 use Rattle.barrier_placement.specs.Place.{keep}
 use Rattle.barrier_placement.specs.Placed.{bit, bitOf}
-use Rattle.barrier_placement.specs.Sheet.{start}
 use Rattle.barrier_placement.specs.Plan.{barriersIn, standing, beginning, Counted}
 use Rattle.barrier_placement.proofs.Laws.Bits.{bit-four}
 use Rattle.barrier_placement.proofs.Laws.Bytes.{bit-small}
-
--- where a position begins depends on what stands before it alone
-pub start-agrees : (f g : ℕ → List Barrier) (k : ℕ) → ((j : ℕ) → j < k → f j ≡ g j) → start f k ≡ start g k
-start-agrees f g zero h = refl
-start-agrees f g (suc k) h =
-    ap₂ (λ (a : ℕ) (bs : List Barrier). a + suc (length bs)) (start-agrees f g k (λ j l. h j (omega arith)))
-    (h k (omega arith))
 
 -- a set of barriers below a multiple of 16 is the lowest bits
 pub bit-lowest : (a x : ℕ) → x < 16 → (b : Barrier) → bit (16 * a + x) (bitOf b) ≡ bit x (bitOf b)
@@ -30,34 +22,25 @@ bit-lowest a x h b =
     ap (bit (16 * a + x)) (omega arith) ∙ sym (bit-four (16 * a + x) 0 (bitOf b) (bit-small b))
     ∙ ap (λ n. bit n (bitOf b)) low
 
--- a plan that is written below p, whose next position begins at a
+-- a plan that is written below p, whose next position begins at a: with any number there that begins at a it counts
+-- up to p
 pub record WrittenTo (plan : List ℕ) (p a : ℕ) : Type 0 where
-  pub begun : (j : ℕ) → j < p → beginning plan j ≡ start (standing plan) j
-  pub next : a ≡ start (standing plan) p
+  pub counted : (v : ℕ) → v / 16 ≡ a → p < length plan → Counted (set plan p v) p
 
 pub written-none : (plan : List ℕ) → WrittenTo plan 0 0
-written-none plan = record { begun = λ j h. absurd (omega arith); next = refl }
+written-none plan = record {
+  counted = λ v e room. (ap (λ n. n / 16) (getD-set-same plan 0 v 0 room) ∙ e, λ p h. absurd (omega arith));
+}
 
 module _ {plan : List ℕ} {p a : ℕ} (w : WrittenTo plan p a) (room : p < length plan) (x : ℕ) (h : x < 16) where
   abbrev more : List ℕ
   more = set plan p (16 * a + x)
 
-  same-below : (k : ℕ) → k ≤ p → start (standing plan) k ≡ start (standing more) k
-  same-below k l =
-      start-agrees (standing plan) (standing more) k
-      (λ j i. ap barriersIn (sym (getD-set-other plan p j (16 * a + x) 0 (λ e. omega arith))))
+  pub written-all : Counted more p
+  written-all = w .counted (16 * a + x) (omega arith) room
 
-  here-begins : beginning more p ≡ start (standing more) p
-  here-begins =
-      let begin : (16 * a + x) / 16 ≡ a = omega arith in
-      ap (λ n. n / 16) (getD-set-same plan p (16 * a + x) 0 room) ∙ begin ∙ w .next ∙ same-below p (omega arith)
-
-  begins : (j : ℕ) → j ≤ p → beginning more j ≡ start (standing more) j
-  begins j l = elim (eq-or-lt-of-le l) [
-    | inl e ↦ subst (λ k. beginning more k ≡ start (standing more) k) (sym e) here-begins
-    | inr i ↦ ap (λ n. n / 16) (getD-set-other plan p j (16 * a + x) 0 (λ e. omega arith)) ∙ w .begun j i
-        ∙ same-below j l
-  ]
+  here-begins : beginning more p ≡ a
+  here-begins = ap (λ n. n / 16) (getD-set-same plan p (16 * a + x) 0 room) ∙ omega arith
 
   here-stands : standing more p ≡ barriersIn x
   here-stands =
@@ -65,14 +48,22 @@ module _ {plan : List ℕ} {p a : ℕ} (w : WrittenTo plan p a) (room : p < leng
       ∙ (λ i. keep (bit-lowest a x h LL i) LL (keep (bit-lowest a x h LS i) LS
       (keep (bit-lowest a x h SS i) SS (keep (bit-lowest a x h SL i) SL []))))
 
+  module _ (v : ℕ) (e : v / 16 ≡ a + suc (length (barriersIn x))) (room′ : p + 1 < length more) where
+    abbrev last : List ℕ
+    last = set more (p + 1) v
+
+    same : (j : ℕ) → j ≤ p → getD last j 0 ≡ getD more j 0
+    same j l = getD-set-other more (p + 1) j v 0 (λ q. omega arith)
+
+    counts : (j : ℕ) → j ≤ p → beginning last (suc j) ≡ beginning last j + suc (length (standing last j))
+    counts j l = rw (same j l) (elim (eq-or-lt-of-le l) [
+      | inl q ↦ rw (q, here-begins, here-stands) (ap (λ n. getD last n 0 / 16) (sym (add-one p))
+          ∙ ap (λ n. n / 16) (getD-set-same more (p + 1) v 0 room′) ∙ e)
+      | inr q ↦ ap (λ n. n / 16) (same (suc j) q) ∙ written-all .1 j q
+    ])
+
   pub written-more : WrittenTo more (p + 1) (a + suc (length (barriersIn x)))
   written-more = record {
-    begun = λ j l. begins j (omega arith);
-    next =
-        ap₂ (λ (k : ℕ) (bs : List Barrier). k + suc (length bs)) (w .next ∙ same-below p (omega arith))
-        (sym here-stands)
-        ∙ ap (start (standing more)) (sym (add-one p));
+    counted = λ v e room′.
+        (ap (λ n. n / 16) (same v e room′ 0 (omega arith)) ∙ written-all .0, λ j l. counts v e room′ j (omega arith));
   }
-
-  pub written-all : Counted more p
-  written-all = begins

@@ -1,15 +1,15 @@
--- Laws of updating one lane of a state, and one place of a list of values.
+-- Laws of updating one lane of a state.
 use mathlib.Core.Path.{_≡_, sym, subst}
 use mathlib.Core.List.{List, []}
 use mathlib.Core.Logic.{_≢_}
 use Prim.Native.Nat.{ℕ, _<_}
-use native.Mathlib.Decide.{ℕ-discrete, decLt}
+use native.Mathlib.Decide.{decLt}
 use native.Mathlib.Omega.{arith}
-use lib.ListN.{length, getD, length-set, replicate, List·getD-eq-default, set as update}
-use lib.Seq.{getD-set-same, getD-set-other, set-getD, set-out}
+use lib.ListN.{length, length-set, replicate, List·getD-eq-default}
+use lib.Seq.{getD-set-same, set-getD}
+use Rattle.laws.proofs.Lists.{set-each, pointwise-set, getD-replicate-all}
 use Rattle.machine_spec.specs.Step.{Control, Core}
 use Rattle.machine_spec.specs.State.{Lane, State, atStart, startState, idle, laneAt, coreOf, laneOf, setLane}
-use Rattle.claims.proofs.Laws.Lists.{update-each, pointwise-set, getD-replicate-all}
 
 -- to put a lane's own core back changes nothing
 pub set-lane-own : (a : State) (t : ℕ) → setLane a t (laneAt a t .control) (coreOf a (laneAt a t)) ≡ a
@@ -25,7 +25,7 @@ set-lane-same a t k c lt = getD-set-same (a .lanes) t (laneOf k c) idle lt
 -- what holds of the lane put, and held of each other one
 pub set-lane-each : (P : ℕ → Lane → Type 0) (a : State) (t : ℕ) (k : Control) (c : Core) → t < length (a .lanes)
     → P t (laneOf k c) → ((u : ℕ) → u ≢ t → P u (laneAt a u)) → (u : ℕ) → P u (laneAt (setLane a t k c) u)
-set-lane-each P a t k c lt = update-each P idle (a .lanes) t (laneOf k c) lt
+set-lane-each P a t k c lt = set-each P idle (a .lanes) t (laneOf k c) lt
 
 -- what holds of the lanes of two states, after lane t is put in both
 pub set-lane-both : (R : ℕ → Lane → Lane → Type 0) (a b : State) → length (a .lanes) ≡ length (b .lanes)
@@ -48,13 +48,3 @@ lane-each P a n e p h t = go (decLt t n)
     go : Dec (t < n) → P (laneAt a t)
     go (yes lt) = h t lt
     go (no ge) = subst P (sym (List·getD-eq-default (a .lanes) idle {n = t} (omega arith))) p
-
--- what holds of each value and of a new one holds after the update
-pub update-all : (P : ℕ → Type 0) (l : List ℕ) (a v : ℕ) → ((i : ℕ) → P (getD l i 0)) → P v
-    → (i : ℕ) → P (getD (update l a v) i 0)
-update-all P l a v h pv i = go (ℕ-discrete i a) (decLt a (length l))
-  where
-    go : Dec (i ≡ a) → Dec (a < length l) → P (getD (update l a v) i 0)
-    go (yes e) (yes k) = rw (e, getD-set-same l a v 0 k) pv
-    go (yes e) (no k) = rw (set-out l a v (omega arith)) (h i)
-    go (no e) k = rw (getD-set-other l a i v 0 e) (h i)

@@ -5,8 +5,7 @@ use mathlib.Core.List.{List, [], _∷_, _++_}
 use Prim.Native.Nat.{ℕ, zero, suc}
 use lib.Dec.{eqb}
 use borrow.Author.Tests.{eqb-true}
-use Rattle.barrier_placement.proofs.Laws.Bools.{or-right}
-use Rattle.claims.proofs.Laws.Bools.{or-false, or-swap, or-mono}
+use Rattle.laws.proofs.Bools.{or-right, or-false, or-swap, or-mono, by-test}
 use Rattle.machine_spec.specs.Entries.{Entry, write, release, isSync, anySync, isNil, newest, without}
 use Rattle.machine_spec.specs.declared.Machine.{Machine}
 use Rattle.machine_spec.specs.declared.Machine.the-variants.{Source, Target}
@@ -50,8 +49,4 @@ pub oldest-commits : (m : Machine) (vol : ℕ → Bool) (older : List Entry) (e 
     → mayCommit m vol older e ≡ true
 oldest-commits m vol (y ∷ older) e h = cc
 oldest-commits (Target Tso) vol [] e h = refl
-oldest-commits Source vol [] e h = go (isSync vol e)
-  where
-    go : (b : Bool) → cond b true true ≡ true
-    go true = refl
-    go false = refl
+oldest-commits Source vol [] e h = by-test (λ b. cond b true true ≡ true) refl refl (isSync vol e)

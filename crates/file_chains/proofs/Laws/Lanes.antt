@@ -8,10 +8,10 @@ use native.Mathlib.Numerals.{add-one}
 use native.Mathlib.Decide.{decLe}
 use lib.ListN.{length, getD, take, drop, set, replicate, length-append, length-set, length-take, take-append-drop}
 use lib.Seq.{getD-set-same, getD-set-other, take-append-seam, drop-append-seam}
+use Rattle.laws.proofs.Lists.{getD-replicate-all}
 use Rattle.file_format.specs.Fields.{recordCount, head}
 use Rattle.file_format.specs.Search.{lowest}
 use Rattle.file_format.specs.Linkage.{chain, linkageFrom, badLinkage}
-use Rattle.file_format.proofs.Laws.Lists.{replicate-at}
 use Rattle.file_format.proofs.Laws.Linkage.{linkage-on, linkage-end}
 use Rattle.file_chains.specs.Ordered.{beginOf, recordsIn, Ordered}
 use Rattle.file_chains.specs.Walks.{met, fronts, Filling, LaneWalked}
@@ -37,10 +37,10 @@ linking-start s few =
         order-room = refl;
         place-room = refl;
         counted = tally-none (met (replicate 257 0)) 1 (recordCount s)
-            (λ j. met-down (replicate 257 0) j (replicate-at {A = ℕ} 257 j 0));
+            (λ j. met-down (replicate 257 0) j (getD-replicate-all {A = ℕ} (λ n. n ≡ 0) 257 0 0 refl refl j));
         named = λ j h. absurd (omega arith);
         placed = λ j h. absurd (omega arith);
-        every = λ i up. absurd (omega (arith, replicate-at {A = ℕ} 257 i 0));
+        every = λ i up. absurd (omega (arith, getD-replicate-all {A = ℕ} (λ n. n ≡ 0) 257 0 0 refl refl i));
       };
       few = few;
       four = refl;

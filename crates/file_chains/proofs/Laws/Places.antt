@@ -3,6 +3,7 @@ use Prim.Native.Nat.{ℕ, zero, suc, _+_, _-_, _≤_, _<_}
 use mathlib.Core.Path.{_≡_, refl, sym, ap, _∙_}
 use mathlib.Core.Bool.{Bool, true, false, cond}
 use mathlib.Core.List.{List}
+use mathlib.Core.Logic.{inr}
 use native.Mathlib.Omega.{arith}
 use native.Mathlib.Decide.{decLe}
 use borrow.Author.Tests.{eqb-true, not-false}
@@ -144,7 +145,7 @@ module _ {s order place ends : List ℕ} (o : Ordered s order place ends) where
         found-at : getD order (beginOf ends t + (p + 1 + position x (behind order ends t p))) 0 ≡ x
         found-at =
             sym (behind-at (position x (behind order ends t p)) h)
-            ∙ position-at x (behind order ends t p) h
+            ∙ position-at x (behind order ends t p) (inr h)
 
         pub found-place : getD place x 0 ≡ beginOf ends t + (p + 1 + position x (behind order ends t p)) + 1
         found-place =

@@ -9,8 +9,8 @@ use borrow.Author.Tests.{eq-eqb, ne-eqb, eqb-false, not-true, not-false}
 use lib.Dec.{eqb}
 use lib.ListN.{length, getD, set, List·getD-map}
 use lib.Seq.{getD-set-same, getD-set-other}
+use Rattle.laws.proofs.Lists.{map-set}
 use Rattle.file_format.specs.Search.{lowest}
-use Rattle.file_format.proofs.Laws.Lists.{map-set}
 use Rattle.file_format.proofs.Laws.Search.{nothing-found}
 use Rattle.file_chains.specs.Walks.{given, met, bit, tally}
 

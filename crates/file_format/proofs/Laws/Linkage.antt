@@ -132,3 +132,23 @@ module _ (s : List ℕ) (met : List Bool) (t e : ℕ) {a : ℕ} where
   linkage-end h inv =
       let q : e - t ≡ 0 = omega arith in
       rw q at inv
+
+-- a chain that ends within k records is the same with more room
+pub chain-room : (s : List ℕ) (k r j : ℕ) → getD (chain s (suc k) r) k 0 ≡ 0 → chain s (k + j) r ≡ chain s k r
+chain-room s zero r j e =
+    let z : r ≡ 0 = last-one s r ∙ e in
+    chain-stop s (0 + j) r z ∙ sym (chain-stop s 0 r z)
+chain-room s (suc k) r j e = go (decLe 1 r) (chain-room s k (next s r) j)
+  where
+    go : Dec (1 ≤ r) → (getD (chain s (suc k) (next s r)) k 0 ≡ 0 → chain s (k + j) (next s r) ≡ chain s k (next s r))
+        → chain s (suc k + j) r ≡ chain s (suc k) r
+    go (no l) ih =
+        let z : r ≡ 0 = omega arith in
+        chain-stop s (suc k + j) r z ∙ sym (chain-stop s (suc k) r z)
+    go (yes l) ih =
+        let n : r ≡ 0 → ⊥ = λ z. omega arith in
+        let q : suc k + j ≡ suc (k + j) = omega arith in
+        rw q
+        (chain-suc s (k + j) r n
+        ∙ ap (λ l. r ∷ l) (ih (sym (ap (λ l. getD l (suc k) 0) (chain-suc s (suc k) r n)) ∙ e))
+        ∙ sym (chain-suc s k r n))

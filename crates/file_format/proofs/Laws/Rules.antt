@@ -1,19 +1,21 @@
 -- What a header and a record that keep their rules have.
 use Prim.Native.Nat.{ℕ, zero, suc, _+_, _^_, _≤_, _<_}
-use mathlib.Core.Path.{_≡_, refl, sym, ap, ap₂, _∙_}
+use mathlib.Core.Path.{_≡_, refl, ap, ap₂, _∙_}
 use mathlib.Core.List.{List, [], _∷_}
-use mathlib.Core.Bool.{Bool, true, false, not, cond}
+use mathlib.Core.Bool.{Bool, true, not, cond}
 use lib.Dec.{ltb, leb, eqb}
-use lib.ListN.{length, getD, List·getD-eq-default}
+use lib.ListN.{length, getD}
 use native.Mathlib.Omega.{arith}
-use borrow.Author.Tests.{ltb-true, ltb-false, leb-true, le-ltb, not-false}
+use borrow.Author.Tests.{ltb-true, leb-true, le-ltb, not-false}
+use Rattle.laws.proofs.Bools.{cond-by}
+use Rattle.laws.proofs.Lists.{getD-within}
+use Rattle.laws.proofs.Numbers.{below-four}
 use Rattle.file_format.specs.Fields.{laneCount, locations, locks, mask, recordCount, head}
 use Rattle.file_format.specs.Fields.{operation, registerA, operandB, reserved, constant, target, next}
 use Rattle.file_format.specs.Rules.{headRule, headerTests, headerRule, recordTests, recordRule, badRecord}
 use Rattle.file_format.specs.Rules.{rowA, rowB, rowConstant, rowTarget, limitA, limitB, limitConstant}
 use Rattle.file_format.specs.Rules.{limitTarget, Limits}
 use Rattle.file_format.specs.Search.{all}
-use Rattle.file_format.proofs.Laws.Lists.{below-four}
 use Rattle.file_format.proofs.Laws.Search.{all-at, nothing-found}
 
 module _ (s : List ℕ) (ok : headerRule s ≡ true) where
@@ -57,11 +59,10 @@ module _ (s : List ℕ) (ok : headerRule s ≡ true) where
 
   -- the head of each lane is one of the file's records, or 0
   pub head-range : (t : ℕ) → t < 4 → head s t ≤ recordCount s
-  head-range t h = omega (arith, head-limit t h, most (ltb t (laneCount s)))
-    where
-      most : (b : Bool) → cond b (recordCount s) 0 ≤ recordCount s
-      most true = omega arith
-      most false = omega arith
+  head-range t h =
+      let most = cond-by (λ n. n ≤ recordCount s) (ltb t (laneCount s)) (recordCount s) 0 (λ e. omega arith)
+      (λ e. omega arith) in
+      omega (arith, head-limit t h)
 
   -- lanes from T up are empty
   pub head-none : (t : ℕ) → t < 4 → laneCount s ≤ t → head s t ≡ 0
@@ -103,15 +104,6 @@ module _ (s : List ℕ) (ok : badRecord s ≡ 0) (i : ℕ) (lo : 1 ≤ i) (hi : 
 
 -- ## the limits of an operation
 
--- row 0, whose limit is 0, stands for every operation that has no row
-row-limit : (row : List ℕ) → length row ≡ 8 → getD row 0 0 ≡ 0 → (op : ℕ)
-    → getD row (cond (ltb op 8) op 0) 0 ≡ getD row op 0
-row-limit row len none op = go (ltb op 8) refl
-  where
-    go : (b : Bool) → ltb op 8 ≡ b → getD row (cond b op 0) 0 ≡ getD row op 0
-    go true e = refl
-    go false e = none ∙ sym (List·getD-eq-default row 0 {n = op} (omega (arith, len, ltb-false op 8 e)))
-
 module _ {s : List ℕ} {n : ℕ} {a b constant target : List ℕ} (l : Limits s n a b constant target) where
   -- there are eight rows
   pub rows-eight : (length a ≡ 8) × (length b ≡ 8) × (length constant ≡ 8) × (length target ≡ 8)
@@ -120,19 +112,19 @@ module _ {s : List ℕ} {n : ℕ} {a b constant target : List ℕ} (l : Limits s
   module _ {r : ℕ} (op : ℕ) (e : r ≡ cond (ltb op 8) op 0) where
     pub limit-a : getD a r 0 ≡ limitA op
     unfolding limitA
-    limit-a = ap₂ (λ x y. getD x y 0) (l .a-row) e ∙ row-limit rowA refl refl op
+    limit-a = ap₂ (λ x y. getD x y 0) (l .a-row) e ∙ getD-within rowA 8 refl refl op
 
     pub limit-b : getD b r 0 ≡ limitB (locations s) (locks s) op
     unfolding limitB
-    limit-b = ap₂ (λ x y. getD x y 0) (l .b-row) e ∙ row-limit (rowB (locations s) (locks s)) refl refl op
+    limit-b = ap₂ (λ x y. getD x y 0) (l .b-row) e ∙ getD-within (rowB (locations s) (locks s)) 8 refl refl op
 
     pub limit-constant : getD constant r 0 ≡ limitConstant op
     unfolding limitConstant
-    limit-constant = ap₂ (λ x y. getD x y 0) (l .constant-row) e ∙ row-limit rowConstant refl refl op
+    limit-constant = ap₂ (λ x y. getD x y 0) (l .constant-row) e ∙ getD-within rowConstant 8 refl refl op
 
     pub limit-target : getD target r 0 ≡ limitTarget (recordCount s) op
     unfolding limitTarget
-    limit-target = ap₂ (λ x y. getD x y 0) (l .target-row) e ∙ row-limit (rowTarget (recordCount s)) refl refl op
+    limit-target = ap₂ (λ x y. getD x y 0) (l .target-row) e ∙ getD-within (rowTarget (recordCount s)) 8 refl refl op
 
 -- the six tests of a record together
 pub rule-by : (s : List ℕ) (i : ℕ) {t₁ t₂ t₃ t₄ t₅ t₆ : Bool}

@@ -3,6 +3,7 @@ use Prim.Native.Nat.{ℕ, zero, suc, _≤_, _<_}
 use mathlib.Core.Path.{_≡_, refl, sym, _∙_}
 use mathlib.Core.List.{List, [], _∷_}
 use mathlib.Core.Bool.{Bool, true, false, false≢true}
+use mathlib.Core.Logic.{_⊎_, inl, inr, ⊎-elim}
 use native.Mathlib.Omega.{arith}
 use borrow.Author.Tests.{eq-eqb, ne-eqb, eqb-true, eqb-false}
 use lib.ListN.{length, getD}
@@ -47,17 +48,19 @@ member-position x (y ∷ l) h = go (eqb x y) refl (member-position x l)
         let apart = eqb-false x y e in
         omega (arith, position-on x y l apart, ih (sym (member-on x y l apart) ∙ h))
 
-pub position-at : (x : ℕ) (l : List ℕ) → position x l < length l → getD l (position x l) 0 ≡ x
+-- what stands at the position of a number that the list has, or of 0, which is read past the end too
+pub position-at : (x : ℕ) (l : List ℕ) → (x ≡ 0) ⊎ (position x l < length l) → getD l (position x l) 0 ≡ x
 unfolding position
-position-at x [] h = absurd (omega arith)
+position-at x [] (inl z) = sym z
+position-at x [] (inr h) = absurd (omega arith)
 position-at x (y ∷ l) h = go (eqb x y) refl (position-at x l)
   where
-    go : (b : Bool) → eqb x y ≡ b → (position x l < length l → getD l (position x l) 0 ≡ x)
+    go : (b : Bool) → eqb x y ≡ b → ((x ≡ 0) ⊎ (position x l < length l) → getD l (position x l) 0 ≡ x)
         → getD (y ∷ l) (position x (y ∷ l)) 0 ≡ x
     go true e ih = rw (position-here x y l (eqb-true x y e)) (sym (eqb-true x y e))
     go false e ih =
         let there = position-on x y l (eqb-false x y e) in
-        rw there (ih (omega (arith, there)))
+        rw there (ih (⊎-elim inl (λ k. inr (omega (arith, there))) h))
 
 pub at-member : (x : ℕ) (l : List ℕ) (q : ℕ) → q < length l → getD l q 0 ≡ x → member x l ≡ true
 unfolding member

@@ -5,13 +5,14 @@ use mathlib.Core.Bool.{Bool, true, false, not, cond}
 use mathlib.Core.List.{List, []}
 use native.Mathlib.Omega.{arith}
 use native.Mathlib.Decide.{decLt}
-use borrow.Author.Tests.{ltb-true, lt-ltb, le-ltb, eq-eqb, ne-eqb, eqb-true, eqb-false}
+use borrow.Author.Tests.{ltb-true, lt-ltb, le-ltb, ne-eqb, eqb-true, eqb-false}
 use lib.Dec.{eqb, ltb}
 use lib.ListN.{getD, set, List·getD-eq-default}
 use lib.Seq.{set-out}
+use Rattle.laws.proofs.Bools.{by-test}
+use Rattle.laws.proofs.Numbers.{table-at, values-at, eqb-add}
 use Rattle.file_format.specs.Held.{same}
-use Rattle.file_locks.specs.Sets.{bitFor, stepNumber, locksIn, bring, partsLed}
-use Rattle.file_format.proofs.Laws.Lists.{table-at}
+use Rattle.file_locks.specs.Sets.{bitFor, stepNumber, locksIn, bring, conflictsLed}
 
 -- Facts on sets and locks that one table of all of them has. Equal sets have equal numbers.
 pub locks-same : (h g : ℕ) → h < 16 → g < 16 → same (locksIn h) (locksIn g) ≡ eqb h g
@@ -27,7 +28,7 @@ bit-small l = go (decLt l 4)
   where
     go : Dec (l < 4) → bitFor l < 16
     go (yes near) =
-        ltb-true _ _ (table-at (λ (m n : ℕ). ltb (bitFor n) 16) (λ m n. true) 1 4 refl 0 l (omega arith) near)
+        ltb-true _ _ (values-at (λ n. ltb (bitFor n) 16) (λ n. true) 4 l refl near)
     go (no n) = omega (arith, bit-far l (omega arith))
 
 -- ## the set after an operation, by a table of all sets and locks
@@ -47,11 +48,11 @@ is-known g x y e small = subst (λ (b : Bool). cond b [] x ≡ cond b [] y) (le-
 
 module _ (h : ℕ) (small : h < 16) where
   set-far : (b : Bool) → stepNumber h 0 b false ≡ h
-  set-far true = table-at (λ (g m : ℕ). stepNumber g 0 true false) (λ g m. g) 16 1 refl h 0 small (omega arith)
-  set-far false = table-at (λ (g m : ℕ). stepNumber g 0 false false) (λ g m. g) 16 1 refl h 0 small (omega arith)
+  set-far true = values-at (λ g. stepNumber g 0 true false) (λ g. g) 16 h refl small
+  set-far false = values-at (λ g. stepNumber g 0 false false) (λ g. g) 16 h refl small
 
   free-far : stepNumber h 0 false true ≡ 16 + h
-  free-far = table-at (λ (g m : ℕ). stepNumber g 0 false true) (λ g m. 16 + g) 16 1 refl h 0 small (omega arith)
+  free-far = values-at (λ g. stepNumber g 0 false true) (λ g. 16 + g) 16 h refl small
 
   pub step-other : (l : ℕ) → stepNumber h (bitFor l) false false ≡ h
   step-other l = go (decLt l 4)
@@ -112,31 +113,21 @@ module _ (h : ℕ) (small : h < 16) where
 
 -- what SKIPs led, and one SKIP more with the set g, at a position with the set h
 module _ (led g h : ℕ) (small : h < 16) where
-  moved : (b : Bool) → eqb g h ≡ b → eqb (16 + g) (16 + h) ≡ b
-  moved true e = eq-eqb (16 + g) (16 + h) (ap (λ x. 16 + x) (eqb-true g h e))
-  moved false e = ne-eqb (16 + g) (16 + h) (λ z. eqb-false g h e (omega arith))
-
-  differ : (b : Bool) → eqb g h ≡ b → eqb led (16 + g) ≡ false → true ≡ cond (not b) true (not (eqb led (16 + h)))
-  differ true e other =
-      rw (ne-eqb led (16 + h) (λ z. eqb-false led (16 + g) other (z ∙ ap (λ x. 16 + x) (sym (eqb-true g h e)))))
-  differ false e other = refl
-
-  pub led-more : partsLed (bring led g) h ≡ cond (not (eqb g h)) true (partsLed led h)
+  pub led-more : conflictsLed (bring led g) h ≡ cond (not (eqb g h)) true (conflictsLed led h)
   led-more = go (eqb led 0) refl (eqb led (16 + g)) refl
     where
-      once : (b : Bool) → not b ≡ cond (not b) true false
-      once true = refl
-      once false = refl
-
-      twice : (b : Bool) → not b ≡ cond (not b) true (not b)
-      twice true = refl
-      twice false = refl
+      differ : (b : Bool) → eqb g h ≡ b → eqb led (16 + g) ≡ false → true ≡ cond (not b) true (not (eqb led (16 + h)))
+      differ true e other =
+          rw (ne-eqb led (16 + h) (λ z. eqb-false led (16 + g) other (z ∙ ap (λ x. 16 + x) (sym (eqb-true g h e)))))
+      differ false e other = refl
 
       go : (a : Bool) → eqb led 0 ≡ a → (b : Bool) → eqb led (16 + g) ≡ b
-          → partsLed (bring led g) h ≡ cond (not (eqb g h)) true (partsLed led h)
-      go true empty b eb = rw (empty, ne-eqb (16 + g) 0 (λ e. omega arith), moved (eqb g h) refl) (once (eqb g h))
+          → conflictsLed (bring led g) h ≡ cond (not (eqb g h)) true (conflictsLed led h)
+      go true empty b eb =
+          rw (empty, ne-eqb (16 + g) 0 (λ e. omega arith), eqb-add 16 g h)
+          (by-test (λ b. not b ≡ cond (not b) true false) refl refl (eqb g h))
       go false full true alike =
-          rw (full, alike, full, ap (λ x. eqb x (16 + h)) (eqb-true led (16 + g) alike) ∙ moved (eqb g h) refl)
-          (twice (eqb g h))
+          rw (full, alike, full, ap (λ x. eqb x (16 + h)) (eqb-true led (16 + g) alike) ∙ eqb-add 16 g h)
+          (by-test (λ b. not b ≡ cond (not b) true (not b)) refl refl (eqb g h))
       go false full false other =
           rw (full, other, ne-eqb 255 (16 + h) (λ e. omega arith)) (differ (eqb g h) refl other)

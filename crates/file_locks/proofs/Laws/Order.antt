@@ -20,9 +20,9 @@ use Rattle.file_format.proofs.Laws.Rules.{few-records, head-range}
 use Rattle.file_format.proofs.Laws.Stored.{opsFrom-length}
 use Rattle.file_chains.specs.Ordered.{beginOf, countOf, recordsIn, Ordered}
 use Rattle.file_chains.proofs.Laws.Places.{end-inside, lane-length, lane-records}
-use Rattle.sheet_format.specs.Bytes.{over}
+use Rattle.sheet_format.specs.declared.Level.the-variants.{Level0}
+use Rattle.sheet_format.specs.Bytes.{over, sheetBytes}
 use Rattle.sheet_rows.specs.Lanes.{fieldsOf}
-use Rattle.file_rows.specs.Chains.{chainBytes}
 use Rattle.file_rows.proofs.Laws.Holds.{many, before, many-small, lane-holds}
 use Rattle.file_locks.specs.Sets.{noJump, jumpOr}
 use Rattle.file_locks.specs.Lanes.{LaneIn}
@@ -70,7 +70,7 @@ module _ (s order place ends : List ℕ) (st : Structured s) (ordered : Ordered 
       omega (arith, begin-is t (omega arith), count-is t (omega arith), ordered .rising t (omega arith))
 
   module _
-      (rows own : List ℕ) (front : rows ≡ over (chainBytes (programOf s)) own)
+      (rows own : List ℕ) (front : rows ≡ over (sheetBytes Level0 (programOf s)) own)
       (room : 16 + 8 * recordCount s ≤ length own) (t : ℕ) (below : t < 4)
     where
       lane-in : LaneIn (drop (16 + 8 * before s t) rows) (many s t) (opsAt s (head s t))
@@ -100,7 +100,7 @@ module _ (s order place ends : List ℕ) (st : Structured s) (ordered : Ordered 
             omega (arith, ordered .rising t below),
             omega (arith, inside, few-records s (st .fields .header)),
             omega (arith, count-is t below, many-small s t),
-            omega (arith, inside, rows-room rows own (chainBytes (programOf s)) front, room),
+            omega (arith, inside, rows-room rows own (sheetBytes Level0 (programOf s)) front, room),
             ordered .order-room,
           )
 

@@ -4,7 +4,7 @@ use mathlib.Core.Path.{_≡_, refl, sym, ap, _∙_}
 use mathlib.Core.Bool.{Bool, true, false, not, cond}
 use mathlib.Core.List.{List}
 use native.Mathlib.Omega.{arith}
-use borrow.Author.Tests.{ltb-false, eq-eqb, ne-eqb}
+use borrow.Author.Tests.{eq-eqb, ne-eqb}
 use lib.Dec.{eqb, ltb}
 use lib.ListN.{length, getD, set, replicate}
 use Rattle.file_format.specs.declared.accepted.Op.{Op}
@@ -13,7 +13,7 @@ use Rattle.file_format.specs.Search.{lowest}
 use Rattle.file_format.specs.Stored.{noOp}
 use Rattle.file_format.proofs.Laws.Search.{search-start, search-on, search-found, search-none}
 use Rattle.sheet_rows.specs.Lanes.{fieldsOf}
-use Rattle.file_locks.specs.Sets.{locksIn, bring, partsLed}
+use Rattle.file_locks.specs.Sets.{locksIn, bring, conflictsLed}
 use Rattle.file_locks.specs.Lanes.{LaneIn, Stepped}
 use Rattle.file_locks.proofs.Laws.Held.{row-code, row-b, row-target, jump-by, held-on}
 use Rattle.file_locks.proofs.Laws.Sets.{LedTo, led-start, led-past, led-put, fault-inside, fault-end}
@@ -21,13 +21,6 @@ use Rattle.file_locks.proofs.Laws.Sets.{LedTo, led-start, led-past, led
 -- the rule is broken at a position counted from 1
 abbrev broken : List Op → ℕ → Bool
 broken ops j = faultAt ops (j - 1)
-
--- an operation that broke no rule has a set after it
-pub few-by : {g : ℕ} (a : Bool) {t : Bool} → t ≡ cond a true (ltb 15 g) → t ≡ false → g < 16
-few-by {g} true e f =
-    let z : _≡_ {A = ℕ} 0 1 = cc in
-    absurd (omega arith)
-few-by {g} false e f = omega (arith, ltb-false 15 g (sym e ∙ f))
 
 -- before row p: the held set, what SKIPs led where, and the first fault is at p or behind
 pub record Passed (ops : List Op) (n p h : ℕ) (led : List ℕ) : Type 0 where
@@ -53,7 +46,7 @@ module _ {rows : List ℕ} {n : ℕ} {ops : List Op} (lane : LaneIn rows n ops) 
         (below : p < n) {g : ℕ} {a t : Bool}
         (step : (o : Op) → getD rows (8 * p) 0 ≡ fieldsOf o .code → getD rows (8 * p + 2) 0 ≡ fieldsOf o .b
         → Stepped h o g)
-        (ea : a ≡ partsLed (getD led p 0) h) (et : t ≡ cond a true (ltb 15 g))
+        (ea : a ≡ conflictsLed (getD led p 0) h) (et : t ≡ cond a true (ltb 15 g))
       where
         abbrev o : Op
         o = getD ops p noOp
@@ -101,7 +94,7 @@ module _ {rows : List ℕ} {n : ℕ} {ops : List Op} (lane : LaneIn rows n ops) 
 
     -- at the end
     module _
-        (last : n ≤ p) (most : p ≤ n) {a t : Bool} (ea : a ≡ partsLed (getD led n 0) h)
+        (last : n ≤ p) (most : p ≤ n) {a t : Bool} (ea : a ≡ conflictsLed (getD led n 0) h)
         (et : t ≡ cond a true (not (eqb h 0)))
       where
         end : p ≡ n
@@ -110,7 +103,7 @@ module _ {rows : List ℕ} {n : ℕ} {ops : List Op} (lane : LaneIn rows n ops) 
         tested-end : {v : Bool} → t ≡ v → faultAt ops (p + 1 - 1) ≡ v
         tested-end =
             fault-end ops (lane .onward) p h led (at .led-to) small (at .set-is) (end ∙ sym many)
-            (ea ∙ ap (λ x. partsLed (getD led x 0) h) (sym end)) et
+            (ea ∙ ap (λ x. conflictsLed (getD led x 0) h) (sym end)) et
 
         pub end-found : t ≡ true → n + 1 ≡ faultPosition ops
         end-found e =

@@ -4,12 +4,6 @@ use borrow.Author.Tests.{eq-eqb, ne-eqb}
 use Rattle.file_locks.proofs.brings.Statement.{statement}
 use Rattle.file_locks.proofs.brings.Tie as tie
 
-add-result : tie.Need-add-result
-add-result c = search needs
-
-add-if2 : tie.Need-add-if2
-add-if2 c = search needs
-
 returns : tie.Need-returns
 returns c = rw (eq-eqb _ _ (c .if1 .taken))
 
@@ -20,4 +14,4 @@ returns-3 : tie.Need-returns-3
 returns-3 c = rw (ne-eqb _ _ (c .before .if1 .left), ne-eqb _ _ (c .if2 .left))
 
 pub brings-spec : {M : Type 1} → statement M
-brings-spec = tie.close (tie.spec add-result add-if2 returns returns-2 returns-3)
+brings-spec = tie.close (tie.spec (λ c. search needs) (λ c. search needs) returns returns-2 returns-3)

@@ -5,10 +5,12 @@ use mathlib.Core.List.{List}
 use mathlib.Core.Logic.{⊎-elim}
 use mathlib.Core.Path.{_≡_, refl, sym, ap, _∙_}
 use native.Mathlib.Omega.{arith}
+use borrow.Author.Tests.{ltb-false}
+use Rattle.laws.proofs.Bools.{cond-false}
 use Rattle.file_format.specs.declared.accepted.Op.{Op}
 use Rattle.file_locks.specs.Lanes.{LaneIn}
 use Rattle.file_locks.proofs.Laws.Sets.{LedTo}
-use Rattle.file_locks.proofs.Laws.Pass.{Passed, few-by, pass-start, pass-found, pass-on, lead-skip, lead-none}
+use Rattle.file_locks.proofs.Laws.Pass.{Passed, pass-start, pass-found, pass-on, lead-skip, lead-none}
 use Rattle.file_locks.proofs.Laws.Pass.{end-found, end-none}
 use borrow.Author.Needs.{needs}
 use Rattle.file_locks.proofs.fault_position.Statement.{statement}
@@ -42,11 +44,11 @@ shared-slice-read-after-row c = omega arith
 after-row-requires : tie.Need-after-row-requires Inv-loop μ-loop
 after-row-requires c κs = search needs
 
-array-read-parts : tie.Need-array-read-parts Inv-loop μ-loop
-array-read-parts c = omega arith
+array-read-conflicts-led : tie.Need-array-read-conflicts-led Inv-loop μ-loop
+array-read-conflicts-led c = omega arith
 
-parts-requires : tie.Need-parts-requires Inv-loop μ-loop
-parts-requires c κs = search needs
+conflicts-led-requires : tie.Need-conflicts-led-requires Inv-loop μ-loop
+conflicts-led-requires c κs = search needs
 
 either-requires : tie.Need-either-requires Inv-loop μ-loop
 either-requires c κs = search needs
@@ -60,7 +62,7 @@ returns c =
     let l = w .before .loop in
     λ ops lane. pass-found lane (w .before .before .before .pre .0) (l .p) (l .h) (l .led) (l .inv .1)
     (l .inv .3 ops lane) (w .loop-test .taken) (c .before .before .before .after-row .ensures)
-    (c .before .before .parts .ensures) (c .before .either .ensures) (c .if1 .taken)
+    (c .before .before .conflicts-led .ensures) (c .before .either .ensures) (c .if1 .taken)
 
 slice-aggregate-lead : tie.Need-slice-aggregate-lead Inv-loop μ-loop
 slice-aggregate-lead c =
@@ -92,7 +94,11 @@ loop-again c =
     let l = w .before .loop in
     let a = w .before .before .before in
     let few : c4 .after-row .result < 16 =
-    few-by (c .before .before .before .parts .result) (c .before .before .either .ensures) (c .before .if1 .left) in
+    omega (
+      arith,
+      ltb-false 15 (c4 .after-row .result) (cond-false (c .before .before .before .conflicts-led .result)
+          (sym (c .before .before .either .ensures) ∙ c .before .if1 .left)),
+    ) in
     let led-is
     : (length (c .if2 .led) ≡ 65)
     × ((ops : List Op) → LaneIn (a .args .rows .now) (a .args .n) ops → LedTo ops (l .p + 1) (c .if2 .led)) =
@@ -112,15 +118,15 @@ loop-again c =
       few,
       led-is .0,
       λ ops lane. pass-on lane (a .pre .0) (l .p) (l .h) (l .led) (l .inv .1) (l .inv .3 ops lane)
-          (w .loop-test .taken) (c4 .after-row .ensures) (c .before .before .before .parts .ensures)
+          (w .loop-test .taken) (c4 .after-row .ensures) (c .before .before .before .conflicts-led .ensures)
           (c .before .before .either .ensures) (c .before .if1 .left) few (led-is .1 ops lane),
     )
 
-array-read-parts-2 : tie.Need-array-read-parts-2 Inv-loop μ-loop
-array-read-parts-2 c = omega arith
+array-read-conflicts-led-2 : tie.Need-array-read-conflicts-led-2 Inv-loop μ-loop
+array-read-conflicts-led-2 c = omega arith
 
-parts-requires-2 : tie.Need-parts-requires-2 Inv-loop μ-loop
-parts-requires-2 c κs = search needs
+conflicts-led-requires-2 : tie.Need-conflicts-led-requires-2 Inv-loop μ-loop
+conflicts-led-requires-2 c κs = search needs
 
 either-requires-2 : tie.Need-either-requires-2 Inv-loop μ-loop
 either-requires-2 c κs = search needs
@@ -133,7 +139,7 @@ returns-2 c =
     let w = c .before .before .before in
     let l = w .before .loop in
     λ ops lane. end-found lane (w .before .before .before .pre .0) (l .p) (l .h) (l .led) (l .inv .1)
-    (l .inv .3 ops lane) (w .loop-test .left) (l .inv .0) (c .before .before .parts2 .ensures)
+    (l .inv .3 ops lane) (w .loop-test .left) (l .inv .0) (c .before .before .conflicts-led2 .ensures)
     (c .before .either2 .ensures) (c .if3 .taken)
 
 returns-3 : tie.Need-returns-3 Inv-loop μ-loop
@@ -141,7 +147,7 @@ returns-3 c =
     let w = c .before .before .before in
     let l = w .before .loop in
     λ ops lane. end-none lane (w .before .before .before .pre .0) (l .p) (l .h) (l .led) (l .inv .1)
-    (l .inv .3 ops lane) (w .loop-test .left) (l .inv .0) (c .before .before .parts2 .ensures)
+    (l .inv .3 ops lane) (w .loop-test .left) (l .inv .0) (c .before .before .conflicts-led2 .ensures)
     (c .before .either2 .ensures) (c .if3 .left)
 
 pub fault-position-spec : {M : Type 1} → statement M
@@ -157,8 +163,8 @@ fault-position-spec =
     add-after-row
     shared-slice-read-after-row
     after-row-requires
-    array-read-parts
-    parts-requires
+    array-read-conflicts-led
+    conflicts-led-requires
     either-requires
     add-result
     returns
@@ -170,8 +176,8 @@ fault-position-spec =
     add-p
     loop-less
     loop-again
-    array-read-parts-2
-    parts-requires-2
+    array-read-conflicts-led-2
+    conflicts-led-requires-2
     either-requires-2
     add-result-2
     returns-2

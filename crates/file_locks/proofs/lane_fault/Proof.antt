@@ -2,11 +2,10 @@
 use Prim.Native.Nat.{_+_, _-_, _*_, min}
 use mathlib.Core.Path.{refl, sym, ap, subst, _∙_}
 use native.Mathlib.Omega.{arith}
+use Rattle.laws.proofs.Parts.{take-rest, part-length}
 use Rattle.file_format.specs.Held.{faultPosition}
-use Rattle.file_format.proofs.Laws.Lists.{part-from}
 use Rattle.file_locks.specs.Lanes.{LaneIn}
 use Rattle.file_locks.proofs.Laws.Held.{record-none, record-some}
-use Rattle.sheet_format.proofs.Laws.Part.{part-length}
 use borrow.Author.Needs.{needs}
 use Rattle.file_locks.proofs.lane_fault.Statement.{statement}
 use Rattle.file_locks.proofs.lane_fault.Tie as tie
@@ -16,24 +15,6 @@ returns c =
     let s = c .before .before in
     λ ops lane. record-none (s .args .order .now) (s .args .from) (s .args .end - s .args .from) (faultPosition ops) 0
     (omega (arith, s .pre)) (omega (arith, c .if1 .taken)) refl
-
-sub-n : tie.Need-sub-n
-sub-n c = search needs
-
-mul-fault-position : tie.Need-mul-fault-position
-mul-fault-position c = search needs
-
-add-fault-position : tie.Need-add-fault-position
-add-fault-position c = search needs
-
-sub-fault-position : tie.Need-sub-fault-position
-sub-fault-position c = search needs
-
-part-fault-position-start : tie.Need-part-fault-position-start
-part-fault-position-start c = search needs
-
-part-fault-position-end : tie.Need-part-fault-position-end
-part-fault-position-end c = search needs
 
 fault-position-requires : tie.Need-fault-position-requires
 fault-position-requires c κs =
@@ -53,21 +34,9 @@ returns-2 c =
     λ ops lane.
     let from = 16 + 8 * a .from in
     let found = w .fault-position .ensures ops
-    (subst (λ x. LaneIn x (a .end - a .from) ops) (sym (part-from from (a .rows .now))) lane) in
+    (subst (λ x. LaneIn x (a .end - a .from) ops) (sym (take-rest from (a .rows .now))) lane) in
     record-none (a .order .now) (a .from) (a .end - a .from) _ _ (omega (arith, s .pre))
     (c .before .least .ensures ∙ ap (λ x. min x (a .end - a .from)) found) (c .if2 .taken)
-
-add-wide-word : tie.Need-add-wide-word
-add-wide-word c = search needs
-
-sub-wide-word : tie.Need-sub-wide-word
-sub-wide-word c = search needs
-
-mul-wide-word : tie.Need-mul-wide-word
-mul-wide-word c = search needs
-
-element-copy-out-wide-word : tie.Need-element-copy-out-wide-word
-element-copy-out-wide-word c = search needs
 
 wide-word-requires : tie.Need-wide-word-requires
 wide-word-requires c κs = search needs
@@ -80,7 +49,7 @@ returns-3 c =
     λ ops lane.
     let from = 16 + 8 * a .from in
     let found = w .fault-position .ensures ops
-    (subst (λ x. LaneIn x (a .end - a .from) ops) (sym (part-from from (a .rows .now))) lane) in
+    (subst (λ x. LaneIn x (a .end - a .from) ops) (sym (take-rest from (a .rows .now))) lane) in
     c .wide-word .ensures .0
     ∙ record-some (a .order .now) (a .from) (a .end - a .from) _ _ (omega (arith, s .pre))
     (c .before .before .before .least .ensures ∙ ap (λ x. min x (a .end - a .from)) found)
@@ -89,20 +58,6 @@ returns-3 c =
 pub lane-fault-spec : {M : Type 1} → statement M
 lane-fault-spec =
     tie.close
-    (tie.spec
-    returns
-    sub-n
-    mul-fault-position
-    add-fault-position
-    sub-fault-position
-    part-fault-position-start
-    part-fault-position-end
-    fault-position-requires
-    least-requires
-    returns-2
-    add-wide-word
-    sub-wide-word
-    mul-wide-word
-    element-copy-out-wide-word
-    wide-word-requires
-    returns-3)
+    (tie.spec returns (λ c. search needs) (λ c. search needs) (λ c. search needs) (λ c. search needs)
+    (λ c. search needs) (λ c. search needs) fault-position-requires least-requires returns-2 (λ c. search needs)
+    (λ c. search needs) (λ c. search needs) (λ c. search needs) wide-word-requires returns-3)

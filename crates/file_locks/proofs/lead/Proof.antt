@@ -7,17 +7,8 @@ use borrow.Author.Needs.{needs}
 use Rattle.file_locks.proofs.lead.Statement.{statement}
 use Rattle.file_locks.proofs.lead.Tie as tie
 
-slice-read-brings : tie.Need-slice-read-brings
-slice-read-brings c = search needs
-
 brings-requires : tie.Need-brings-requires
 brings-requires c κs = search needs
-
-slice-write-led : tie.Need-slice-write-led
-slice-write-led c = search needs
-
-same-length : tie.Need-same-length
-same-length c = search needs
 
 returns : tie.Need-returns
 returns c =
@@ -31,5 +22,4 @@ returns-2 c =
 
 pub lead-spec : {M : Type 1} → statement M
 lead-spec =
-    tie.close
-    (tie.spec slice-read-brings brings-requires slice-write-led same-length returns returns-2)
+    tie.close (tie.spec (λ c. search needs) brings-requires (λ c. search needs) (λ c. search needs) returns returns-2)

@@ -5,9 +5,6 @@ use borrow.Author.Needs.{needs}
 use Rattle.file_locks.proofs.lock_bit.Statement.{statement}
 use Rattle.file_locks.proofs.lock_bit.Tie as tie
 
-shl-result : tie.Need-shl-result
-shl-result c = search needs
-
 returns : tie.Need-returns
 returns c = rw (lt-ltb _ 4 (c .if1 .taken)) refl
 
@@ -15,4 +12,4 @@ returns-2 : tie.Need-returns-2
 returns-2 c = rw (le-ltb _ 4 (c .if1 .left)) refl
 
 pub lock-bit-spec : {M : Type 1} → statement M
-lock-bit-spec = tie.close (tie.spec shl-result returns returns-2)
+lock-bit-spec = tie.close (tie.spec (λ c. search needs) returns returns-2)

@@ -22,12 +22,6 @@ abbrev μ-loop : tie.MeasureT-loop
 loop-holds : tie.Need-loop-holds Inv-loop μ-loop
 loop-holds c = (refl, fault-first (c .before .before .args .s .now))
 
-mul-end : tie.Need-mul-end Inv-loop μ-loop
-mul-end c = search needs
-
-element-copy-out-end : tie.Need-element-copy-out-end Inv-loop μ-loop
-element-copy-out-end c = search needs
-
 lane-fault-requires : tie.Need-lane-fault-requires Inv-loop μ-loop
 lane-fault-requires c κs =
     let w = c .before in
@@ -71,15 +65,5 @@ returns-2 c = first-none _ _ _ (c .loop-test .left) (c .before .loop .inv .1)
 pub lock-fault-spec : {M : Type 1} → statement M
 lock-fault-spec =
     tie.close
-    (tie.spec
-    Inv-loop
-    μ-loop
-    loop-holds
-    mul-end
-    element-copy-out-end
-    lane-fault-requires
-    returns
-    add-t
-    loop-less
-    loop-again
-    returns-2)
+    (tie.spec Inv-loop μ-loop loop-holds (λ c. search needs) (λ c. search needs) lane-fault-requires returns add-t
+    loop-less loop-again returns-2)

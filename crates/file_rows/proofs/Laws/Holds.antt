@@ -9,6 +9,9 @@ use native.Mathlib.Omega.{arith}
 use native.Mathlib.Decide.{decLt}
 use lib.ListN.{length, getD, take, drop, getElem?, length-append, length-map, List·getD-map}
 use lib.Seq.{take-at, drop-at, drop-drop}
+use Rattle.laws.proofs.Bytes.{word-back}
+use Rattle.laws.proofs.Lists.{some-at}
+use Rattle.laws.proofs.Numbers.{below-four}
 use Rattle.file_format.specs.declared.accepted.Op.{Op}
 use Rattle.file_format.specs.declared.accepted.Op.the-variants.{Set, Add, Load, Store, Lock, Unlock, Skip}
 use Rattle.file_format.specs.Fields.{laneCount, locations, locks, head, word}
@@ -19,23 +22,23 @@ use Rattle.file_format.specs.Stored.{noOp}
 use Rattle.file_format.proofs.Bounded.{lane-bounded}
 use Rattle.file_format.proofs.Laws.Lanes.{lane-ops}
 use Rattle.file_format.proofs.Laws.Linkage.{chain-stop, chain-length}
-use Rattle.file_format.proofs.Laws.Lists.{some-at, below-four}
 use Rattle.file_format.proofs.Laws.Rules.{four-lanes, head-range, head-none}
 use Rattle.file_format.proofs.Laws.Stored.{opsFrom-length, lane-count}
 use Rattle.file_verdict.specs.Verdict.{verdict, accepted}
 use Rattle.file_format.specs.Structured.{Fielded}
 use Rattle.file_verdict.proofs.Laws.Verdict.{sound, accepted-as}
 use Rattle.sheet_format.specs.Layout.{op}
-use Rattle.sheet_format.specs.Levels.{level1}
-use Rattle.sheet_format.specs.Bytes.{joined, laneBytes, over}
+use Rattle.sheet_format.specs.declared.Level.the-variants.{Level0}
+use Rattle.sheet_format.specs.Levels.{sheetLanes}
+use Rattle.sheet_format.specs.Bytes.{joined, laneBytes, over, sheetBytes}
 use Rattle.sheet_format.specs.Put.{inTurn}
-use Rattle.sheet_format.proofs.Laws.Rows.{word-back}
+use Rattle.sheet_format.proofs.Level0.{file-lanes0}
 use Rattle.sheet_format.proofs.Laws.Turn.{turn-same, turn-all}
 use Rattle.sheet_rows.specs.Rows.{countAt, partsIn}
 use Rattle.sheet_rows.specs.Lanes.{opRows, fieldsOf, Holds}
 use Rattle.sheet_rows.proofs.Laws.Lanes.{rows-length}
 use Rattle.sheet_rows.proofs.Laws.Parts.{count-in, count-none, many as parts-many}
-use Rattle.file_rows.specs.Chains.{chainLanes, chainBytes, chainAt}
+use Rattle.file_rows.specs.Chains.{chainAt}
 
 -- how many operations lane t has, and how many the lanes before it have
 abbrev pub many : List ℕ → ℕ → ℕ
@@ -103,20 +106,21 @@ module _ (s : List ℕ) (header : headerRule s ≡ true) where
   few : laneCount s ≤ 4
   few = four-lanes s header
 
-  lanes-in-turn : joined (map (laneBytes level1) (chainLanes (programOf s))) ≡ inTurn (chainAt s) 4
+  lanes-in-turn : joined (map (laneBytes Level0) (sheetLanes Level0 (programOf s))) ≡ inTurn (chainAt s) 4
   lanes-in-turn =
       let os = programOf s .lanes in
-      ap joined (map-map (laneBytes level1) (map op) os)
+      ap (λ x. joined (map (laneBytes Level0) x)) (file-lanes0 s)
+      ∙ ap joined (map-map (laneBytes Level0) (map op) os)
       ∙ sym (turn-all opRows [] refl os 4 (omega (arith, lane-count s few, few)))
       ∙ turn-same (λ t. opRows (getD os t [])) (chainAt s) 4 (λ t h. ap opRows (lane-ops s header t h))
 
-  module _ (rows own : List ℕ) (front : rows ≡ over (chainBytes (programOf s)) own) where
+  module _ (rows own : List ℕ) (front : rows ≡ over (sheetBytes Level0 (programOf s)) own) where
     abbrev rest : List ℕ
-    rest = drop (length (chainBytes (programOf s))) own
+    rest = drop (length (sheetBytes Level0 (programOf s))) own
 
     body : drop 16 rows ≡ inTurn (chainAt s) 4 ++ rest
-    unfolding chainBytes
-    body = ap (drop 16) front ∙ ap (λ x. x ++ drop (length (chainBytes (programOf s))) own) lanes-in-turn
+    unfolding sheetBytes
+    body = ap (drop 16) front ∙ ap (λ x. x ++ drop (length (sheetBytes Level0 (programOf s))) own) lanes-in-turn
 
     -- lane t, and what follows it
     lane-front : (t : ℕ) → t < 4
@@ -131,27 +135,30 @@ module _ (s : List ℕ) (header : headerRule s ≡ true) where
 
     -- ## the counts of the header
 
-    counted : (t : ℕ) → t < 4 → length (getD (chainLanes (programOf s)) t []) ≡ many s t
+    counted : (t : ℕ) → t < 4 → length (getD (sheetLanes Level0 (programOf s)) t []) ≡ many s t
     counted t h =
-        ap length (List·getD-map (map op) (programOf s .lanes) t [])
+        ap (λ x. length (getD x t [])) (file-lanes0 s)
+        ∙ ap length (List·getD-map (map op) (programOf s .lanes) t [])
         ∙ length-map (getD (programOf s .lanes) t []) op
         ∙ ap length (lane-ops s header t h)
 
     in-header : (t : ℕ) → t < 4 → word rows (8 + 2 * t) ≡ many s t
-    unfolding chainBytes
+    unfolding sheetBytes
     in-header t h =
         ap (λ x. word x (8 + 2 * t)) front ∙ go t h (omega (arith, counted t h, many-small s t)) ∙ counted t h
       where
-        go : (t : ℕ) → t < 4 → length (getD (chainLanes (programOf s)) t []) < 65536
-            → word (over (chainBytes (programOf s)) own) (8 + 2 * t) ≡ length (getD (chainLanes (programOf s)) t [])
+        go : (t : ℕ) → t < 4 → length (getD (sheetLanes Level0 (programOf s)) t []) < 65536
+            → word (over (sheetBytes Level0 (programOf s)) own) (8 + 2 * t)
+            ≡ length (getD (sheetLanes Level0 (programOf s)) t [])
         go =
             below-four
-            (λ t. length (getD (chainLanes (programOf s)) t []) < 65536
-            → word (over (chainBytes (programOf s)) own) (8 + 2 * t) ≡ length (getD (chainLanes (programOf s)) t []))
+            (λ t. length (getD (sheetLanes Level0 (programOf s)) t []) < 65536
+            → word (over (sheetBytes Level0 (programOf s)) own) (8 + 2 * t)
+            ≡ length (getD (sheetLanes Level0 (programOf s)) t []))
             (word-back _) (word-back _) (word-back _) (word-back _)
 
     lanes-byte : getD rows 0 0 ≡ laneCount s
-    unfolding chainBytes
+    unfolding sheetBytes
     lanes-byte = ap (λ x. getD x 0 0) front ∙ lane-count s few
 
     count-is : (t : ℕ) → t < 4 → countAt rows t ≡ many s t
@@ -197,7 +204,7 @@ module _ (s : List ℕ) (header : headerRule s ≡ true) where
 
 -- the same of an accepted file
 module _ (s : List ℕ) (ok : verdict s ≡ accepted (programOf s)) (rows own : List ℕ)
-    (front : rows ≡ over (chainBytes (programOf s)) own) (t : ℕ) (below : t < 4) where
+    (front : rows ≡ over (sheetBytes Level0 (programOf s)) own) (t : ℕ) (below : t < 4) where
   fields : Fielded s
   fields = sound s (accepted-as s (programOf s) ok .0) .0 .fields
 

@@ -8,7 +8,7 @@ use lib.Seq.{sets, take-suc, take-all}
 use Rattle.file_format.specs.declared.accepted.Op.{Op}
 use Rattle.file_format.specs.Stored.{noOp}
 use Rattle.sheet_format.specs.Layout.{op}
-use Rattle.sheet_format.specs.Levels.{level1}
+use Rattle.sheet_format.specs.declared.Level.the-variants.{Level0}
 use Rattle.sheet_format.specs.Bytes.{opBytes, laneBytes}
 use Rattle.sheet_format.specs.Put.{Puts}
 use Rattle.sheet_format.proofs.Laws.Rows.{instr-length, bytes-append}
@@ -22,8 +22,8 @@ module _ (ops : List Op) where
       let o = getD ops p noOp in
       sym (ap (λ n. opRows (take n ops)) one
       ∙ ap opRows (take-suc ops p noOp h)
-      ∙ ap (laneBytes level1) (map-append op (take p ops) (o ∷ []))
-      ∙ bytes-append level1 (map op (take p ops)) (op o ∷ [])
+      ∙ ap (laneBytes Level0) (map-append op (take p ops) (o ∷ []))
+      ∙ bytes-append Level0 (map op (take p ops)) (op o ∷ [])
       ∙ ap (λ z. opRows (take p ops) ++ z) (append-nil (opBytes o)))
 
   -- one operation more
@@ -31,7 +31,7 @@ module _ (ops : List Op) where
       → p < length ops → here ≡ at + 8 * p → opBytes (getD ops p noOp) ≡ row → out′ ≡ sets out here row
       → Puts buffer at (opRows (take (p + 1) ops)) out′ (at + 8 * (p + 1))
   row-put at p here {row} {buffer} {out} {out′} were h e same put =
-      let size = instr-length level1 (op (getD ops p noOp)) in
+      let size = instr-length Level0 (op (getD ops p noOp)) in
       let next : Puts out (at + 8 * p) (opBytes (getD ops p noOp)) out′ (at + 8 * (p + 1)) = record {
         bytes = put ∙ ap (λ k. sets out k row) e ∙ ap (sets out (at + 8 * p)) (sym same);
         behind = omega (arith, size);

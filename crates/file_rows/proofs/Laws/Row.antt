@@ -7,7 +7,8 @@ use native.Mathlib.Omega.{arith}
 use borrow.Author.Tests.{ltb-true, eqb-true, eq-eqb, ne-eqb}
 use lib.Dec.{eqb}
 use lib.ListN.{set}
-use lib.Seq.{sets, set-set}
+use lib.Seq.{sets}
+use Rattle.laws.proofs.Bytes.{fifth-stored}
 use Rattle.file_format.specs.Fields.{byte, start, locations, locks, operation, registerA, operandB, reserved, constant}
 use Rattle.file_format.specs.Fields.{target}
 use Rattle.file_format.specs.Rules.{recordTests, recordRule, limitA, limitB, limitConstant}
@@ -15,7 +16,6 @@ use Rattle.file_format.specs.Accepted.{opBy, opOf}
 use Rattle.file_format.specs.Targets.{position}
 use Rattle.file_format.proofs.Laws.Search.{all-at}
 use Rattle.sheet_format.specs.Bytes.{row, opBytes}
-use Rattle.sheet_format.proofs.Laws.Put.{before-sets}
 use Rattle.sheet_rows.proofs.Laws.Read.{quad-of}
 use Rattle.sheet_rows.specs.Eight.{eightIn}
 use Rattle.file_rows.specs.Records.{recordRow}
@@ -96,19 +96,6 @@ module _ (s : List ℕ) (small : (i : ℕ) → byte s i < 256) (r : ℕ) (holds 
       (ltb-true _ _ (all-at (recordTests s r) 0 holds)) (ltb-true _ _ (all-at (recordTests s r) 1 holds))
       (subst (λ n. n < limitConstant (operation s r)) (sym number-is) low) hq
 
--- one byte of a row written anew
-fifth : (l : List ℕ) (i a b c d e f g h v : ℕ)
-    → set (sets l i (a ∷ b ∷ c ∷ d ∷ e ∷ f ∷ g ∷ h ∷ [])) (i + 4) v
-    ≡ sets l i (a ∷ b ∷ c ∷ d ∷ v ∷ f ∷ g ∷ h ∷ [])
-fifth l i a b c d e f g h v =
-    let m = sets l i (a ∷ b ∷ c ∷ d ∷ []) in
-    let j : i + 4 ≡ suc (suc (suc (suc i))) = omega arith in
-    ap (λ k. set (sets l i (a ∷ b ∷ c ∷ d ∷ e ∷ f ∷ g ∷ h ∷ [])) k v) j
-    ∙ before-sets (set m (suc (suc (suc (suc i)))) e) (suc (suc (suc (suc (suc i))))) (suc (suc (suc (suc i))))
-    (f ∷ g ∷ h ∷ []) v (omega arith)
-    ∙ ap (λ k. sets k (suc (suc (suc (suc (suc i))))) (f ∷ g ∷ h ∷ []))
-    (set-set m (suc (suc (suc (suc i)))) e v)
-
 -- a record's first eight bytes in place: its row, if its code is not 7, and with the position written anew, if it is
 module _ (s l : List ℕ) (r at : ℕ) {m : List ℕ} (copied : m ≡ sets l at (eightIn s (start r))) where
   abbrev rowWith : ℕ → List ℕ
@@ -125,6 +112,6 @@ module _ (s l : List ℕ) (r at : ℕ) {m : List ℕ} (copied : m ≡ sets l at 
   pub record-skip : {v q : ℕ} → operation s r ≡ 7 → v ≡ q → set m (at + 4) v ≡ sets l at (recordRow s r q)
   record-skip {v} {q} h e =
       ap (λ k. set k (at + 4) v) copied
-      ∙ fifth l at _ _ _ _ _ _ _ _ v
+      ∙ fifth-stored l at _ _ _ _ _ _ _ _ v
       ∙ ap (λ x. sets l at (rowWith x)) e
       ∙ ap (λ b. sets l at (rowWith (cond b q (byte s (start r + 4))))) (sym (eq-eqb (operation s r) 7 h))

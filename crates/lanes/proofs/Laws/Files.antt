@@ -3,7 +3,6 @@ use Prim.Native.Nat.{ℕ, _%_, _≤_, _<_}
 use mathlib.Core.Path.{_≡_, sym, ap, ap₂, _∙_}
 use mathlib.Core.Bool.{Bool, true, false}
 use mathlib.Core.List.{List}
-use native.Mathlib.Omega.{arith}
 use borrow.Author.Tests.{lt-ltb, le-ltb, eq-eqb, ne-eqb}
 use lib.ListN.{length, getD, drop}
 use Rattle.file_format.specs.Fields.{word}
@@ -11,12 +10,13 @@ use Rattle.file_format.specs.Accepted.{Program}
 use Rattle.file_verdict.specs.Verdict.{verdict}
 use Rattle.file_verdict.proofs.Laws.Verdict.{accepted-as}
 use Rattle.sheet_format.specs.declared.WriteResult.{WriteResult}
-use Rattle.sheet_format.specs.declared.WriteResult.the-variants.{Wrote, Refuses}
+use Rattle.sheet_format.specs.declared.WriteResult.the-variants.{Refuses}
 use Rattle.sheet_format.proofs.Answers.{BytesIn}
 use Rattle.machine_spec.specs.Schedule.{limit, legal}
 use Rattle.machine_spec.specs.Moves.{movesIn}
 use Rattle.machine_spec.specs.declared.Machine.{Machine}
-use Rattle.machine_start.specs.Programs.{programBytes, programBy}
+use Rattle.sheet_format.specs.Bytes.{sheetBytes, lowerBy}
+use Rattle.machine_spec.specs.Run.{levelOf}
 use Rattle.lanes_answers.specs.Calls.{runInto, runFileBy}
 use Rattle.machine_start.specs.Setup.{ProgramIn, ranInto}
 use Rattle.machine_start.proofs.Laws.Programs.{header-read}
@@ -24,7 +24,7 @@ use Rattle.machine_start.proofs.Laws.Files.{file-verdict, ran-number}
 
 -- a refused file
 pub file-refused : (m : Machine) (s own : List ℕ) → 4112 ≤ length own → {n r : ℕ} {after : List ℕ}
-    → (Refuses n r, after) ≡ programBy m (verdict s) own
+    → (Refuses n r, after) ≡ lowerBy (levelOf m) (verdict s) own
     → (moves out : List ℕ) → (Refuses n r, out) ≡ runFileBy m (verdict s) moves out
 file-refused m s own big p moves out =
     sym (ap (λ v. runFileBy m v moves out) (file-verdict m s own big p))
@@ -36,7 +36,7 @@ pub record Takes (m : Machine) (mask : ℕ) (rows moves s out : List ℕ) : Type
   pub answers : ranInto m kernel moves out ≡ runFileBy m (verdict s) moves out
 
 -- ## an accepted file, whose program's bytes stand at the front of the rows
-module _ (m : Machine) {s own rows : List ℕ} (b : BytesIn (programBytes m) s own rows)
+module _ (m : Machine) {s own rows : List ℕ} (b : BytesIn (sheetBytes (levelOf m)) s own rows)
     (moves out : List ℕ) where
   abbrev k : Program
   k = b .kernel
@@ -60,7 +60,7 @@ module _ (m : Machine) {s own rows : List ℕ} (b : BytesIn (programBytes m) s o
       lets : ok ≡ legal (length (k .lanes)) (limit m) (movesIn moves)
       lets =
           let first = ap (λ x. getD x 0 0) (b .front)
-          ∙ header-read k m (drop (length (programBytes m k)) own) .0 in
+          ∙ header-read k m (drop (length (sheetBytes (levelOf m) k)) own) .0 in
           judged ∙ ap₂ (λ x y. legal x y (movesIn moves)) (ne ∙ first) ce
 
       pub illegal-moves : ok ≡ false → Answers (Refuses 10 0, out)

@@ -12,12 +12,12 @@ use Rattle.file_verdict.proofs.Laws.Verdict.{accepted-as}
 use Rattle.file_wellformed.proofs.Lawful.{accepted-lawful}
 use Rattle.sheet_format.proofs.Answers.{BytesIn}
 use Rattle.machine_spec.specs.State.{startState}
-use Rattle.machine_spec.specs.Run.{Answer, startOf, programFor, runBy}
+use Rattle.machine_spec.specs.Run.{Answer, startOf, programFor, runBy, levelOf}
 use Rattle.sheet_rows.specs.Rows.{partsIn}
 use Rattle.machine_spec.specs.declared.Machine.{Machine}
 use Rattle.machine_state.specs.States.{Blocks, stateIn}
 use Rattle.machine_run.specs.Runs.{ProgramAt}
-use Rattle.machine_start.specs.Programs.{programBytes}
+use Rattle.sheet_format.specs.Bytes.{sheetBytes}
 use Rattle.machine_start.proofs.Laws.Programs.{header-read, program-at}
 use Rattle.machine_course.specs.declared.course.Course.{Course}
 use Rattle.machine_course.specs.Stands.{answerBy, Prepared, Stands, Sets, Started, RefusedStart, blocked}
@@ -48,7 +48,7 @@ pub begins-refused : (m : Machine) (s : List ℕ) {rows : List ℕ} {n r : ℕ} 
 begins-refused m s {rows} {n} {r} {x} {e} v st q =
     subst (λ y. Stands s m [] rows y e) (sym q) (refused-stands m s rows n r v st)
 
-module _ (m : Machine) {s own rows : List ℕ} (b : BytesIn (programBytes m) s own rows)
+module _ (m : Machine) {s own rows : List ℕ} (b : BytesIn (sheetBytes (levelOf m)) s own rows)
     (room : 4112 ≤ length own) {mask : ℕ} {x : Course} {e : Blocks} (me : mask ≡ word s 4) (sets : Sets m mask rows x)
     (st : Started (getD rows 0 0) (getD rows 1 0) (getD rows 2 0) e) where
   abbrev k : Program
@@ -60,7 +60,7 @@ module _ (m : Machine) {s own rows : List ℕ} (b : BytesIn (programBytes m) s o
   header : (getD rows 0 0 ≡ length (k .lanes)) × (getD rows 1 0 ≡ k .locations) × (getD rows 2 0 ≡ k .locks)
   header =
       subst (λ y. (getD y 0 0 ≡ length (k .lanes)) × (getD y 1 0 ≡ k .locations) × (getD y 2 0 ≡ k .locks))
-      (sym (b .front)) (header-read k m (drop (length (programBytes m k)) own))
+      (sym (b .front)) (header-read k m (drop (length (sheetBytes (levelOf m) k)) own))
 
   programs : (t : ℕ) → t < length (k .lanes)
       → ProgramAt rows (getD (partsIn rows .from) t 0) (getD (partsIn rows .count) t 0)
@@ -78,6 +78,7 @@ module _ (m : Machine) {s own rows : List ℕ} (b : BytesIn (programBytes m) s o
     locations = sets .locations ∙ header .1;
     locks = sets .locks ∙ header .2;
     held = st .lanes ∙ header .0;
+    first = sets .first;
     programs = λ t h.
         subst (λ f. ProgramAt rows (getD f t 0) (getD (x .count) t 0) (getD (programFor m k) t []))
         (sym (sets .first))

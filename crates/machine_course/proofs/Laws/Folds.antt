@@ -4,17 +4,17 @@ use mathlib.Core.Path.{_≡_, refl, sym, ap, ap₂, subst, _∙_}
 use mathlib.Core.Bool.{Bool, true, false, _&&_}
 use mathlib.Core.List.{List, [], _∷_, _++_}
 use mathlib.Core.Logic.{inl, inr}
-use mathlib.Core.Option.{some}
 use native.Mathlib.Omega.{arith}
-use lib.ListN.{length, getD, getElem?, take, drop, replicate, length-append}
+use lib.ListN.{length, getD, take, drop, replicate, length-append}
 use lib.Seq.{take-at, take-all}
+use Rattle.laws.proofs.Lists.{getElem?-seam}
 use Rattle.file_format.specs.Accepted.{Program}
 use Rattle.file_format.specs.Lawful.{Lawful}
 use Rattle.file_verdict.specs.Verdict.{accepted, verdict}
 use Rattle.file_wellformed.proofs.Lawful.{accepted-lawful}
 use Rattle.sheet_format.specs.Layout.{Instr}
 use Rattle.sheet_format.specs.Read.{readRows}
-use Rattle.machine_spec.specs.Schedule.{Move, move, limit, legal}
+use Rattle.machine_spec.specs.Schedule.{Move, limit, legal}
 use Rattle.machine_spec.specs.State.{State, startState, Outcome, ran, refused, run, begin}
 use Rattle.machine_spec.specs.Run.{Answer, refusal, answerOf, startOf, programFor, runOn, runBy}
 use Rattle.machine_spec.specs.declared.Machine.{Machine}
@@ -36,10 +36,6 @@ use Rattle.machine_course.proofs.Laws.Legal.{allowed, legal-snoc, Under
 
 snoc-length : (mvs : List Move) (mv : Move) → length (mvs ++ (mv ∷ [])) ≡ length mvs + 1
 snoc-length mvs mv = length-append mvs (mv ∷ [])
-
-last-at : (mvs : List Move) (mv : Move) → getElem? (mvs ++ (mv ∷ [])) (length mvs) ≡ some mv
-last-at [] mv = refl
-last-at (x ∷ mvs) mv = last-at mvs mv
 
 module _ {s : List ℕ} {m : Machine} {mvs : List Move} {rows : List ℕ} {x : Course} {h : Blocks}
     (so : Stands s m mvs rows x h) (mv : Move) where
@@ -128,6 +124,7 @@ module _ {s : List ℕ} {m : Machine} {mvs : List Move} {rows : List ℕ} {x : C
             locations = own .locations;
             locks = own .locks;
             held = st .lanes ∙ own .lanes;
+            first = own .first;
             programs = own .programs;
           });
         }
@@ -182,14 +179,14 @@ module _ {s : List ℕ} {m : Machine} {mvs : List Move} {rows : List ℕ} {x : C
               }
 
       pub lane-few : mv .lane < 4
-      lane-few = omega (arith, runs .lanes, runs .named (length mvs) mv (last-at mvs mv))
+      lane-few = omega (arith, runs .lanes, runs .named (length mvs) mv (getElem?-seam mvs mv []))
 
       pub can-move : Movable h (mv .lane)
           (readRows (getD (x .count) (mv .lane) 0) (drop (getD (x .first) (mv .lane) 0) rows))
-      can-move = lane-moves runs (length mvs) mv (last-at mvs mv) (x .done) (x .waited) h (so .sized) so-far
+      can-move = lane-moves runs (length mvs) mv (getElem?-seam mvs mv []) (x .done) (x .waited) h (so .sized) so-far
 
       pub lies-inside : getD (x .first) (mv .lane) 0 + 8 * getD (x .count) (mv .lane) 0 ≤ length rows
-      lies-inside = inside runs (length mvs) mv (last-at mvs mv)
+      lies-inside = inside runs (length mvs) mv (getElem?-seam mvs mv [])
 
       -- ### what it comes to
       module _ (q : Moved) (e : Blocks) (made : Took h (mv .lane) (turns m (flags (x .volatile))
@@ -211,8 +208,8 @@ module _ {s : List ℕ} {m : Machine} {mvs : List Move} {rows : List ℕ} {x : C
           ends : (d : ℕ) → Counted q (x .done) d → Ends m (flags (x .volatile)) after prog h₀ (Ran d (j + 1 - d)) e
           ends d u =
               subst (λ l. Ends m (flags (x .volatile)) l prog h₀ (Ran d (j + 1 - d)) e) whole
-              (run-counted runs j mv (last-at mvs mv) (x .done) (x .waited) h e q (so .sized) made so-far d u done-few
-              waits-rest)
+              (run-counted runs j mv (getElem?-seam mvs mv []) (x .done) (x .waited) h e q (so .sized) made so-far d u
+              done-few waits-rest)
 
           module _ (d : ℕ) (u : Counted q (x .done) d) where
             came : runOn m k after ≡ course e (ends d u .row) d (j + 1 - d)
@@ -249,6 +246,7 @@ module _ {s : List ℕ} {m : Machine} {mvs : List Move} {rows : List ℕ} {x : C
             locations = o ∙ own .locations;
             locks = w ∙ own .locks;
             held = made .lanes ∙ own .held;
+            first = f ∙ own .first;
             programs = rw (f, g) (own .programs);
           }
 
@@ -267,7 +265,7 @@ module _ {s : List ℕ} {m : Machine} {mvs : List Move} {rows : List ℕ} {x : C
                   z number-blames refl (omega (arith, waits-rest, done-few)) (omega (arith, done-few))
               go ReleaseNotHeld qe =
                   absurd (not-refused s k (here .accepts) m after lets (mv .lane) _
-                  (sym (same-run after) ∙ run-refused runs j mv (last-at mvs mv) (x .done) (x .waited) h e q
+                  (sym (same-run after) ∙ run-refused runs j mv (getElem?-seam mvs mv []) (x .done) (x .waited) h e q
                   (so .sized) made
                   so-far refl qe .outcome))
 

@@ -1,7 +1,7 @@
 -- Laws of schedules with one move more: whether they are legal, and what the definition answers to one that is not.
 use Prim.Native.Nat.{ℕ, _<_}
 use mathlib.Core.Path.{_≡_, refl, sym, ap, _∙_}
-use mathlib.Core.Bool.{Bool, true, false, _&&_}
+use mathlib.Core.Bool.{Bool, true, false, _&&_, and-true}
 use mathlib.Core.List.{List, [], _∷_, _++_}
 use native.Mathlib.Omega.{arith}
 use lib.Dec.{ltb, leb}
@@ -25,11 +25,7 @@ allowed n k mv = ltb (mv .lane) n && leb (mv .choice) k
 
 pub legal-snoc : (n k : ℕ) (mvs : List Move) (mv : Move)
     → legal n k (mvs ++ (mv ∷ [])) ≡ (legal n k mvs && allowed n k mv)
-legal-snoc n k [] mv = go (allowed n k mv)
-  where
-    go : (b : Bool) → (b && true) ≡ b
-    go true = refl
-    go false = refl
+legal-snoc n k [] mv = and-true (allowed n k mv)
 legal-snoc n k (x ∷ mvs) mv = go (allowed n k x) (legal-snoc n k mvs mv)
   where
     go : (b : Bool) → legal n k (mvs ++ (mv ∷ [])) ≡ (legal n k mvs && allowed n k mv)

@@ -1,13 +1,12 @@
 -- Laws of sizes: the first words of a row, and the state of every answer, which fits what is returned and written.
-use Prim.Native.Nat.{ℕ, zero, suc, _+_, _≤_, _<_}
-use mathlib.Core.Path.{_≡_, refl, sym, ap, subst, _∙_}
+use Prim.Native.Nat.{ℕ, zero, suc, _≤_, _<_}
+use mathlib.Core.Path.{_≡_, refl, sym, ap, subst}
 use mathlib.Core.Bool.{Bool, true, false}
 use mathlib.Core.List.{List, [], _∷_}
 use native.Mathlib.Omega.{arith}
 use borrow.Author.Tests.{ltb-false}
 use lib.Dec.{ltb}
-use lib.ListN.{length, getD, take, drop, replicate, length-replicate}
-use lib.Seq.{drop-cons}
+use lib.ListN.{length, getD, take, replicate, length-replicate}
 use Rattle.file_format.specs.Accepted.{Program}
 use Rattle.file_format.specs.Fields.{laneCount, locations, locks}
 use Rattle.file_format.specs.Lawful.{Lawful}
@@ -21,7 +20,7 @@ use Rattle.machine_spec.specs.Run.{answerOf, startOf, programFor, runOn, runBy,
 use Rattle.machine_spec.specs.declared.Machine.{Machine}
 use Rattle.machine_start.proofs.Answered.{not-refused, shape}
 use Rattle.machine_start.proofs.Laws.Runs.{shaped-small}
-use Rattle.machine_state.specs.States.{Blocks, stateIn}
+use Rattle.machine_state.specs.States.{Blocks, firsts, stateIn}
 use Rattle.machine_course.specs.declared.course.Course.{Course}
 use Rattle.machine_course.specs.Stands.{answerBy, Stands}
 use Rattle.machine_course.specs.Returned.{Fits}
@@ -29,27 +28,14 @@ use Rattle.machine_course.proofs.Laws.Starts.{header-valid}
 
 -- ## the first words of a row
 
--- n words from word i on, one by one
-abbrev pub wordsFrom : ℕ → ℕ → List ℕ → List ℕ
-wordsFrom i zero l = []
-wordsFrom i (suc n) l = getD l i 0 ∷ wordsFrom (suc i) n l
-
-words-taken : (i n : ℕ) (l : List ℕ) → i + n ≤ length l → wordsFrom i n l ≡ take n (drop i l)
-words-taken i zero l h = refl
-words-taken i (suc n) l h =
-    ap (λ r. getD l i 0 ∷ r) (words-taken (suc i) n l (omega arith))
-    ∙ sym (ap (take (suc n)) (drop-cons l i 0 (omega arith)))
-
-pub first-words : (n : ℕ) (l : List ℕ) → n ≤ length l → wordsFrom 0 n l ≡ take n l
-first-words n l h = words-taken 0 n l (omega arith)
-
--- of at most m elements the first m are all
-pub take-within : (n m : ℕ) (l : List ℕ) → length (take n l) ≤ m → take n (take m l) ≡ take n l
-take-within zero m l h = refl
-take-within (suc n) zero [] h = refl
-take-within (suc n) zero (x ∷ l) h = absurd (omega arith)
-take-within (suc n) (suc m) [] h = refl
-take-within (suc n) (suc m) (x ∷ l) h = ap (λ r. x ∷ r) (take-within n m l (omega arith))
+-- of at most m words the first m are all
+pub firsts-within : (n m : ℕ) (l : List ℕ) → length (take n l) ≤ m → m ≤ length l
+    → take n (firsts m (λ i. getD l i 0)) ≡ take n l
+firsts-within zero m l h k = refl
+firsts-within (suc n) zero [] h k = refl
+firsts-within (suc n) zero (x ∷ l) h k = absurd (omega arith)
+firsts-within (suc n) (suc m) [] h k = absurd (omega arith)
+firsts-within (suc n) (suc m) (x ∷ l) h k = ap (λ r. x ∷ r) (firsts-within n m l (omega arith) (omega arith))
 
 -- ## the state of an answer
 

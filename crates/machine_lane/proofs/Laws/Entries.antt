@@ -72,9 +72,3 @@ without-take (x ∷ xs) (suc i) (suc n) h = ap (λ t. x ∷ t) (without-take xs 
 pub shifted : (es fs : List Entry) (i m : ℕ) → m < length es → i ≤ m → without m es ≡ without i fs
     → take m es ≡ without i (take (suc m) fs)
 shifted es fs i m k h e = sym (take-without es m k) ∙ ap (take m) e ∙ without-take fs i m h
-
--- as many elements as a list's first part has are that part
-pub take-length-take : (m : ℕ) (l : List Entry) → take (length (take m l)) l ≡ take m l
-take-length-take zero l = refl
-take-length-take (suc m) [] = refl
-take-length-take (suc m) (x ∷ xs) = ap (λ t. x ∷ t) (take-length-take m xs)

@@ -10,7 +10,7 @@ use lib.Dec.{ltb}
 use lib.ListN.{length, getD, getElem?, take, length-take}
 use lib.Seq.{getD-take}
 use borrow.Author.Tests.{lt-ltb, le-ltb}
-use Rattle.file_format.proofs.Laws.Lists.{at-some, at-beyond}
+use Rattle.laws.proofs.Lists.{at-some, at-beyond}
 use Rattle.sheet_format.specs.Bytes.{row}
 use Rattle.machine_spec.specs.Entries.{Entry, write, release}
 use Rattle.machine_lane.specs.Lanes.{noEntry, entryOf, entriesOf}

@@ -1,12 +1,12 @@
 -- Laws of lanes that stand at their ends: one lane, and all of the first n.
-use Prim.Native.Nat.{ℕ, zero, suc, _+_, _≤_, _<_}
+use Prim.Native.Nat.{ℕ, zero, suc, _≤_, _<_}
 use mathlib.Core.Path.{_≡_, refl, sym, ap, _∙_}
 use mathlib.Core.Bool.{Bool, true, false, _&&_, and-false}
 use mathlib.Core.List.{List, []}
 use native.Mathlib.Omega.{arith}
 use native.Mathlib.Decide.{decLe}
 use lib.ListN.{length, getD, getElem?}
-use Rattle.file_format.proofs.Laws.Lists.{at-some, at-beyond}
+use Rattle.laws.proofs.Lists.{at-some, at-beyond}
 use Rattle.barrier_placement.specs.declared.cookbook.Barrier.the-variants.{SL}
 use Rattle.sheet_format.specs.Layout.{Instr, barrier}
 use Rattle.machine_spec.specs.State.{Lane}
@@ -34,15 +34,6 @@ at-end l p h = ap isNone (at-beyond l p h)
 
 not-at-end : (l : List Instr) (p : ℕ) → p < length l → isNone (getElem? l p) ≡ false
 not-at-end l p h = ap isNone (at-some l p (barrier SL) h)
-
--- one lane more
-pub one-more : (at : ℕ → ℕ) (count : List ℕ) (t : ℕ) → ((i : ℕ) → i < t → getD count i 0 ≤ at i)
-    → getD count t 0 ≤ at t → (i : ℕ) → i < t + 1 → getD count i 0 ≤ at i
-one-more at count t h e i l = go (decLe (suc i) t)
-  where
-    go : Dec (i < t) → getD count i 0 ≤ at i
-    go (yes below) = h i below
-    go (no above) = let here : i ≡ t = omega arith in rw here e
 
 abbrev pub position : Blocks → ℕ → ℕ
 position s t = laneOf s t .control .pos

@@ -9,7 +9,7 @@ use native.Mathlib.Numerals.{add-one}
 use native.Mathlib.Omega.{arith}
 use lib.ListN.{length, getD, getElem?, take, drop, take-append-drop}
 use lib.Seq.{take-suc, take-all}
-use Rattle.file_format.proofs.Laws.Lists.{some-at}
+use Rattle.laws.proofs.Lists.{some-at}
 use Rattle.sheet_format.specs.Layout.{Instr, rank}
 use Rattle.sheet_format.specs.Read.{readRows}
 use Rattle.machine_spec.specs.Step.{Turn, waits, refuses, passes, does, turn}

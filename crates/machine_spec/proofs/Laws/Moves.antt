@@ -1,10 +1,10 @@
 -- Laws of reading moves from bytes.
-use Prim.Native.Nat.{ℕ, zero, suc, _+_, _*_, _/_, _%_, _≤_, _<_}
+use Prim.Native.Nat.{ℕ, zero, suc, _+_, _*_, _/_, _<_}
 use native.Mathlib.Omega.{arith}
 use mathlib.Core.Path.{_≡_, refl, sym, ap, ap₂, _∙_}
-use mathlib.Core.List.{List, [], _∷_, _++_, map}
+use mathlib.Core.List.{List, [], _∷_, map}
 use mathlib.Core.Option.{some}
-use lib.ListN.{length, getD, getElem?, drop, drop-of-length-le}
+use lib.ListN.{length, getD, getElem?, drop}
 use lib.Seq.{drop-cons}
 use Rattle.sheet_format.specs.Bytes.{joined}
 use Rattle.machine_spec.specs.Schedule.{Move, move}
@@ -29,8 +29,7 @@ moves-at (t ∷ c ∷ b) (suc k) h =
     moves-at b k (omega arith)
     ∙ ap₂ (λ x y. some (move (getD (t ∷ c ∷ b) x 0) (getD (t ∷ c ∷ b) y 0))) (sym lane) (sym choice)
 
--- A loop over the bytes holds, at byte i: movesIn (drop i s) are the moves left. It takes one move of two bytes, and
--- ends where no two are left.
+-- A loop over the bytes holds, at byte i: movesIn (drop i s) are the moves left. It takes one move of two bytes.
 pub moves-on : (s : List ℕ) (i : ℕ) → i + 1 < length s
     → movesIn (drop i s) ≡ move (getD s i 0) (getD s (i + 1) 0) ∷ movesIn (drop (i + 2) s)
 unfolding movesIn
@@ -38,17 +37,6 @@ moves-on s i h =
     let one : i + 1 ≡ suc i = omega arith in
     let two : i + 2 ≡ suc (suc i) = omega arith in
     rw (one, two, drop-cons s i 0 (omega arith), drop-cons s (suc i) 0 (omega arith))
-
-pub moves-end : (s : List ℕ) (i : ℕ) → length s ≤ i → movesIn (drop i s) ≡ []
-unfolding movesIn
-moves-end s i h = rw (drop-of-length-le s h)
-
--- after an even number of bytes the moves go on with those of what follows
-pub moves-append : (s r : List ℕ) → length s % 2 ≡ 0 → movesIn (s ++ r) ≡ movesIn s ++ movesIn r
-unfolding movesIn
-moves-append [] r e = refl
-moves-append (t ∷ []) r e = absurd (omega arith)
-moves-append (t ∷ c ∷ s) r e = ap (λ x. move t c ∷ x) (moves-append s r (omega arith))
 
 -- reading gives back the moves that were written
 pub moves-back : (mvs : List Move) → movesIn (joined (map moveBytes mvs)) ≡ mvs

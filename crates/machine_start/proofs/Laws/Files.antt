@@ -6,19 +6,15 @@ use mathlib.Core.List.{List}
 use native.Mathlib.Omega.{arith}
 use lib.ListN.{length}
 use Rattle.file_format.specs.Accepted.{Program}
-use Rattle.file_format.specs.Lawful.{Lawful}
 use Rattle.file_verdict.specs.Verdict.{verdict, refused as refusing, accepted}
 use Rattle.sheet_format.specs.declared.WriteResult.the-variants.{Wrote, Refuses}
-use Rattle.sheet_format.proofs.Answers.{BytesIn, refuses-by, wrote-by}
-use Rattle.sheet_format.proofs.Sizes.{sheet2-small}
-use Rattle.file_rows.proofs.ChainsBack.{chains-small}
+use Rattle.sheet_format.proofs.Answers.{BytesIn, refuses-as, wrote-as}
+use Rattle.machine_spec.proofs.Levels.{program-narrow}
 use Rattle.machine_spec.specs.declared.Machine.{Machine}
-use Rattle.machine_spec.specs.declared.Machine.the-variants.{Source, Target}
-use Rattle.machine_spec.specs.declared.Model.the-variants.{Tso}
 use Rattle.machine_spec.specs.Schedule.{Move, limit, legal}
 use Rattle.machine_spec.specs.State.{Outcome, ran, refused}
-use Rattle.machine_spec.specs.Run.{answerOf, startOf, programFor, runOn, runProgram}
-use Rattle.machine_start.specs.Programs.{programBytes, programBy}
+use Rattle.machine_spec.specs.Run.{answerOf, startOf, programFor, runOn, runProgram, levelOf}
+use Rattle.sheet_format.specs.Bytes.{sheetBytes, lowerBy}
 use Rattle.machine_start.proofs.Answered.{not-refused}
 
 -- a legal schedule's run is no refusal
@@ -30,16 +26,12 @@ ran-number s k e m mvs le = rw le (go (runOn m k mvs) refl)
     go (ran r) h = refl
     go (refused t p) h = absurd (not-refused s k e m mvs le t p h)
 
-program-small : (m : Machine) (k : Program) → Lawful k → length (programBytes m k) ≤ 4112
-program-small Source k w = omega (arith, chains-small k w)
-program-small (Target Tso) k w = sheet2-small k w
-
 -- a machine's program, in a buffer that takes every program
 module _ (m : Machine) (s own : List ℕ) (big : 4112 ≤ length own) where
-  pub file-verdict : {n r : ℕ} {after : List ℕ} → (Refuses n r, after) ≡ programBy m (verdict s) own
+  pub file-verdict : {n r : ℕ} {after : List ℕ} → (Refuses n r, after) ≡ lowerBy (levelOf m) (verdict s) own
       → verdict s ≡ refusing n r
-  file-verdict = refuses-by (programBytes m) 4112 (program-small m) s own big
+  file-verdict = refuses-as (levelOf m) s own (omega (arith, program-narrow m))
 
-  pub file-accepted : {n : ℕ} {after : List ℕ} → (Wrote n, after) ≡ programBy m (verdict s) own
-      → BytesIn (programBytes m) s own after
-  file-accepted = wrote-by (programBytes m) 4112 (program-small m) s own big
+  pub file-accepted : {n : ℕ} {after : List ℕ} → (Wrote n, after) ≡ lowerBy (levelOf m) (verdict s) own
+      → BytesIn (sheetBytes (levelOf m)) s own after
+  file-accepted = wrote-as (levelOf m) s own (omega (arith, program-narrow m))

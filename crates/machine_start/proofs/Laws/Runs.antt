@@ -10,7 +10,7 @@ use Rattle.file_format.specs.Accepted.{Program}
 use Rattle.file_format.specs.Lawful.{Lawful}
 use Rattle.file_wellformed.proofs.Lawful.{accepted-lawful}
 use Rattle.sheet_format.specs.Layout.{Instr, rank}
-use Rattle.machine_spec.specs.Schedule.{Move, limit, legal}
+use Rattle.machine_spec.specs.Schedule.{Move}
 use Rattle.machine_spec.specs.Entries.{Entry, write, release}
 use Rattle.machine_spec.specs.State.{Lane, State, Loaded, Outcome, idle, laneAt, run, begin}
 use Rattle.machine_spec.specs.Run.{answerOf, startOf, programFor, runOn, runProgram}

@@ -4,13 +4,14 @@ use mathlib.Core.Path.{_≡_, refl, sym, ap, subst, _∙_}
 use mathlib.Core.Bool.{Bool}
 use mathlib.Core.List.{List, [], _∷_}
 use native.Mathlib.Omega.{arith}
-use lib.ListN.{length, getD, take, drop, replicate}
+use lib.ListN.{length, getD, drop, replicate}
 use lib.Pow.{pow-mono}
+use Rattle.laws.proofs.Parts.{take-replicate}
 use Rattle.file_format.specs.Accepted.{Program, isVolatile}
 use Rattle.file_format.specs.Lawful.{Lawful}
 use Rattle.file_wellformed.proofs.Lawful.{accepted-lawful}
 use Rattle.machine_spec.specs.State.{startState}
-use Rattle.machine_spec.specs.Run.{programFor}
+use Rattle.machine_spec.specs.Run.{programFor, levelOf}
 use Rattle.machine_spec.specs.Moves.{movesIn}
 use Rattle.sheet_rows.specs.declared.parts.Parts.{Parts}
 use Rattle.sheet_rows.specs.Rows.{partsIn}
@@ -18,16 +19,11 @@ use Rattle.machine_spec.specs.declared.Machine.{Machine}
 use Rattle.machine_lane.specs.Lanes.{startLane}
 use Rattle.machine_state.specs.States.{Blocks, stateIn, Block, Sized}
 use Rattle.machine_run.specs.Runs.{ProgramAt}
-use Rattle.machine_start.specs.Programs.{programBytes}
+use Rattle.sheet_format.specs.Bytes.{sheetBytes}
 use Rattle.machine_start.specs.Setup.{ProgramIn, AtStart}
 use Rattle.machine_start.proofs.Laws.Programs.{header-read, program-at}
 
 -- ## zeros
-
-take-same : {A : Type 0} (n m : ℕ) (a : A) → n ≤ m → take n (replicate m a) ≡ replicate n a
-take-same zero m a h = refl
-take-same (suc n) zero a h = absurd (omega arith)
-take-same (suc n) (suc m) a h = ap (λ l. a ∷ l) (take-same n m a (omega arith))
 
 -- n lanes of zeros, the first ls of 64 values in memory and the first ks of 64 lock words
 abbrev pub counted : ℕ → ℕ → ℕ → List ℕ
@@ -65,9 +61,9 @@ zeroed-sized n ls ks = record { blocks = refl; each = each }
 pub zeroed-state : (n ls ks : ℕ) → n ≤ 4 → ls ≤ 64 → ks ≤ 64
     → stateIn (zeroed n ls ks) ≡ startState n (replicate ls 0) ks
 zeroed-state n ls ks a b c =
-    let lanes = take-same n 4 startLane a in
-    let memory = take-same {A = ℕ} ls 64 0 b in
-    let locks = take-same {A = ℕ} ks 64 0 c in
+    let lanes = take-replicate n 4 startLane a in
+    let memory = take-replicate {A = ℕ} ls 64 0 b in
+    let locks = take-replicate {A = ℕ} ks 64 0 c in
     λ i. record { lanes = lanes i; memory = memory i; locks = locks i }
 
 -- ## what is read of the rows
@@ -83,7 +79,7 @@ module _ {m : Machine} {mask : ℕ} {rows moves s : List ℕ} {k : Program} (p :
   header : (getD rows 0 0 ≡ length (k .lanes)) × (getD rows 1 0 ≡ k .locations) × (getD rows 2 0 ≡ k .locks)
   header =
       subst (λ b. (getD b 0 0 ≡ length (k .lanes)) × (getD b 1 0 ≡ k .locations) × (getD b 2 0 ≡ k .locks))
-      (sym (p .front)) (header-read k m (drop (length (programBytes m k)) (p .own)))
+      (sym (p .front)) (header-read k m (drop (length (sheetBytes (levelOf m) k)) (p .own)))
 
   -- the program of lane t lies in the part of the bytes b that q says
   abbrev Lies : List ℕ → Parts → ℕ → Type 0

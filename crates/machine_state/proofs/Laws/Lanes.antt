@@ -5,7 +5,7 @@ use mathlib.Core.List.{[], map}
 use native.Mathlib.Omega.{arith}
 use lib.ListN.{take, length-take, List·getD-eq-default}
 use lib.Seq.{getD-take}
-use Rattle.file_format.proofs.Laws.Lists.{map-at}
+use Rattle.laws.proofs.Lists.{map-at}
 use Rattle.machine_spec.specs.State.{idle, laneAt}
 use Rattle.machine_lane.specs.Lanes.{laneIn}
 use Rattle.machine_state.specs.States.{Blocks, LANES, storedIn, laneOf, countOf, stateIn, Sized}

@@ -1,13 +1,14 @@
--- Laws of the rules: the oldest entry commits on both machines, what a younger one needs, what a test said.
+-- Laws of the rules: the oldest entry commits on both machines, what a younger one needs.
 use Prim.Native.Nat.{ℕ, zero, suc, _<_}
-use mathlib.Core.Path.{_≡_, refl, ap, sym, _∙_}
-use mathlib.Core.Bool.{Bool, true, false, not, cond}
+use mathlib.Core.Path.{_≡_, refl, _∙_}
+use mathlib.Core.Bool.{Bool, true, false, cond}
 use mathlib.Core.List.{List, [], _∷_}
 use native.Mathlib.Omega.{arith}
-use borrow.Author.Tests.{not-true, not-false, ne-eqb}
+use borrow.Author.Tests.{ne-eqb}
 use lib.Dec.{eqb}
 use lib.ListN.{length, getD, take, length-take}
 use lib.Seq.{getD-take}
+use Rattle.laws.proofs.Bools.{by-test}
 use Rattle.machine_spec.specs.Entries.{Entry, isSync, isNil}
 use Rattle.machine_spec.specs.declared.Machine.{Machine}
 use Rattle.machine_spec.specs.declared.Machine.the-variants.{Source, Target}
@@ -19,11 +20,7 @@ use Rattle.machine_state.specs.States.{Blocks, CELLS, VALUES, rowAt, wor
 use Rattle.machine_lane.proofs.Laws.Entries.{entries-at}
 
 pub oldest-may : (m : Machine) (f : ℕ → Bool) (e : Entry) → true ≡ mayCommit m f [] e
-oldest-may Source f e = go (isSync f e)
-  where
-    go : (b : Bool) → true ≡ cond b true true
-    go true = refl
-    go false = refl
+oldest-may Source f e = by-test (λ b. true ≡ cond b true true) refl refl (isSync f e)
 oldest-may (Target Tso) f e = refl
 
 -- on x86-TSO nothing else does
@@ -50,10 +47,3 @@ pub some-older : (es : List Entry) (i : ℕ) → (i ≡ 0 → ⊥) → i < lengt
 some-older es zero h k = absurd (h refl)
 some-older [] (suc i) h k = absurd (omega arith)
 some-older (x ∷ es) (suc i) h k = refl
-
--- what the test of a rule says, whose answer was negated
-pub denied : {x y : Bool} → x ≡ y → not x ≡ true → y ≡ false
-denied {y = y} e h = not-true y (sym (ap not e) ∙ h)
-
-pub granted : {x y : Bool} → x ≡ y → not x ≡ false → y ≡ true
-granted {y = y} e h = not-false y (sym (ap not e) ∙ h)

@@ -1,11 +1,12 @@
 -- Laws of the borrowed array: its sizes, a block that is written, one write after another.
-use Prim.Native.Nat.{ℕ, zero, suc, min, _<_, _≤_}
-use mathlib.Core.Path.{_≡_, refl, ap, sym, subst, _∙_}
-use mathlib.Core.List.{List, [], _∷_, map}
+use Prim.Native.Nat.{ℕ, min, _<_, _≤_}
+use mathlib.Core.Path.{_≡_, ap, sym, subst, _∙_}
+use mathlib.Core.List.{List, [], map}
 use native.Mathlib.Omega.{arith}
-use native.Mathlib.Decide.{decLe}
 use lib.ListN.{length, getD, take, set, length-set, length-take}
 use lib.Seq.{getD-set-same, getD-set-other, set-set, set-getD, set-out, take-set-le}
+use Rattle.laws.proofs.Lists.{map-set, set-all}
+use Rattle.laws.proofs.Parts.{take-set}
 use Rattle.machine_spec.specs.State.{Lane}
 use Rattle.machine_lane.specs.Lanes.{entriesOf, laneIn}
 use Rattle.machine_lane.proofs.Laws.Entries.{entries-length}
@@ -14,35 +15,12 @@ use Rattle.machine_state.specs.States.{LANES, LOCATIONS, LOCKS}
 use Rattle.machine_state.specs.States.{Blocks, rowAt, withWord, storedIn, laneOf, countOf, stateIn}
 use Rattle.machine_state.specs.States.{Block, Sized, Lies, withLane, Became, Shared}
 
-pub take-set : {A : Type 0} (n : ℕ) (l : List A) (t : ℕ) (a : A) → take n (set l t a) ≡ set (take n l) t a
-take-set zero l t a = refl
-take-set (suc n) [] t a = refl
-take-set (suc n) (x ∷ l) zero a = refl
-take-set (suc n) (x ∷ l) (suc t) a = ap (λ r. x ∷ r) (take-set n l t a)
-
-map-set : {A B : Type 0} (f : A → B) (l : List A) (t : ℕ) (a : A) → map f (set l t a) ≡ set (map f l) t (f a)
-map-set f [] t a = refl
-map-set f (x ∷ l) zero a = refl
-map-set f (x ∷ l) (suc t) a = ap (λ r. f x ∷ r) (map-set f l t a)
-
 -- ## sizes
-
--- what holds of every element still does where one is replaced by another that has it
-each-set : {A : Type 0} (P : A → Type 0) (n : ℕ) (l : List A) (t : ℕ) (a d : A) → t < length l → P a
-    → ((i : ℕ) → i < n → P (getD l i d)) → (i : ℕ) → i < n → P (getD (set l t a) i d)
-each-set P n l t a d h p q i k = go (decLe i t) (decLe t i)
-  where
-    go : Dec (i ≤ t) → Dec (t ≤ i) → P (getD (set l t a) i d)
-    go (yes x) (yes y) =
-        let e : i ≡ t = omega arith in
-        subst P (sym (ap (λ j. getD (set l t a) j d) e ∙ getD-set-same l t a d h)) p
-    go (no x) y = subst P (sym (getD-set-other l t i a d (λ e. omega arith))) (q i k)
-    go (yes x) (no y) = subst P (sym (getD-set-other l t i a d (λ e. omega arith))) (q i k)
 
 pub block-set : (b : List (List ℕ)) (j : ℕ) (r : List ℕ) → Block b → j < 3 → length r ≡ 64 → Block (set b j r)
 block-set b j r h k e = record {
   rows = length-set b j r ∙ h .rows;
-  words = each-set (λ x. length x ≡ 64) 3 b j r [] (omega (arith, h .rows)) e (h .words);
+  words = set-all (λ i x. i < 3 → length x ≡ 64) [] b j r (h .words) (λ l. e);
 }
 
 pub word-set : (b : List (List ℕ)) (j i x : ℕ) → Block b → j < 3 → Block (set b j (set (getD b j []) i x))
@@ -51,7 +29,7 @@ word-set b j i x h k = block-set b j _ h k (length-set (getD b j []) i x ∙ h .
 sized-set : (s : Blocks) (t : ℕ) (b : List (List ℕ)) → Sized s → t < 5 → Block b → Sized (set s t b)
 sized-set s t b h k e = record {
   blocks = length-set s t b ∙ h .blocks;
-  each = each-set Block 5 s t b [] (omega (arith, h .blocks)) e (h .each);
+  each = set-all (λ i x. i < 5 → Block x) [] s t b (h .each) (λ l. e);
 }
 
 -- past a row's end nothing is written

@@ -6,13 +6,14 @@ use mathlib.Core.Option.{some}
 use native.Mathlib.Omega.{arith}
 use lib.ListN.{length, getD, take, set, length-set, length-take}
 use lib.Seq.{getD-set-same, getD-set-other, set-getD, set-out, take-set-le, take-suc-set}
+use Rattle.laws.proofs.Parts.{take-set}
 use Rattle.machine_spec.specs.Entries.{Entry, appendEntry}
 use Rattle.machine_lane.specs.Lanes.{entryOf, entriesOf, laneIn, placedAt, withPending, withRegister}
 use Rattle.machine_lane.proofs.Laws.Entries.{entries-length, entries-set}
 use Rattle.machine_lane.proofs.Laws.Lanes.{lane-eq}
 use Rattle.machine_state.specs.States.{HEAD, CELLS, VALUES, POSITION, LENGTH, firsts}
 use Rattle.machine_state.specs.States.{Blocks, rowAt, withWord, storedIn, laneOf, Block, Lies, Became}
-use Rattle.machine_state.proofs.Laws.States.{take-set, block-set, word-set}
+use Rattle.machine_state.proofs.Laws.States.{block-set, word-set}
 use Rattle.machine_state.proofs.Laws.States.{own, block-became, again, became, came}
 
 -- the first n words of a list

@@ -5,7 +5,7 @@ use mathlib.Core.Bool.{Bool, true, false}
 use mathlib.Core.List.{List}
 use mathlib.Core.Option.{Option}
 use lib.ListN.{length, getD, getElem?, take}
-use Rattle.file_format.proofs.Laws.Lists.{at-some, at-beyond}
+use Rattle.laws.proofs.Lists.{at-some, at-beyond}
 use Rattle.machine_spec.specs.Entries.{Entry, without}
 use Rattle.machine_spec.specs.declared.Machine.{Machine}
 use Rattle.machine_spec.specs.Rules.{mayCommit}

@@ -7,7 +7,7 @@ use mathlib.Core.Option.{Option, none, some}
 use native.Mathlib.Omega.{arith}
 use lib.ListN.{getElem?, drop}
 use lib.Seq.{drop-drop}
-use Rattle.file_format.proofs.Laws.Lists.{at-beyond}
+use Rattle.laws.proofs.Lists.{at-beyond}
 use Rattle.sheet_rows.proofs.Laws.Read.{rows-length}
 use Rattle.sheet_format.specs.Layout.{Instr}
 use Rattle.sheet_format.specs.Read.{readInstr, readRows}

@@ -1,20 +1,24 @@
 -- Laws of a lane's part of a sheet: how long it is, and what holds of each of its instructions.
 use Prim.Native.Nat.{ℕ, zero, suc, _*_, _≤_}
-use native.Mathlib.Nat.{mul-suc}
+use native.Mathlib.Nat.{suc-mul, mul-le-mul-right}
 use native.Mathlib.Omega.{arith}
 use mathlib.Core.Path.{_≡_, refl}
 use mathlib.Core.Bool.{Bool, true, false, _&&_}
 use mathlib.Core.List.{List, [], _∷_, _++_, map}
 use mathlib.Core.Option.{some}
-use lib.ListN.{length, getElem?, length-append, length-map}
+use lib.ListN.{length, getElem?}
 use Rattle.file_format.specs.declared.accepted.Op.{Op}
 use Rattle.barrier_placement.specs.declared.cookbook.Barrier.{Barrier}
 use Rattle.barrier_placement.specs.declared.cookbook.Barrier.the-variants.{LL, LS, SS, SL}
 use Rattle.barrier_placement.specs.Chain.{Chain}
 use Rattle.barrier_placement.specs.Steps.{steps}
 use Rattle.barrier_placement.specs.Place.{stands, keep, chosen}
-use Rattle.sheet_format.specs.Layout.{Instr, op, barrier, start, aim, cells, sheet}
-use Rattle.sheet_format.specs.Levels.{Level, level2, keeps, placeFrom, placed}
+use Rattle.barrier_placement.specs.Layout.{Placed, start}
+use Rattle.barrier_placement.proofs.Laws.Layout.{layout-end}
+use Rattle.sheet_format.specs.Layout.{Instr, op, barrier, aim, cells, sheet}
+use Rattle.sheet_format.specs.declared.Level.{Level}
+use Rattle.sheet_format.specs.declared.Level.the-variants.{Level0, Level1, Level2}
+use Rattle.sheet_format.specs.Levels.{keeps, widest, placeFrom, placed}
 
 -- P holds of each element
 abbrev pub Each : {A : Type 0} → (A → Type 0) → List A → Type 0
@@ -26,7 +30,7 @@ keep-length true b bs = omega arith
 keep-length false b bs = omega arith
 
 -- at most four barriers stand before an operation
-pub chosen-length : (f : Barrier → Bool) → length (chosen f) ≤ 4
+chosen-length : (f : Barrier → Bool) → length (chosen f) ≤ 4
 chosen-length f =
     let l : List Barrier = keep (f SL) SL [] in
     let s : List Barrier = keep (f SS) SS l in
@@ -39,29 +43,25 @@ each-bar : (P : Instr → Type 0) → ((b : Barrier) → P (barrier b)) → (bs 
 each-bar P h [] is w = w
 each-bar P h (b ∷ bs) is w = (h b, each-bar P h bs is w)
 
+-- with the barriers that its level keeps, an operation makes at most so many instructions as the level says
+kept-few : (l : Level) (o : Op) (f : Barrier → Bool) → suc (length (chosen (λ b. keeps l o b && f b))) ≤ widest l
+kept-few Level0 o f = omega arith
+kept-few Level1 o f = omega (arith, chosen-length f)
+kept-few Level2 o f = omega (arith, keep-length (f SL) SL [])
+
+pub widest-few : (l : Level) → widest l ≤ 5
+widest-few Level0 = omega arith
+widest-few Level1 = omega arith
+widest-few Level2 = omega arith
+
 module _ (l : Level) (s : Chain) where
-  pub start-small : (os : List Op) (p i : ℕ) → start (placeFrom l s p os) i ≤ 5 * length os
+  start-small : (os : List Op) (p i : ℕ) → start (placeFrom l s p os) i ≤ length os * widest l
   start-small [] p i = omega arith
   start-small (o ∷ os) p zero = omega arith
   start-small (o ∷ os) p (suc i) =
-      omega (arith, start-small os (suc p) i, chosen-length (λ b. keeps l o b && stands s b p))
+      omega (arith, suc-mul (length os) (widest l), start-small os (suc p) i, kept-few l o (λ b. stands s b p))
 
   module _ (r : ℕ → ℕ) where
-    -- n instructions at most for each operation, with its barriers
-    cells-length : (n : ℕ) → ((o : Op) (p : ℕ) → suc (length (chosen (λ b. keeps l o b && stands s b p))) ≤ n)
-        → (os : List Op) (p : ℕ) → length (cells r (placeFrom l s p os)) ≤ n * length os
-    cells-length n few [] p = omega arith
-    cells-length n few (o ∷ os) p =
-        let bs = chosen (λ b. keeps l o b && stands s b p) in
-        omega (
-          arith,
-          mul-suc n (length os),
-          cells-length n few os (suc p),
-          few o p,
-          length-append (map barrier bs) (op (aim r o) ∷ cells r (placeFrom l s (suc p) os)),
-          length-map bs barrier,
-        )
-
     -- what holds of every barrier and of every operation of the chain, newly aimed, holds of each instruction
     pub cells-each : (P : Instr → Type 0) → ((b : Barrier) → P (barrier b)) → (os : List Op) (p : ℕ)
         → ((i : ℕ) (o : Op) → getElem? os i ≡ some o → P (op (aim r o))) → Each P (cells r (placeFrom l s p os))
@@ -70,18 +70,14 @@ module _ (l : Level) (s : Chain) where
         each-bar P bars (chosen (λ b. keeps l o b && stands s b p)) (op (aim r o) ∷ cells r (placeFrom l s (suc p) os))
         (h 0 o refl, cells-each P bars os (suc p) (λ i. h (suc i)))
 
-pub lane-length : (l : Level) (vol : ℕ → Bool) (os : List Op) → length (sheet (placed l vol os)) ≤ 5 * length os
-lane-length l vol os =
-    let s : Chain = steps vol os in
-    cells-length l s (start (placed l vol os)) 5
-    (λ o p. omega (arith, chosen-length (λ b. keeps l o b && stands s b p))) os 0
+-- a lane is as long as where its end is
+pub lane-end : (ps : List (Placed Op)) → length (sheet ps) ≡ start ps (length ps)
+lane-end ps = layout-end barrier (λ o. op (aim (start ps) o)) ps
 
--- level 2 keeps at most one barrier
-pub lane2-length : (vol : ℕ → Bool) (os : List Op) → length (sheet (placed level2 vol os)) ≤ 2 * length os
-lane2-length vol os =
-    let s : Chain = steps vol os in
-    cells-length level2 s (start (placed level2 vol os)) 2 (λ o p. omega (
-      arith,
-      keep-length (stands s SL p) SL
-          [],
-    )) os 0
+-- a lane of at most 64 operations
+module _ (l : Level) (vol : ℕ → Bool) (os : List Op) (short : length os ≤ 64) where
+  pub lane-start : (i : ℕ) → start (placed l vol os) i ≤ 64 * widest l
+  lane-start i = omega (arith, start-small l (steps vol os) os 0 i, mul-le-mul-right (widest l) short)
+
+  pub lane-length : length (sheet (placed l vol os)) ≤ 64 * widest l
+  lane-length = rw (lane-end (placed l vol os)) (lane-start _)

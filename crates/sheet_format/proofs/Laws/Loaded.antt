@@ -2,24 +2,25 @@
 use Prim.Native.Nat.{ℕ, _+_, _*_, _≤_, _<_}
 use mathlib.Core.Path.{_≡_, refl, sym, ap, _∙_}
 use mathlib.Core.Bool.{true}
-use mathlib.Core.List.{List, [], _∷_, _++_, map, map-map}
+use mathlib.Core.List.{List, [], _∷_, _++_, map}
 use native.Mathlib.Omega.{arith}
 use borrow.Author.Tests.{ne-eqb}
-use lib.ListN.{length, getD, List·getD-map}
+use lib.ListN.{length, getD, length-map, List·getD-map}
 use lib.Seq.{sets}
-use Rattle.file_format.specs.declared.accepted.Op.{Op}
 use Rattle.file_format.specs.Fields.{laneCount, locations, locks, mask, head}
 use Rattle.file_format.specs.Rules.{headerRule}
-use Rattle.file_format.specs.Accepted.{Program, programOf, opsAt}
+use Rattle.file_format.specs.Accepted.{Program, programOf, isVolatile, opsAt}
 use Rattle.file_format.proofs.Laws.Lanes.{lane-ops}
 use Rattle.file_format.proofs.Laws.Rules.{four-lanes}
 use Rattle.file_format.proofs.Laws.Stored.{lane-count}
 use Rattle.file_verdict.specs.Verdict.{verdict, accepted, refusalOf, numberOf, recordOf}
 use Rattle.file_verdict.proofs.Laws.Verdict.{sound, accepted-as}
 use Rattle.sheet_format.specs.declared.WriteResult.the-variants.{Refuses}
-use Rattle.sheet_format.specs.Layout.{Instr}
-use Rattle.sheet_format.specs.Levels.{level1}
-use Rattle.sheet_format.specs.Bytes.{wordBytes, joined, laneBytes, headerBy, writeInto, answerBy}
+use Rattle.sheet_format.specs.declared.Level.{Level}
+use Rattle.sheet_format.specs.Layout.{Instr, sheet}
+use Rattle.sheet_format.specs.Levels.{placed, placedLanes, sheetLanes}
+use Rattle.sheet_format.specs.Bytes.{wordBytes, joined, laneBytes, levelNumber, maskAt, sheetBytes}
+use Rattle.sheet_format.specs.Bytes.{writeInto, answerBy}
 use Rattle.sheet_format.specs.Put.{laid, inTurn}
 use Rattle.sheet_format.proofs.Laws.Put.{whole-put}
 use Rattle.sheet_format.proofs.Laws.Rows.{lane-bytes}
@@ -52,56 +53,62 @@ module _ (s : List ℕ) (header : headerRule s ≡ true) where
   few-by : length (programOf s .lanes) ≤ 4
   few-by = omega (arith, count-by, four-lanes s header)
 
-  -- each lane's instructions come of its operations, none of none
-  module _ (level : ℕ) (f : List Op → List Instr) (none : f [] ≡ []) where
-    abbrev lanesBy : List (List Instr)
-    lanesBy = map f (programOf s .lanes)
+  -- at a level
+  module _ (l : Level) where
+    abbrev lanes : List (List Instr)
+    lanes = sheetLanes l (programOf s)
 
-    abbrev pub sheetBy : List ℕ
-    sheetBy =
-        headerBy (length (programOf s .lanes)) (locations s) (locks s) level (mask s) lanesBy
-        ++ joined (map (laneBytes level1) lanesBy)
+    -- the instructions of lane t
+    abbrev pub instrsAt : ℕ → List Instr
+    instrsAt t = sheet (placed l (isVolatile (mask s)) (opsAt s (head s t)))
 
-    abbrev pub laneAt : ℕ → List Instr
-    laneAt t = f (opsAt s (head s t))
-
-    size-at : (t : ℕ) → t < 4 → length (laneAt t) ≡ length (getD lanesBy t [])
-    size-at t h =
-        ap (λ ops. length (f ops)) (ops-by t h)
-        ∙ sym (ap length (ap (getD lanesBy t) (sym none) ∙ List·getD-map f (programOf s .lanes) t []))
+    lane-at : (t : ℕ) → t < 4 → instrsAt t ≡ getD lanes t []
+    lane-at t h =
+        ap (λ ops. sheet (placed l (isVolatile (mask s)) ops)) (ops-by t h)
+        ∙ sym (List·getD-map sheet (placedLanes l (programOf s)) t []
+        ∙ ap sheet (List·getD-map (placed l (isVolatile (mask s))) (programOf s .lanes) t []))
 
     -- header and lanes, of which text t is lane t
     module _
-        (text : ℕ → List ℕ) (same : (t : ℕ) → t < 4 → text t ≡ laneBytes level1 (laneAt t)) {a b c d : ℕ}
-        (ea : a ≡ length (laneAt 0)) (eb : b ≡ length (laneAt 1)) (ec : c ≡ length (laneAt 2))
-        (ed : d ≡ length (laneAt 3))
+        (text : ℕ → List ℕ) (same : (t : ℕ) → t < 4 → text t ≡ laneBytes l (instrsAt t)) {a b c d : ℕ}
+        (ea : a ≡ length (instrsAt 0)) (eb : b ≡ length (instrsAt 1)) (ec : c ≡ length (instrsAt 2))
+        (ed : d ≡ length (instrsAt 3))
       where
-        lanes-by : inTurn text 4 ≡ joined (map (laneBytes level1) lanesBy)
+        lanes-by : inTurn text 4 ≡ joined (map (laneBytes l) lanes)
         lanes-by =
-            let os = programOf s .lanes in
-            turn-same text (λ t. laneBytes level1 (f (getD os t []))) 4
-            (λ t h. same t h ∙ ap (λ ops. laneBytes level1 (f ops)) (ops-by t h))
-            ∙ turn-all (λ ops. laneBytes level1 (f ops)) [] (ap (laneBytes level1) none) os 4 few-by
-            ∙ sym (ap joined (map-map (laneBytes level1) f os))
+            let few : length lanes ≤ 4 =
+            omega (
+              arith,
+              few-by,
+              length-map (placedLanes l (programOf s)) sheet,
+              length-map (programOf s .lanes) (placed l (isVolatile (mask s))),
+            ) in
+            turn-same text (λ t. laneBytes l (getD lanes t [])) 4
+            (λ t h. same t h ∙ ap (laneBytes l) (lane-at t h))
+            ∙ turn-all (laneBytes l) [] refl lanes 4 few
 
-        parts-by : {n ls ks m : ℕ} → n ≡ laneCount s → ls ≡ locations s → ks ≡ locks s → m ≡ mask s
-            → (n ∷ ls ∷ ks ∷ level ∷ wordBytes m ++ 0 ∷ 0 ∷ [])
+        size-at : {n : ℕ} (t : ℕ) → t < 4 → n ≡ length (instrsAt t) → n ≡ length (getD lanes t [])
+        size-at t h e = e ∙ ap length (lane-at t h)
+
+        parts-by : {n ls ks m : ℕ} → n ≡ laneCount s → ls ≡ locations s → ks ≡ locks s → m ≡ maskAt l (programOf s)
+            → (n ∷ ls ∷ ks ∷ levelNumber l ∷ wordBytes m ++ 0 ∷ 0 ∷ [])
             ++ (wordBytes a ++ (wordBytes b ++ (wordBytes c ++ (wordBytes d ++ []))))
             ++ inTurn text 4
-            ≡ sheetBy
+            ≡ sheetBytes l (programOf s)
+        unfolding sheetBytes
         parts-by en els eks em =
             let nn = en ∙ count-by in
-            let na = ea ∙ size-at 0 (omega arith) in
-            let nb = eb ∙ size-at 1 (omega arith) in
-            let nc = ec ∙ size-at 2 (omega arith) in
-            let nd = ed ∙ size-at 3 (omega arith) in
-            λ i. (nn i ∷ els i ∷ eks i ∷ level ∷ wordBytes (em i) ++ 0 ∷ 0 ∷ [])
+            let na = size-at 0 (omega arith) ea in
+            let nb = size-at 1 (omega arith) eb in
+            let nc = size-at 2 (omega arith) ec in
+            let nd = size-at 3 (omega arith) ed in
+            λ i. (nn i ∷ els i ∷ eks i ∷ levelNumber l ∷ wordBytes (em i) ++ 0 ∷ 0 ∷ [])
             ++ (wordBytes (na i) ++ (wordBytes (nb i) ++ (wordBytes (nc i) ++ (wordBytes (nd i) ++ [])))) ++ lanes-by i
 
-        pub body-by : 16 + length (inTurn text 4) ≡ length sheetBy
+        pub body-by : 16 + length (inTurn text 4) ≡ length (sheetBytes l (programOf s))
         body-by = omega (arith, ap length (parts-by refl refl refl refl))
 
-        pub sizes-by : 16 + 8 * (a + (b + (c + d))) ≡ length sheetBy
+        pub sizes-by : 16 + 8 * (a + (b + (c + d))) ≡ length (sheetBytes l (programOf s))
         sizes-by =
             omega (
               arith,
@@ -113,17 +120,18 @@ module _ (s : List ℕ) (header : headerRule s ≡ true) where
               bytes-at 3 (omega arith),
             )
           where
-            bytes-at : (t : ℕ) → t < 4 → length (text t) ≡ 8 * length (laneAt t)
-            bytes-at t h = ap length (same t h) ∙ lane-bytes level1 (laneAt t)
+            bytes-at : (t : ℕ) → t < 4 → length (text t) ≡ 8 * length (instrsAt t)
+            bytes-at t h = ap length (same t h) ∙ lane-bytes l (instrsAt t)
 
         -- the halves of the header and the lanes, put one after the other
-        pub put-by : {n ls ks m : ℕ} → n ≡ laneCount s → ls ≡ locations s → ks ≡ locks s → m ≡ mask s
-            → {l₁ l₂ l₃ : List ℕ} (buffer : List ℕ) → length sheetBy ≤ length buffer
-            → l₁ ≡ laid buffer 0 (n ∷ ls ∷ ks ∷ level ∷ wordBytes m ++ 0 ∷ 0 ∷ [])
+        pub put-by : {n ls ks m : ℕ} → n ≡ laneCount s → ls ≡ locations s → ks ≡ locks s
+            → m ≡ maskAt l (programOf s) → {l₁ l₂ l₃ : List ℕ} (buffer : List ℕ)
+            → length (sheetBytes l (programOf s)) ≤ length buffer
+            → l₁ ≡ laid buffer 0 (n ∷ ls ∷ ks ∷ levelNumber l ∷ wordBytes m ++ 0 ∷ 0 ∷ [])
             → l₂ ≡ laid l₁ 8 (wordBytes a ++ (wordBytes b ++ (wordBytes c ++ (wordBytes d ++ []))))
             → l₃ ≡ sets l₂ 16 (inTurn text 4)
-            → l₃ ≡ writeInto sheetBy buffer .1
+            → l₃ ≡ writeInto (sheetBytes l (programOf s)) buffer .1
         put-by {n} {ls} {ks} {m} en els eks em buffer room =
-            whole-put buffer (n ∷ ls ∷ ks ∷ level ∷ wordBytes m ++ 0 ∷ 0 ∷ [])
-            (wordBytes a ++ (wordBytes b ++ (wordBytes c ++ (wordBytes d ++ [])))) (inTurn text 4) sheetBy refl refl
-            (parts-by en els eks em) room
+            whole-put buffer (n ∷ ls ∷ ks ∷ levelNumber l ∷ wordBytes m ++ 0 ∷ 0 ∷ [])
+            (wordBytes a ++ (wordBytes b ++ (wordBytes c ++ (wordBytes d ++ [])))) (inTurn text 4)
+            (sheetBytes l (programOf s)) refl refl (parts-by en els eks em) room

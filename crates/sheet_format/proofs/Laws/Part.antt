@@ -3,25 +3,21 @@ use Prim.Native.Nat.{ℕ, _+_, _-_, _≤_}
 use mathlib.Core.Path.{_≡_, sym, ap, _∙_}
 use mathlib.Core.List.{List, [], _++_, append-assoc, append-nil}
 use native.Mathlib.Omega.{arith}
-use lib.ListN.{length, take, drop, length-drop, length-take}
-use lib.Seq.{sets-eq, take-all, drop-drop, drop-length}
+use lib.ListN.{length, take, drop}
+use lib.Seq.{sets-eq, drop-drop, drop-length}
 use borrow.Rule.Slice.PartMut.{putMid, postOf, post-is}
+use Rattle.laws.proofs.Parts.{part-length, take-rest}
 use Rattle.sheet_format.specs.Bytes.{over}
 use Rattle.sheet_format.specs.Put.{Puts}
 use Rattle.sheet_format.proofs.Laws.Put.{puts-front}
-
-pub part-length : (l : List ℕ) (i : ℕ) → i ≤ length l → length (take (length l - i) (drop i l)) ≡ length l - i
-part-length l i h = omega (arith, length-take (length l - i) (drop i l), length-drop i l)
 
 -- a part `&mut l[i..]` that comes back with bytes written at its front
 pub part-back : (l xs : List ℕ) (i : ℕ) {ys : List ℕ} {n : ℕ} → i + length xs ≤ length l
     → Puts (take (length l - i) (drop i l)) 0 xs ys n → Puts l i xs (putMid i (length l - i) l ys) (i + n)
 part-back l xs i {ys} h p =
-    let rest : take (length l - i) (drop i l) ≡ drop i l =
-    take-all (length l - i) (drop i l) (omega (arith, length-drop i l)) in
     let none : postOf i (length l - i) l ≡ [] = post-is i (length l) l (omega arith) ∙ drop-length l in
     let front : ys ≡ over xs (drop i l) =
-    puts-front (omega (arith, part-length l i (omega arith))) p ∙ ap (over xs) rest in
+    puts-front (omega (arith, part-length l i (omega arith))) p ∙ ap (over xs) (take-rest i l) in
     record {
       bytes =
           ap (λ z. take i l ++ (ys ++ z)) none ∙ ap (λ z. take i l ++ z) (append-nil ys ∙ front)

@@ -4,27 +4,15 @@ use mathlib.Core.Path.{_≡_, refl, sym, ap, ap₂, _∙_}
 use mathlib.Core.Bool.{Bool, true, false, cond}
 use mathlib.Core.List.{List, [], _∷_, _++_}
 use native.Mathlib.Omega.{arith}
-use lib.ListN.{length, getD, take, drop, set, length-append}
+use lib.ListN.{length, getD, take, drop, length-append}
 use lib.Dec.{leb}
 use borrow.Author.Tests.{le-leb}
-use lib.Seq.{sets, sets-eq, set-comm, length-sets, take-suc}
+use lib.Seq.{sets, sets-eq, length-sets, take-suc}
+use Rattle.laws.proofs.Parts.{sets-on}
 use Rattle.sheet_format.specs.declared.WriteResult.the-variants.{Wrote, Refuses}
 use Rattle.sheet_format.specs.Bytes.{over, writeInto}
 use Rattle.sheet_format.specs.Put.{Puts, laid}
 use Rattle.sheet_format.proofs.Laws.Written.{written-all, short-untouched}
-
-pub sets-on : (l : List ℕ) (i : ℕ) (x y : List ℕ) → sets (sets l i x) (i + length x) y ≡ sets l i (x ++ y)
-sets-on l i [] y = let e : i + 0 ≡ i = omega arith in ap (λ n. sets l n y) e
-sets-on l i (a ∷ x) y =
-    let e : i + suc (length x) ≡ suc i + length x = omega arith in
-    ap (λ n. sets (sets (set l i a) (suc i) x) n y) e ∙ sets-on (set l i a) (suc i) x y
-
--- a store before a run of stores
-pub before-sets : (l : List ℕ) (k i : ℕ) (x : List ℕ) (b : ℕ) → i < k → set (sets l k x) i b ≡ sets (set l i b) k x
-before-sets l k i [] b h = refl
-before-sets l k i (a ∷ x) b h =
-    before-sets (set l k a) (suc k) i x b (omega arith)
-    ∙ ap (λ m. sets m (suc k) x) (set-comm l k i a b (λ e. omega arith))
 
 -- first x, and behind it y
 pub puts-on : {l m n x y : List ℕ} {i j k : ℕ} → Puts l i x m j → Puts m j y n k → Puts l i (x ++ y) n k
@@ -45,13 +33,6 @@ laid-length l i x e = ap length e ∙ go (leb (i + length x) (length l))
     go : (b : Bool) → length (cond b (sets l i x) l) ≡ length l
     go true = length-sets l i x
     go false = refl
-
-pub laid-put : (l : List ℕ) (i : ℕ) (y : List ℕ) {x m : List ℕ} {n : ℕ} → x ≡ y → length y ≡ n
-    → i + length y ≤ length l → m ≡ laid l i x → Puts l i y m (i + n)
-laid-put l i y e size h p = record {
-  bytes = p ∙ ap (laid l i) e ∙ laid-fits l i y h;
-  behind = ap (λ k. i + k) (sym size);
-}
 
 pub puts-none : {l : List ℕ} {i : ℕ} → Puts l i [] l i
 puts-none {l} {i} = record { bytes = refl; behind = omega arith }

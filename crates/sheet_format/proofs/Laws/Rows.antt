@@ -1,20 +1,13 @@
--- Laws of the bytes of numbers and instructions: how many there are, and the number that two or four of them make.
-use Prim.Native.Nat.{ℕ, _+_, _*_, _/_, _%_, _^_, _<_, _≤_}
+-- Laws of the bytes of instructions: how many there are.
+use Prim.Native.Nat.{ℕ, _+_, _*_, _≤_}
 use native.Mathlib.Omega.{arith}
 use mathlib.Core.Path.{_≡_, refl, sym, ap, _∙_}
 use mathlib.Core.List.{List, [], _∷_, _++_, map, append-assoc}
 use lib.ListN.{length, getD, length-append}
 use Rattle.file_format.specs.declared.accepted.Op.the-variants.{Set, Add, Load, Store, Lock, Unlock, Skip}
 use Rattle.sheet_format.specs.Layout.{Instr, op, barrier}
-use Rattle.sheet_format.specs.Levels.{Level}
+use Rattle.sheet_format.specs.declared.Level.{Level}
 use Rattle.sheet_format.specs.Bytes.{instrBytes, joined, laneBytes}
-
-pub word-back : (c : ℕ) → c < 65536 → c % 256 + 256 * (c / 256 % 256) ≡ c
-word-back c h = omega arith
-
-pub quad-back : (c : ℕ) → c < 2 ^ 32
-    → c % 256 + 256 * (c / 256 % 256) + 65536 * (c / 65536 % 256 + 256 * (c / 65536 / 256 % 256)) ≡ c
-quad-back c h = omega arith
 
 pub instr-length : (l : Level) (i : Instr) → length (instrBytes l i) ≡ 8
 instr-length l (op (Set a c)) = refl

@@ -1,33 +1,21 @@
 -- Laws of rows that are written whole, and count only where they stand.
-use Prim.Native.Nat.{ℕ, suc, _+_, _*_, _≤_}
+use Prim.Native.Nat.{ℕ, _+_, _*_, _≤_}
 use mathlib.Core.Path.{_≡_, refl, sym, ap, ap₂, subst, _∙_}
 use mathlib.Core.Bool.{Bool, true, false}
-use mathlib.Core.List.{List, [], _∷_, _++_, append-nil}
+use mathlib.Core.List.{List, [], _++_, append-nil}
 use native.Mathlib.Omega.{arith}
-use lib.ListN.{length, set, length-append}
-use lib.Seq.{sets, set-set, length-sets}
+use lib.ListN.{length, length-append}
+use lib.Seq.{sets, length-sets}
 use mir.Val.{boolByte}
+use Rattle.laws.proofs.Parts.{sets-over, sets-on}
 use Rattle.sheet_format.specs.Bytes.{row}
 use Rattle.sheet_format.specs.Put.{Puts, laid}
-use Rattle.sheet_format.proofs.Laws.Put.{sets-on, before-sets, laid-fits}
+use Rattle.sheet_format.proofs.Laws.Put.{laid-fits}
 use Rattle.sheet_lanes.specs.Put.{rowIf, Begins}
 
 pub row-size : (b : Bool) (code at : ℕ) → at + 8 * boolByte b ≡ at + length (rowIf b code)
 row-size true code at = refl
 row-size false code at = refl
-
-pub flag-small : (b : Bool) → boolByte b ≤ 1
-flag-small true = omega arith
-flag-small false = omega arith
-
--- bytes written over fewer
-sets-over : (l : List ℕ) (i : ℕ) (x y : List ℕ) → length x ≤ length y → sets (sets l i x) i y ≡ sets l i y
-sets-over l i [] y h = refl
-sets-over l i (a ∷ x) [] h = absurd (omega arith)
-sets-over l i (a ∷ x) (b ∷ y) h =
-    ap (λ m. sets m (suc i) y)
-    (before-sets (set l i a) (suc i) i x b (omega arith) ∙ ap (λ m. sets m (suc i) x) (set-set l i a b))
-    ∙ sets-over (set l i b) (suc i) x y (omega arith)
 
 -- bytes laid over those that were written there before
 pub laid-over : (l : List ℕ) (i : ℕ) (x y : List ℕ) {m n : List ℕ} → length x ≤ length y → i + length y ≤ length l

@@ -3,23 +3,23 @@ use Prim.Native.Nat.{ℕ, zero, suc, _+_, _≤_, _<_}
 use mathlib.Core.Path.{_≡_, refl, sym, ap, _∙_}
 use mathlib.Core.List.{List, [], _∷_, _++_, map, append-assoc}
 use native.Mathlib.Omega.{arith}
-use lib.ListN.{length, getD, take, length-append, length-map}
+use lib.ListN.{length, getD, take}
 use lib.Seq.{take-suc, take-all}
+use Rattle.laws.proofs.Lists.{at-some}
 use Rattle.file_format.specs.declared.accepted.Op.{Op}
 use Rattle.file_format.specs.Stored.{noOp}
-use Rattle.file_format.proofs.Laws.Lists.{at-some}
 use Rattle.barrier_placement.specs.declared.cookbook.Barrier.{Barrier}
-use Rattle.barrier_placement.specs.Sheet.{start as startBy}
-use Rattle.sheet_format.specs.Layout.{Instr, op, barrier, Placed, start, aim, cells, sheet}
-use Rattle.sheet_format.specs.Levels.{level1}
+use Rattle.barrier_placement.specs.Layout.{Placed, beforeOf, start}
+use Rattle.barrier_placement.specs.Plan.{standing, beginning, Counted}
+use Rattle.barrier_placement.proofs.Laws.Layout.{start-zero, start-suc}
+use Rattle.sheet_format.specs.Layout.{Instr, op, barrier, aim, cells, sheet}
+use Rattle.sheet_format.specs.declared.Level.the-variants.{Level1}
 use Rattle.sheet_format.specs.Bytes.{laneBytes}
-use Rattle.sheet_format.specs.Items.{TargetsWithin}
 use Rattle.sheet_lanes.specs.Put.{placedBy, stepBytes}
-use Rattle.sheet_format.proofs.Laws.Aim.{aim-agrees}
+use Rattle.sheet_format.proofs.Laws.Cells.{lane-end}
 use Rattle.sheet_format.proofs.Laws.Rows.{bytes-append}
-use Rattle.sheet_format.proofs.LoweredLanes.{Stand, start-by}
 
-cells-append : (r : ℕ → ℕ) (xs ys : List Placed) → cells r (xs ++ ys) ≡ cells r xs ++ cells r ys
+cells-append : (r : ℕ → ℕ) (xs ys : List (Placed Op)) → cells r (xs ++ ys) ≡ cells r xs ++ cells r ys
 cells-append r [] ys = refl
 cells-append r (x ∷ xs) ys =
     ap (λ z. map barrier (x .before) ++ op (aim r (x .oper)) ∷ z) (cells-append r xs ys)
@@ -30,92 +30,57 @@ module _ (pre : ℕ → List Barrier) where
   placed-length p [] = refl
   placed-length p (o ∷ ops) = ap suc (placed-length (suc p) ops)
 
-  stands-so : (p : ℕ) (ops : List Op) → Stand pre p (placedBy pre p ops)
-  stands-so p [] = tt
-  stands-so p (o ∷ ops) = (refl, stands-so (suc p) ops)
-
-  abbrev nothing : Placed
+  abbrev nothing : Placed Op
   nothing = record { before = []; oper = noOp }
 
-  abbrev placedOp : ℕ → Op → Placed
+  abbrev placedOp : ℕ → Op → Placed Op
   placedOp p o = record { before = pre p; oper = o }
 
-  placed-at : (p : ℕ) (ops : List Op) (i : ℕ) → i < length ops
-      → getD (placedBy pre p ops) i nothing ≡ placedOp (p + i) (getD ops i noOp)
-  placed-at p [] i h = absurd (omega arith)
-  placed-at p (o ∷ ops) zero h =
-      let here : p + 0 ≡ p = omega arith in
-      rw here refl
-  placed-at p (o ∷ ops) (suc i) h =
-      let there : p + suc i ≡ suc p + i = omega arith in
-      rw there (placed-at (suc p) ops i (omega arith))
-
-  -- where each operation begins
-  starts-are : (ops : List Op) (i : ℕ) → i ≤ length ops → start (placedBy pre 0 ops) i ≡ startBy pre i
-  starts-are ops i h =
-      let from : startBy pre 0 + start (placedBy pre 0 ops) i ≡ startBy pre (0 + i) =
-      start-by pre 0 i (placedBy pre 0 ops) (stands-so 0 ops) (omega (arith, placed-length 0 ops)) in
-      let same : 0 + i ≡ i = omega arith in
-      omega (arith, rw same at from)
+  placed-at : (p : ℕ) (ops : List Op) (i q : ℕ) → p + i ≡ q → i < length ops
+      → getD (placedBy pre p ops) i nothing ≡ placedOp q (getD ops i noOp)
+  placed-at p [] i q e h = absurd (omega arith)
+  placed-at p (o ∷ ops) zero q e h = ap (λ n. placedOp n o) (omega arith)
+  placed-at p (o ∷ ops) (suc i) q e h = placed-at (suc p) ops i q (omega arith) (omega arith)
 
   module _ (ops : List Op) where
-    abbrev aims : ℕ → ℕ
-    aims = start (placedBy pre 0 ops)
+    abbrev ps : List (Placed Op)
+    ps = placedBy pre 0 ops
+
+    pub next-starts : (p : ℕ) → p < length ops → start ps (suc p) ≡ start ps p + suc (length (pre p))
+    next-starts p h =
+        let inside : p < length ps = omega (arith, placed-length 0 ops) in
+        let here =
+        ap beforeOf (at-some ps p nothing inside) ∙ ap (λ x. x .before) (placed-at 0 ops p p (omega arith) h) in
+        omega (arith, start-suc ps p inside, ap length here)
 
     -- the instructions of the first p operations, and their bytes
     abbrev firstCells : ℕ → List Instr
-    firstCells p = cells aims (take p (placedBy pre 0 ops))
+    firstCells p = cells (start ps) (take p ps)
 
     abbrev pub firstBytes : ℕ → List ℕ
-    firstBytes p = laneBytes level1 (firstCells p)
-
-    cells-suc : (p : ℕ) → p < length ops
-        → firstCells (suc p) ≡ firstCells p ++ (map barrier (pre p) ++ (op (aim aims (getD ops p noOp)) ∷ []))
-    cells-suc p h =
-        ap (cells aims) (take-suc (placedBy pre 0 ops) p nothing (omega (arith, placed-length 0 ops)))
-        ∙ cells-append aims (take p (placedBy pre 0 ops)) (getD (placedBy pre 0 ops) p nothing ∷ [])
-        ∙ ap (λ x. firstCells p ++ (map barrier (x .before) ++ (op (aim aims (x .oper)) ∷ [])))
-        (placed-at 0 ops p h ∙ shifted)
-      where
-        shifted : placedOp (0 + p) (getD ops p noOp) ≡ placedOp p (getD ops p noOp)
-        shifted =
-            let z : 0 + p ≡ p = omega arith in
-            ap (λ n. placedOp n (getD ops p noOp)) z
-
-    first-count : (p : ℕ) → p ≤ length ops → length (firstCells p) ≡ startBy pre p
-    first-count zero h = refl
-    first-count (suc p) h =
-        omega (
-          arith,
-          ap length (cells-suc p (omega arith)),
-          first-count p (omega arith),
-          length-append (firstCells p) (map barrier (pre p) ++ (op (aim aims (getD ops p noOp)) ∷ [])),
-          length-append (map barrier (pre p)) (op (aim aims (getD ops p noOp)) ∷ []),
-          length-map (pre p) barrier,
-        )
-
-    -- where an operation leads is where the operation there begins
-    aims-are : (p : ℕ) → TargetsWithin (length ops) ops → p < length ops
-        → aim (startBy pre) (getD ops p noOp) ≡ aim aims (getD ops p noOp)
-    aims-are p within h =
-        aim-agrees (startBy pre) aims (getD ops p noOp)
-        (λ t j. sym (starts-are ops t (within p (getD ops p noOp) t (at-some ops p noOp h) j)))
+    firstBytes p = laneBytes Level1 (firstCells p)
 
     -- one operation more
-    pub first-suc : (p : ℕ) → TargetsWithin (length ops) ops → p < length ops
-        → firstBytes (suc p) ≡ firstBytes p ++ stepBytes (pre p) (aim (startBy pre) (getD ops p noOp))
-    first-suc p within h =
-        ap (laneBytes level1) (cells-suc p h)
-        ∙ bytes-append level1 (firstCells p) (map barrier (pre p) ++ (op (aim aims (getD ops p noOp)) ∷ []))
-        ∙ ap (λ o. firstBytes p ++ stepBytes (pre p) o) (sym (aims-are p within h))
+    pub first-suc : (p : ℕ) → p < length ops
+        → firstBytes (suc p) ≡ firstBytes p ++ stepBytes (pre p) (aim (start ps) (getD ops p noOp))
+    first-suc p h =
+        ap (λ xs. laneBytes Level1 (cells (start ps) xs)) (take-suc ps p nothing (omega (arith, placed-length 0 ops)))
+        ∙ ap (laneBytes Level1) (cells-append (start ps) (take p ps) (getD ps p nothing ∷ []))
+        ∙ bytes-append Level1 (firstCells p) (cells (start ps) (getD ps p nothing ∷ []))
+        ∙ ap (λ x. firstBytes p ++ stepBytes (x .before) (aim (start ps) (x .oper)))
+        (placed-at 0 ops p p (omega arith) h)
 
     -- all of them
-    cells-all : (p : ℕ) → length ops ≤ p → firstCells p ≡ sheet (placedBy pre 0 ops)
-    cells-all p h = ap (cells aims) (take-all p (placedBy pre 0 ops) (omega (arith, placed-length 0 ops)))
+    pub first-all : (p : ℕ) → length ops ≤ p → firstBytes p ≡ laneBytes Level1 (sheet ps)
+    first-all p h =
+        ap (λ xs. laneBytes Level1 (cells (start ps) xs)) (take-all p ps (omega (arith, placed-length 0 ops)))
 
-    pub first-all : (p : ℕ) → length ops ≤ p → firstBytes p ≡ laneBytes level1 (sheet (placedBy pre 0 ops))
-    first-all p h = ap (laneBytes level1) (cells-all p h)
+    pub lane-count : length (sheet ps) ≡ start ps (length ops)
+    lane-count = lane-end ps ∙ ap (start ps) (placed-length 0 ops)
 
-    pub lane-count : length (sheet (placedBy pre 0 ops)) ≡ startBy pre (length ops)
-    lane-count =
-        sym (ap length (cells-all (length ops) (omega arith))) ∙ first-count (length ops) (omega arith)
+-- a plan has each operation begin where the lane has it begin
+pub begins-are : (plan : List ℕ) (ops : List Op) → Counted plan (length ops) → (p : ℕ) → p ≤ length ops
+    → beginning plan p ≡ start (placedBy (standing plan) 0 ops) p
+begins-are plan ops c zero h = c .0 ∙ sym (start-zero (placedBy (standing plan) 0 ops))
+begins-are plan ops c (suc p) h =
+    omega (arith, c .1 p h, next-starts (standing plan) ops p h, begins-are plan ops c p (omega arith))

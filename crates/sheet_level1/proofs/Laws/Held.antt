@@ -7,33 +7,33 @@ use mathlib.Core.Option.{some}
 use native.Mathlib.Omega.{arith}
 use lib.Dec.{eqb}
 use lib.ListN.{length, getD, take, drop}
+use Rattle.laws.proofs.Lists.{at-some}
 use Rattle.file_format.specs.declared.accepted.Op.{Op}
 use Rattle.file_format.specs.declared.accepted.Op.the-variants.{Set, Add, Load, Store, Lock, Unlock, Skip}
 use Rattle.file_format.specs.Fields.{byte, word, quad}
 use Rattle.file_format.specs.Accepted.{jump}
 use Rattle.file_format.specs.Stored.{noOp}
-use Rattle.file_format.proofs.Laws.Lists.{at-some}
 use Rattle.barrier_placement.specs.declared.cookbook.Barrier.{Barrier}
 use Rattle.barrier_placement.specs.declared.cookbook.Barrier.the-variants.{LL, LS, SS, SL}
 use Rattle.barrier_placement.specs.Cookbook.{codeOf}
 use Rattle.barrier_placement.specs.Place.{keep}
 use Rattle.barrier_placement.specs.Placed.{bit}
 use Rattle.barrier_placement.specs.Plan.{barriersIn, standing, beginning, Counted}
-use Rattle.barrier_placement.specs.Sheet.{start as startBy}
+use Rattle.barrier_placement.specs.Layout.{start}
 use Rattle.sheet_format.specs.Layout.{Instr, op, barrier, aim}
-use Rattle.sheet_format.specs.Levels.{level1}
+use Rattle.sheet_format.specs.declared.Level.the-variants.{Level1}
 use Rattle.sheet_format.specs.Bytes.{row, opBytes, laneBytes}
 use Rattle.sheet_format.specs.Items.{TargetsWithin}
 use Rattle.sheet_format.specs.Put.{inTurn}
 use Rattle.sheet_rows.specs.Rows.{rowIn}
 use Rattle.sheet_rows.specs.Lanes.{fieldsOf, Holds}
 use Rattle.sheet_rows.proofs.Laws.Lanes.{held-bytes, held-fields}
-use Rattle.sheet_lanes.specs.Put.{stepBytes, laneWith, rowIf, barrierRows, ownRow, stepRows, laneRows}
-use Rattle.sheet_lanes.proofs.Laws.Lane.{firstBytes, first-suc, first-all}
+use Rattle.sheet_lanes.specs.Put.{placedBy, stepBytes, laneWith, rowIf, barrierRows, ownRow, stepRows, laneRows}
+use Rattle.sheet_lanes.proofs.Laws.Lane.{firstBytes, first-suc, first-all, begins-are}
 
 -- the bytes of a step, barrier by barrier
 keep-bytes : (t : Bool) (b : Barrier) (bs : List Barrier) (is : List Instr)
-    → laneBytes level1 (map barrier (keep t b bs) ++ is) ≡ rowIf t (codeOf b) ++ laneBytes level1 (map barrier bs ++ is)
+    → laneBytes Level1 (map barrier (keep t b bs) ++ is) ≡ rowIf t (codeOf b) ++ laneBytes Level1 (map barrier bs ++ is)
 keep-bytes true b bs is = refl
 keep-bytes false b bs is = refl
 
@@ -81,17 +81,16 @@ module _ (plan : List ℕ) where
       ∙ b
 
   -- the row of an operation whose target has 16 bits and begins where the plan says
-  own-of : (s : List ℕ) (o : Op) → rowIn s ≡ fieldsOf o → take 8 s ≡ opBytes o
-      → ((t : ℕ) → jump o ≡ some t → (t < 65536) × (beginning plan t ≡ startBy (standing plan) t))
-      → ownRow plan s ≡ opBytes (aim (startBy (standing plan)) o)
+  own-of : (r : ℕ → ℕ) (s : List ℕ) (o : Op) → rowIn s ≡ fieldsOf o → take 8 s ≡ opBytes o
+      → ((t : ℕ) → jump o ≡ some t → (t < 65536) × (beginning plan t ≡ r t)) → ownRow plan s ≡ opBytes (aim r o)
   unfolding ownRow
-  own-of s (Set a c) f b h = other s (Set a c) refl f b
-  own-of s (Add a x) f b h = other s (Add a x) refl f b
-  own-of s (Load a x) f b h = other s (Load a x) refl f b
-  own-of s (Store a x) f b h = other s (Store a x) refl f b
-  own-of s (Lock l) f b h = other s (Lock l) refl f b
-  own-of s (Unlock l) f b h = other s (Unlock l) refl f b
-  own-of s (Skip a t) f b h =
+  own-of r s (Set a c) f b h = other s (Set a c) refl f b
+  own-of r s (Add a x) f b h = other s (Add a x) refl f b
+  own-of r s (Load a x) f b h = other s (Load a x) refl f b
+  own-of r s (Store a x) f b h = other s (Store a x) refl f b
+  own-of r s (Lock l) f b h = other s (Lock l) refl f b
+  own-of r s (Unlock l) f b h = other s (Unlock l) refl f b
+  own-of r s (Skip a t) f b h =
       let whole : quad s 4 ≡ t = ap (λ x. x .word) f in
       let target : word s 4 ≡ t = omega (arith, whole, h t refl .0) in
       let begins = ap (beginning plan) target ∙ h t refl .1 in
@@ -99,26 +98,27 @@ module _ (plan : List ℕ) where
 
   module _
       {rows : List ℕ} {n : ℕ} {ops : List Op} (h : Holds rows n ops) (few : n ≤ 64) (within : TargetsWithin n ops)
-      (begins : Counted plan n)
+      (begins : Counted plan (length ops))
     where
-      step-is : (p : ℕ) → p < n
-          → stepRows plan rows p ≡ stepBytes (standing plan p) (aim (startBy (standing plan)) (getD ops p noOp))
+      abbrev aims : ℕ → ℕ
+      aims = start (placedBy (standing plan) 0 ops)
+
+      step-is : (p : ℕ) → p < n → stepRows plan rows p ≡ stepBytes (standing plan p) (aim aims (getD ops p noOp))
       step-is p l =
           let o = getD ops p noOp in
           ap (λ z. barrierRows (getD plan p 0) ++ z)
-          (own-of (drop (8 * p) rows) o (held-fields h p l) (held-bytes h p l)
+          (own-of aims (drop (8 * p) rows) o (held-fields h p l) (held-bytes h p l)
           (λ t j.
           let in-lane = within p o t (at-some ops p noOp (omega (arith, h .count))) j in
-          (omega arith, begins t (omega arith))))
-          ∙ sym (step-bytes (getD plan p 0) (aim (startBy (standing plan)) o))
+          (omega arith, begins-are plan ops begins t (omega (arith, h .count)))))
+          ∙ sym (step-bytes (getD plan p 0) (aim aims o))
 
       first-is : (p : ℕ) → p ≤ n → laneRows plan rows p ≡ firstBytes (standing plan) ops p
       unfolding inTurn
       first-is zero l = refl
       first-is (suc p) l =
-          let all : TargetsWithin (length ops) ops = λ q o t e j. let k = within q o t e j in omega (arith, h .count) in
           ap₂ (λ x y. x ++ y) (first-is p (omega arith)) (step-is p (omega arith))
-          ∙ sym (first-suc (standing plan) ops p all (omega (arith, h .count)))
+          ∙ sym (first-suc (standing plan) ops p (omega (arith, h .count)))
 
       pub lane-held : laneRows plan rows n ≡ laneWith plan ops
       lane-held = first-is n (omega arith) ∙ first-all (standing plan) ops n (omega (arith, h .count))

@@ -2,53 +2,38 @@
 -- lanes together.
 use Prim.Native.Nat.{ℕ, _+_, _*_, _≤_, _<_}
 use mathlib.Core.Path.{_≡_, refl, sym, ap, subst, _∙_}
-use mathlib.Core.List.{List, [], _∷_, _++_, map, map-map}
+use mathlib.Core.List.{List, [], _∷_, _++_}
 use native.Mathlib.Omega.{arith}
 use lib.ListN.{length, getD, drop, length-append}
 use lib.Seq.{sets}
-use Rattle.file_format.specs.declared.accepted.Op.{Op}
+use Rattle.laws.proofs.Numbers.{below-four}
 use Rattle.file_format.specs.Fields.{laneCount, locations, locks, mask, head}
-use Rattle.file_format.specs.Linkage.{chain}
 use Rattle.file_format.specs.Accepted.{isVolatile, opsAt, programOf}
-use Rattle.file_format.proofs.Laws.Lists.{below-four}
-use Rattle.file_format.proofs.Laws.Stored.{opsFrom-length}
 use Rattle.file_verdict.specs.Verdict.{verdict, accepted}
-use Rattle.sheet_format.specs.Layout.{Instr, sheet}
-use Rattle.sheet_format.specs.Levels.{level1, placed}
+use Rattle.sheet_format.specs.declared.Level.the-variants.{Level0, Level1}
 use Rattle.sheet_format.specs.Bytes.{wordBytes, joined, laneBytes, headerBy, sheetBytes, writeInto}
 use Rattle.sheet_format.specs.Items.{TargetsWithin}
 use Rattle.sheet_format.specs.Put.{laid, inTurn}
-use Rattle.sheet_format.proofs.Laws.Loaded.{header-by, sheetBy, body-by, sizes-by, put-by}
+use Rattle.sheet_format.proofs.Level0.{ops-within}
+use Rattle.sheet_format.proofs.Laws.Loaded.{header-by, body-by, sizes-by, put-by}
 use Rattle.sheet_rows.specs.Lanes.{Holds}
-use Rattle.file_rows.specs.Chains.{chainBytes}
 use Rattle.file_rows.proofs.Laws.Holds.{many, before, many-small, part-from, part-count, accepted-parts-hold}
 use Rattle.file_rows.proofs.Laws.Whole.{chains-size}
-use Rattle.sheet_lanes.specs.Plans.{instrs1, Planned}
+use Rattle.sheet_lanes.specs.Plans.{Planned}
 use Rattle.sheet_lanes.specs.Rows.{Short, laneIn, countIn, PlanIn, PlansIn, laneText, lanesText}
 use Rattle.sheet_lanes.proofs.Laws.Plans.{lane-is}
 use Rattle.sheet_level1.specs.Level1.{lane1At, sheet1}
 use Rattle.sheet_level1.specs.Chained.{ChainsOf}
 use Rattle.sheet_level1.proofs.Laws.Held.{lane-held}
-use Rattle.sheet_level1.proofs.Laws.Targets.{targets-inside}
 
 module _ (s : List ℕ) (ok : verdict s ≡ accepted (programOf s)) where
-  abbrev instrs : List Op → List Instr
-  instrs = instrs1 (isVolatile (mask s))
-
-  sheet-is : sheetBy s (header-by s ok) 1 instrs refl ≡ sheet1 s
-  unfolding sheetBytes
-  sheet-is =
-      ap (λ lanes. headerBy (length (programOf s .lanes)) (locations s) (locks s) 1 (mask s) lanes
-      ++ joined (map (laneBytes level1) lanes))
-      (sym (map-map sheet (placed level1 (isVolatile (mask s))) (programOf s .lanes)))
-
   module _ {rows : List ℕ} (chains : ChainsOf s rows) where
     held : (t : ℕ) → t < 4 → Holds (laneIn rows t) (countIn rows t) (opsAt s (head s t))
     held = accepted-parts-hold s ok rows (chains .own) (chains .front)
 
-    rows-long : length (chainBytes (programOf s)) ≤ length rows
+    rows-long : length (sheetBytes Level0 (programOf s)) ≤ length rows
     rows-long =
-        let bytes = chainBytes (programOf s) in
+        let bytes = sheetBytes Level0 (programOf s) in
         omega (
           arith,
           chains .room,
@@ -58,10 +43,11 @@ module _ (s : List ℕ) (ok : verdict s ≡ accepted (programOf s)) where
         )
 
     -- each lane ends where the next begins, and the last at the end of the chains
-    lanes-end : (t : ℕ) → t < 4 → 16 + 8 * (before s t + many s t) ≤ length (chainBytes (programOf s))
+    lanes-end : (t : ℕ) → t < 4 → 16 + 8 * (before s t + many s t) ≤ length (sheetBytes Level0 (programOf s))
     lanes-end =
         let all = chains-size s (header-by s ok) refl refl refl refl in
-        below-four (λ t. 16 + 8 * (before s t + many s t) ≤ length (chainBytes (programOf s))) (omega (arith, all))
+        below-four (λ t. 16 + 8 * (before s t + many s t) ≤ length (sheetBytes Level0 (programOf s)))
+        (omega (arith, all))
         (omega (arith, all)) (omega (arith, all)) (omega (arith, all))
 
     pub chains-short : Short rows
@@ -89,10 +75,8 @@ module _ (s : List ℕ) (ok : verdict s ≡ accepted (programOf s)) where
     text-is t h plan known =
         let ops = opsAt s (head s t) in
         let within : TargetsWithin (countIn rows t) ops =
-        subst (λ n. TargetsWithin n ops) (sym (opsFrom-length s 0 (chain s 64 (head s t))) ∙ held t h .count)
-        (targets-inside s (chain s 64 (head s t))) in
-        lane-held plan (held t h) (chains-short .few t h) within
-        (λ p l. known .begins p (omega (arith, held t h .count)))
+        subst (λ n. TargetsWithin n ops) (held t h .count) (ops-within s (head s t)) in
+        lane-held plan (held t h) (chains-short .few t h) within (known .begins)
         ∙ lane-is (isVolatile (mask s)) ops plan (known .stand)
 
     module _
@@ -123,15 +107,13 @@ module _ (s : List ℕ) (ok : verdict s ≡ accepted (programOf s)) where
 
         pub size-by : 16 + 8 * (size 0 + (size 1 + (size 2 + size 3))) ≡ length (sheet1 s)
         size-by =
-            sizes-by s (header-by s ok) 1 instrs refl texts text-at (first .counted) (second .counted)
-            (third .counted) (fourth .counted)
-            ∙ ap length sheet-is
+            sizes-by s (header-by s ok) Level1 texts text-at (first .counted) (second .counted) (third .counted)
+            (fourth .counted)
 
         pub room-by : 16 + length (inTurn texts 4) ≡ length (sheet1 s)
         room-by =
-            body-by s (header-by s ok) 1 instrs refl texts text-at (first .counted) (second .counted)
-            (third .counted) (fourth .counted)
-            ∙ ap length sheet-is
+            body-by s (header-by s ok) Level1 texts text-at (first .counted) (second .counted) (third .counted)
+            (fourth .counted)
 
         pub sheet-put : {n ls ks : ℕ} → n ≡ laneCount s → ls ≡ locations s → ks ≡ locks s → {l₁ l₂ l₃ : List ℕ}
             (buffer : List ℕ) → length (sheet1 s) ≤ length buffer
@@ -140,7 +122,5 @@ module _ (s : List ℕ) (ok : verdict s ≡ accepted (programOf s)) where
             (wordBytes (size 0) ++ (wordBytes (size 1) ++ (wordBytes (size 2) ++ (wordBytes (size 3) ++ []))))
             → l₃ ≡ sets l₂ 16 (inTurn texts 4) → l₃ ≡ writeInto (sheet1 s) buffer .1
         sheet-put en els eks {l₁} {l₂} {l₃} buffer room e₁ e₂ e₃ =
-            put-by s (header-by s ok) 1 instrs refl texts text-at (first .counted) (second .counted) (third .counted)
-            (fourth .counted) en els eks em buffer
-            (subst (λ x. length x ≤ length buffer) (sym sheet-is) room) e₁ e₂ e₃
-            ∙ ap (λ x. writeInto x buffer .1) sheet-is
+            put-by s (header-by s ok) Level1 texts text-at (first .counted) (second .counted) (third .counted)
+            (fourth .counted) en els eks em buffer room e₁ e₂ e₃

@@ -14,7 +14,7 @@ use Rattle.sheet_rows.specs.declared.read.Row.{Row}
 use Rattle.sheet_rows.specs.Rows.{rowIn}
 use Rattle.sheet_rows.specs.Lanes.{fieldsOf}
 use Rattle.sheet_format.specs.Layout.{Instr, op, barrier}
-use Rattle.sheet_format.specs.Levels.{level1, level2}
+use Rattle.sheet_format.specs.declared.Level.the-variants.{Level1, Level2}
 use Rattle.sheet_format.specs.Bytes.{row, instrBytes, laneBytes}
 use Rattle.sheet_format.specs.Put.{laid}
 use Rattle.sheet_format.specs.Read.{instrBy, readInstr, readRows}
@@ -34,9 +34,9 @@ module _ (r : ℕ → ℕ) (o a b c : ℕ) where
   abbrev level2Row : List ℕ
   level2Row = row (cond (eqb o 14) 15 o) a b (cond (eqb o 7) (r c) c)
 
-  made : (i : Instr) → i ≡ instrBy o a b c → o ≡ getD (instrBytes level1 i) 0 0 → a ≡ getD (instrBytes level1 i) 1 0
-      → b ≡ getD (instrBytes level1 i) 2 0 → c ≡ quad (instrBytes level1 i) 4 → stays level2 i [] ≡ true
-      → level2Row ≡ instrBytes level2 (aimed r i)
+  made : (i : Instr) → i ≡ instrBy o a b c → o ≡ getD (instrBytes Level1 i) 0 0 → a ≡ getD (instrBytes Level1 i) 1 0
+      → b ≡ getD (instrBytes Level1 i) 2 0 → c ≡ quad (instrBytes Level1 i) 4 → stays Level2 i [] ≡ true
+      → level2Row ≡ instrBytes Level2 (aimed r i)
   made (op (Set x k)) e eo ea eb ec h =
       let word : c ≡ k = sym (ap wordIn e ∙ ap (λ n. wordIn (instrBy n a b c)) eo) in
       rw (eo, ea, eb, word) refl
@@ -55,7 +55,7 @@ module _ (r : ℕ → ℕ) (o a b c : ℕ) where
 
 module _ (r : ℕ → ℕ) (s : List ℕ) where
   -- each byte of a proper row is its instruction's
-  at-row : Proper s → (j : ℕ) → j < 8 → byte s j ≡ getD (instrBytes level1 (readInstr s)) j 0
+  at-row : Proper s → (j : ℕ) → j < 8 → byte s j ≡ getD (instrBytes Level1 (readInstr s)) j 0
   at-row e j h = sym (getD-take 8 s j 0 h) ∙ ap (λ l. getD l j 0) e
 
   -- the bytes of a row that stays, and of one that does not
@@ -63,12 +63,12 @@ module _ (r : ℕ → ℕ) (s : List ℕ) where
   kept e h =
       let yes = stays-code (byte s 0) (byte s 1) (byte s 2) (quad s 4) ∙ h in
       let at = at-row e in
-      let word : quad s 4 ≡ quad (instrBytes level1 (readInstr s)) 4 =
+      let word : quad s 4 ≡ quad (instrBytes Level1 (readInstr s)) 4 =
       omega (arith, at 4 (omega arith), at 5 (omega arith), at 6 (omega arith), at 7 (omega arith)) in
       rw yes
       (made r (byte s 0) (byte s 1) (byte s 2) (quad s 4) (readInstr s) refl (at 0 (omega arith)) (at 1 (omega arith))
       (at 2 (omega arith)) word yes
-      ∙ sym (append-nil (instrBytes level2 (aimed r (readInstr s)))))
+      ∙ sym (append-nil (instrBytes Level2 (aimed r (readInstr s)))))
 
   pub row-kept : {x : Row} → x ≡ rowIn s → Proper s → staysBy (x .code) ≡ true
       → level2Row r (x .code) (x .a) (x .b) (x .word) ≡ rowBytes r s
@@ -99,12 +99,12 @@ row-onto r s {x} ex proper l i {m} {o} {w} {n} en eo ew room put =
 
 module _ (r : ℕ → ℕ) (s : List ℕ) where
   abbrev pub laneTo : ℕ → List ℕ
-  laneTo p = laneBytes level2 (keptTo r s p)
+  laneTo p = laneBytes Level2 (keptTo r s p)
 
   lane-suc : (p : ℕ) → laneTo (suc p) ≡ laneTo p ++ rowBytes r (drop (8 * p) s)
   lane-suc p =
-      ap (laneBytes level2) (kept-suc r s p)
-      ∙ bytes-append level2 (keptTo r s p) (relowerBy level2 r (readInstr (drop (8 * p) s) ∷ []))
+      ap (laneBytes Level2) (kept-suc r s p)
+      ∙ bytes-append Level2 (keptTo r s p) (relowerBy Level2 r (readInstr (drop (8 * p) s) ∷ []))
 
   -- one row more
   pub lane-on : (p : ℕ) {l m m′ : List ℕ} {i i′ : ℕ} → Onto l 0 (laneTo p) m i
@@ -118,30 +118,30 @@ module _ (r : ℕ → ℕ) (s : List ℕ) where
       omega (
         arith,
         ap length (lane-suc p) ∙ length-append (laneTo p) (rowBytes r (drop (8 * p) s)),
-        lane-bytes level2 (keptTo r s (suc p)),
-        lane-bytes level2 (keptTo r s n),
+        lane-bytes Level2 (keptTo r s (suc p)),
+        lane-bytes Level2 (keptTo r s n),
         kept-grow r s (suc p) n h,
       )
 
 -- the array of positions aims as the definition does
-pub aims-are : (n : ℕ) (s new : List ℕ) → PositionsTo n s n new → aims new n ≡ newPosition level2 (readRows n s)
+pub aims-are : (n : ℕ) (s new : List ℕ) → PositionsTo n s n new → aims new n ≡ newPosition Level2 (readRows n s)
 aims-are n s new f =
-    let e : (t : ℕ) → aims new n t ≡ newPosition level2 (readRows n s) t =
+    let e : (t : ℕ) → aims new n t ≡ newPosition Level2 (readRows n s) t =
     λ t. f .each (min t n) (omega arith) ∙ position-end n t s in
     λ i t. e t i
 
 -- there is room for row p where there is room for the lane, and the lane is whole after its last row
 module _ (n : ℕ) (s : List ℕ) {new : List ℕ} (f : PositionsTo n s n new) where
-  whole : laneTo (aims new n) s n ≡ laneBytes level2 (relower level2 (readRows n s))
+  whole : laneTo (aims new n) s n ≡ laneBytes Level2 (relower Level2 (readRows n s))
   whole = ap (λ (g : ℕ → ℕ). laneTo g s n) (aims-are n s new f)
 
   pub row-room : (p : ℕ) {l m : List ℕ} {i : ℕ} → Onto l 0 (laneTo (aims new n) s p) m i → p < n
-      → length (laneBytes level2 (relower level2 (readRows n s))) ≡ length l
+      → length (laneBytes Level2 (relower Level2 (readRows n s))) ≡ length l
       → i + length (rowBytes (aims new n) (drop (8 * p) s)) ≤ length m
   row-room p put h room =
       omega (arith, lane-room (aims new n) s p n h, ap length whole, room, put .behind, put .same)
 
   pub lane-whole : (p : ℕ) {l m : List ℕ} {i : ℕ} → p ≡ n → Onto l 0 (laneTo (aims new n) s p) m i
-      → length (laneBytes level2 (relower level2 (readRows n s))) ≡ length l
-      → m ≡ laneBytes level2 (relower level2 (readRows n s))
+      → length (laneBytes Level2 (relower Level2 (readRows n s))) ≡ length l
+      → m ≡ laneBytes Level2 (relower Level2 (readRows n s))
   lane-whole p last put room = onto-whole room (onto-as (ap (laneTo (aims new n) s) last ∙ whole) put)

@@ -13,7 +13,8 @@ use Rattle.sheet_rows.proofs.Laws.Read.{rows-length}
 use Rattle.sheet_rows.proofs.Laws.Parts.{lane-rows}
 use Rattle.sheet_format.specs.declared.WriteResult.the-variants.{Wrote, Refuses}
 use Rattle.sheet_format.specs.Layout.{Instr, sheet}
-use Rattle.sheet_format.specs.Levels.{level1, level2, placed, sheetLanes, volatileIn}
+use Rattle.sheet_format.specs.declared.Level.the-variants.{Level1, Level2}
+use Rattle.sheet_format.specs.Levels.{placed, sheetLanes, volatileIn}
 use Rattle.sheet_format.specs.Bytes.{sheetBytes, writeInto, lowerBy, lower1, lower2}
 use Rattle.sheet_format.specs.Relower.{relowerBytes}
 use Rattle.sheet_format.proofs.Laws.Rows.{total-four}
@@ -27,28 +28,28 @@ use Rattle.sheet_level2.proofs.Laws.Proper.{sheet-proper}
 -- a level 1 sheet can be read
 module _ (k : Program) (rest : List ℕ) (law : Lawful k) where
   abbrev bytes : List ℕ
-  bytes = sheetBytes level1 k ++ rest
+  bytes = sheetBytes Level1 k ++ rest
 
-  counted : (t : ℕ) → t < 4 → getD (partsIn bytes .count) t 0 ≡ length (getD (sheetLanes level1 k) t [])
+  counted : (t : ℕ) → t < 4 → getD (partsIn bytes .count) t 0 ≡ length (getD (sheetLanes Level1 k) t [])
   counted t h =
       sym (rows-length (getD (partsIn bytes .count) t 0) (drop (getD (partsIn bytes .from) t 0) bytes))
       ∙ ap length (sym (lane-rows bytes t h))
-      ∙ ap (λ (xs : List (List Instr)). length (getD xs t [])) (lawful-back level1 k rest law)
+      ∙ ap (λ (xs : List (List Instr)). length (getD xs t [])) (lawful-back Level1 k rest law)
 
   all-rows : 16 + 8 * (countAt bytes 0 + (countAt bytes 1 + (countAt bytes 2 + countAt bytes 3))) ≤ length bytes
   all-rows =
-      let four : length (sheetLanes level1 k) ≤ 4 =
+      let four : length (sheetLanes Level1 k) ≤ 4 =
       omega (
         arith,
         law .few-lanes,
-        length-map (map (placed level1 (volatileIn k)) (k .lanes)) sheet,
-        length-map (k .lanes) (placed level1 (volatileIn k)),
+        length-map (map (placed Level1 (volatileIn k)) (k .lanes)) sheet,
+        length-map (k .lanes) (placed Level1 (volatileIn k)),
       ) in
       omega (
         arith,
-        sheet-size level1 k,
-        length-append (sheetBytes level1 k) rest,
-        total-four (sheetLanes level1 k) four,
+        sheet-size Level1 k,
+        length-append (sheetBytes Level1 k) rest,
+        total-four (sheetLanes Level1 k) four,
         counted 0 (omega arith),
         counted 1 (omega arith),
         counted 2 (omega arith),
@@ -65,21 +66,21 @@ module _ (k : Program) (rest : List ℕ) (law : Lawful k) where
 
   pub readable : Readable bytes
   readable = record {
-    few = λ t h. omega (arith, counted t h, lane-few level1 k law t);
+    few = λ t h. omega (arith, counted t h, lane-few Level1 k law t);
     proper = sheet-proper k rest law;
     inside = inside;
   }
 
 -- a refusal of the file, in a buffer that takes every sheet or by another number than 9
 pub first-refused : (s out : List ℕ) {n r : ℕ} → verdict s ≡ refused n r → (Refuses n r, out) ≡ lower2 s out
-first-refused s out e = ap (λ v. lowerBy level2 v out) (sym e)
+first-refused s out e = ap (λ v. lowerBy Level2 v out) (sym e)
 
 module _ (s own : List ℕ) {n : ℕ} {after : List ℕ} (p : (Wrote n, after) ≡ lower1 s own) where
-  first : BytesIn (sheetBytes level1) s own after
-  first = wrote-any (sheetBytes level1) s own p
+  first : BytesIn (sheetBytes Level1) s own after
+  first = wrote-any (sheetBytes Level1) s own p
 
   abbrev behind : List ℕ
-  behind = drop (length (sheetBytes level1 (first .kernel))) own
+  behind = drop (length (sheetBytes Level1 (first .kernel))) own
 
   pub first-readable : Readable after
   first-readable =
@@ -91,4 +92,4 @@ module _ (s own : List ℕ) {n : ℕ} {after : List ℕ} (p : (Wrote n, after) �
       ap (λ b. writeInto (relowerBytes b) out) (first .front)
       ∙ ap (λ b. writeInto b out) (relowered-bytes (first .kernel) behind (accepted-lawful s (first .kernel)
       (first .accepts)))
-      ∙ ap (λ v. lowerBy level2 v out) (sym (first .accepts))
+      ∙ ap (λ v. lowerBy Level2 v out) (sym (first .accepts))

@@ -6,7 +6,7 @@ use native.Mathlib.Omega.{arith}
 use lib.ListN.{length}
 use Rattle.sheet_format.specs.declared.WriteResult.{WriteResult}
 use Rattle.sheet_format.specs.declared.WriteResult.the-variants.{Wrote, Refuses}
-use Rattle.sheet_format.specs.Levels.{level1, level2}
+use Rattle.sheet_format.specs.declared.Level.the-variants.{Level1, Level2}
 use Rattle.sheet_format.specs.Bytes.{sheetBytes, lower1, lower2}
 use Rattle.sheet_format.proofs.Answers.{kindOf, numberIn, refuses-any, refuses-left, refuses-as}
 use Rattle.sheet_level2.specs.Through.{afterFirst, throughSheet}
@@ -28,7 +28,7 @@ module _ (s own out : List ℕ) where
     where
       go : (a : WriteResult) → lower1 s own .0 ≡ a → afterFirst a (lower2 s out) out ≡ lower2 s out
       go (Wrote n) e = refl
-      go (Refuses n r) e = first-refused s out (refuses-as level1 s own big (first-is e))
+      go (Refuses n r) e = first-refused s out (refuses-as Level1 s own (omega arith) (first-is e))
 
   pub through-wrote : {n : ℕ} {after : List ℕ} → (Wrote n, after) ≡ throughSheet s own out
       → (Wrote n, after) ≡ lower2 s out
@@ -50,7 +50,7 @@ module _ (s own out : List ℕ) where
       go (Wrote m) e p = p
       go (Refuses m q) e p =
           let same : n ≡ m = ap (λ (z : WriteResult × List ℕ). numberIn (z .0)) p in
-          p ∙ first-refused s out (refuses-any (sheetBytes level1) s own (λ z. other (same ∙ z)) (first-is e))
+          p ∙ first-refused s out (refuses-any (sheetBytes Level1) s own (λ z. other (same ∙ z)) (first-is e))
 
   -- a refusal leaves the buffer
   pub through-left : {n r : ℕ} {after : List ℕ} → (Refuses n r, after) ≡ throughSheet s own out → after ≡ out
@@ -58,5 +58,5 @@ module _ (s own out : List ℕ) where
     where
       go : (a : WriteResult) → _≡_ {A = WriteResult × List ℕ} (Refuses n r, after) (afterFirst a (lower2 s out) out)
           → after ≡ out
-      go (Wrote m) p = refuses-left (sheetBytes level2) s out p
+      go (Wrote m) p = refuses-left (sheetBytes Level2) s out p
       go (Refuses m q) p = ap (λ (z : WriteResult × List ℕ). z .1) p

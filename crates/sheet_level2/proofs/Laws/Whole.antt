@@ -5,12 +5,12 @@ use mathlib.Core.List.{List, [], _∷_, _++_, map-map}
 use native.Mathlib.Omega.{arith}
 use lib.ListN.{length, getD, take, drop, length-take, length-drop, List·getD-map}
 use borrow.Rule.Slice.PartMut.{putMid}
+use Rattle.laws.proofs.Parts.{take-rest as part-from}
 use Rattle.file_format.specs.Fields.{byte}
-use Rattle.file_format.proofs.Laws.Lists.{part-from}
 use Rattle.sheet_rows.specs.declared.parts.Parts.{Parts}
 use Rattle.sheet_rows.specs.Rows.{partsIn}
 use Rattle.sheet_rows.proofs.Laws.Parts.{lane-rows, sheet-few}
-use Rattle.sheet_format.specs.Levels.{level2}
+use Rattle.sheet_format.specs.declared.Level.the-variants.{Level2}
 use Rattle.sheet_format.specs.Bytes.{wordBytes, joined, laneBytes}
 use Rattle.sheet_format.specs.Put.{Puts, inTurn}
 use Rattle.sheet_format.specs.Read.{readRows, readSheet}
@@ -38,10 +38,10 @@ module _ (s : List ℕ) (ok : Readable s) {p : Parts} (e : p ≡ partsIn s) (t :
       subst (λ (q : Parts). getD (q .from) t 0 + 8 * getD (q .count) t 0 ≤ length s) (sym e) (ok .inside t h)
 
   -- how many of its rows stay
-  pub part-kept : length (relower level2 (readRows count (drop from s))) ≡ length (laneAt2 s t)
+  pub part-kept : length (relower Level2 (readRows count (drop from s))) ≡ length (laneAt2 s t)
   part-kept =
-      ap (λ (q : Parts). length (relower level2 (readRows (getD (q .count) t 0) (drop (getD (q .from) t 0) s)))) e
-      ∙ ap (λ x. length (relower level2 x)) (sym (lane-rows s t h))
+      ap (λ (q : Parts). length (relower Level2 (readRows (getD (q .count) t 0) (drop (getD (q .from) t 0) s)))) e
+      ∙ ap (λ x. length (relower Level2 x)) (sym (lane-rows s t h))
 
   pub part-rows : readRows count (take (length s - from) (drop from s)) ≡ getD (readSheet s) t []
   part-rows =
@@ -58,7 +58,7 @@ module _ (s : List ℕ) (ok : Readable s) {p : Parts} (e : p ≡ partsIn s) (t :
 -- the four counts
 module _ (s : List ℕ) (ok : Readable s) {p : Parts} (e : p ≡ partsIn s) where
   abbrev Counted : ℕ → ℕ → Type 0
-  Counted t n = (n ≡ length (relower level2 (readRows (getD (p .count) t 0) (drop (getD (p .from) t 0) s)))) × (n ≤ 320)
+  Counted t n = (n ≡ length (relower Level2 (readRows (getD (p .count) t 0) (drop (getD (p .from) t 0) s)))) × (n ≤ 320)
 
   pub kept-four : {a b c d : ℕ} → Counted 0 a → Counted 1 b → Counted 2 c → Counted 3 d
       → Kept s (a ∷ b ∷ c ∷ d ∷ [])
@@ -89,7 +89,7 @@ module _ (s : List ℕ) {kept buffer out : List ℕ} {at : ℕ} (k : Kept s kept
   end = at + 8 * getD kept t 0
 
   lane-end : at + length (rowsAt2 s t) ≡ end
-  lane-end = omega (arith, k .each t h, lane-bytes level2 (laneAt2 s t))
+  lane-end = omega (arith, k .each t h, lane-bytes Level2 (laneAt2 s t))
 
   pub end-fits : end ≤ length out
   end-fits = omega (arith, lane-end, turn-room (rowsAt2 s) 4 t h, room, p .behind, puts-length p)
@@ -113,7 +113,7 @@ module _ (s : List ℕ) {kept : List ℕ} (k : Kept s kept) where
   counts a b c d = wordBytes a ++ (wordBytes b ++ (wordBytes c ++ (wordBytes d ++ [])))
 
   count-is : (t : ℕ) → t < 4 → n t ≡ length (getD (relowerLanes s) t [])
-  count-is t h = k .each t h ∙ ap length (sym (List·getD-map (relower level2) (readSheet s) t []))
+  count-is t h = k .each t h ∙ ap length (sym (List·getD-map (relower Level2) (readSheet s) t []))
 
   pub sheet-parts : firstHalf ++ counts (n 0) (n 1) (n 2) (n 3) ++ inTurn (rowsAt2 s) 4 ≡ relowerBytes s
   unfolding relowerBytes
@@ -123,8 +123,8 @@ module _ (s : List ℕ) {kept : List ℕ} (k : Kept s kept) where
       let nc = count-is 2 (omega arith) in
       let nd = count-is 3 (omega arith) in
       let body =
-      turn-all (λ is. laneBytes level2 (relower level2 is)) [] refl (readSheet s) 4 (sheet-few s)
-      ∙ sym (ap joined (map-map (laneBytes level2) (relower level2) (readSheet s))) in
+      turn-all (λ is. laneBytes Level2 (relower Level2 is)) [] refl (readSheet s) 4 (sheet-few s)
+      ∙ sym (ap joined (map-map (laneBytes Level2) (relower Level2) (readSheet s))) in
       λ i. firstHalf ++ counts (na i) (nb i) (nc i) (nd i) ++ body i
 
   pub parts-size : 16 + 8 * (n 0 + (n 1 + (n 2 + n 3))) ≡ length (relowerBytes s)
@@ -137,10 +137,10 @@ module _ (s : List ℕ) {kept : List ℕ} (k : Kept s kept) where
         k .each 1 (omega arith),
         k .each 2 (omega arith),
         k .each 3 (omega arith),
-        lane-bytes level2 (laneAt2 s 0),
-        lane-bytes level2 (laneAt2 s 1),
-        lane-bytes level2 (laneAt2 s 2),
-        lane-bytes level2 (laneAt2 s 3),
+        lane-bytes Level2 (laneAt2 s 0),
+        lane-bytes Level2 (laneAt2 s 1),
+        lane-bytes Level2 (laneAt2 s 2),
+        lane-bytes Level2 (laneAt2 s 3),
       )
 
   pub body-size : 16 + length (inTurn (rowsAt2 s) 4) ≡ length (relowerBytes s)

@@ -5,19 +5,20 @@ use mathlib.Core.List.{List, [], _∷_, _++_, map, append-assoc}
 use native.Mathlib.Omega.{arith}
 use lib.ListN.{length, getD, take, drop, length-map, take-append-drop}
 use lib.Seq.{drop-append-add, take-append-seam}
+use Rattle.laws.proofs.Bytes.{quad-back}
+use Rattle.laws.proofs.Lists.{at-some}
 use Rattle.file_format.specs.declared.accepted.Op.{Op}
 use Rattle.file_format.specs.declared.accepted.Op.the-variants.{Set, Add, Load, Store, Lock, Unlock, Skip}
 use Rattle.file_format.specs.Stored.{noOp}
 use Rattle.sheet_format.specs.Layout.{op}
-use Rattle.sheet_format.specs.Levels.{level1}
+use Rattle.sheet_format.specs.declared.Level.the-variants.{Level0}
 use Rattle.sheet_format.specs.Bytes.{opBytes}
-use Rattle.file_format.proofs.Laws.Lists.{at-some}
-use Rattle.sheet_format.proofs.Laws.Rows.{instr-length, lane-bytes, quad-back}
+use Rattle.sheet_format.proofs.Laws.Rows.{instr-length, lane-bytes}
 use Rattle.sheet_rows.specs.Rows.{rowIn}
 use Rattle.sheet_rows.specs.Lanes.{opRows, fieldsOf, Holds}
 
 pub rows-length : (ops : List Op) → length (opRows ops) ≡ 8 * length ops
-rows-length ops = lane-bytes level1 (map op ops) ∙ ap (λ n. 8 * n) (length-map ops op)
+rows-length ops = lane-bytes Level0 (map op ops) ∙ ap (λ n. 8 * n) (length-map ops op)
 
 -- the fields of bytes that begin with an operation's row
 fields-in : (o : Op) (rest : List ℕ) → fieldsOf o .word < 2 ^ 32 → rowIn (opBytes o ++ rest) ≡ fieldsOf o
@@ -35,7 +36,7 @@ drop-rows : (ops : List Op) (p : ℕ) (rest : List ℕ) → p < length ops
 drop-rows [] p rest h = absurd (omega arith)
 drop-rows (o ∷ os) zero rest h = append-assoc (opBytes o) (opRows os) rest
 drop-rows (o ∷ os) (suc p) rest h =
-    let size : 8 * suc p ≡ length (opBytes o) + 8 * p = omega (arith, instr-length level1 (op o)) in
+    let size : 8 * suc p ≡ length (opBytes o) + 8 * p = omega (arith, instr-length Level0 (op o)) in
     ap (λ n. drop n (opRows (o ∷ os) ++ rest)) size
     ∙ ap (drop (length (opBytes o) + 8 * p)) (append-assoc (opBytes o) (opRows os) rest)
     ∙ drop-append-add (opBytes o) (opRows os ++ rest) (8 * p)
@@ -54,7 +55,7 @@ module _ {rows : List ℕ} {n : ℕ} {ops : List Op} (h : Holds rows n ops) wher
     held-bytes =
         ap (take 8) from-row
         ∙ ap (λ k. take k (opBytes (getD ops p noOp) ++ (opRows (drop (suc p) ops) ++ drop (8 * n) rows)))
-        (sym (instr-length level1 (op (getD ops p noOp))))
+        (sym (instr-length Level0 (op (getD ops p noOp))))
         ∙ take-append-seam (opBytes (getD ops p noOp)) _
 
     pub held-fields : rowIn (drop (8 * p) rows) ≡ fieldsOf (getD ops p noOp)

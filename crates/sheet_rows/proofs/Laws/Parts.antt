@@ -5,8 +5,8 @@ use mathlib.Core.List.{List, [], _∷_}
 use native.Mathlib.Omega.{arith}
 use lib.ListN.{length, getD, drop, length-take, List·getD-eq-default}
 use lib.Seq.{drop-drop, getD-take}
+use Rattle.laws.proofs.Numbers.{below-four}
 use Rattle.file_format.specs.Fields.{word}
-use Rattle.file_format.proofs.Laws.Lists.{below-four}
 use Rattle.file_format.proofs.Laws.Lanes.{head-at}
 use Rattle.sheet_format.specs.Read.{readRows, pastRows, readLanes, counts, readSheet}
 use Rattle.sheet_rows.specs.Rows.{countAt, partsIn}

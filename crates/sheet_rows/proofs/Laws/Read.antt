@@ -3,31 +3,27 @@ use Prim.Native.Nat.{ℕ, zero, suc, _+_, _*_, _≤_}
 use mathlib.Core.Path.{_≡_, refl, sym, ap, _∙_}
 use mathlib.Core.List.{List, [], _∷_, _++_}
 use native.Mathlib.Omega.{arith}
-use lib.ListN.{length, getD, take, drop, List·getD-eq-default}
-use lib.Seq.{getD-drop, drop-drop}
+use lib.ListN.{length, take, drop, List·getD-eq-default}
+use lib.Seq.{drop-drop}
+use Rattle.laws.proofs.Parts.{getD-behind}
 use Rattle.file_format.specs.Fields.{byte, word, quad}
 use Rattle.sheet_format.specs.Read.{readInstr, readRows}
 use Rattle.sheet_rows.specs.declared.read.Row.{Row}
 use Rattle.sheet_rows.specs.Rows.{rowIn}
 
-past : (s : List ℕ) (i : ℕ) → length s ≤ i → getD s i 0 ≡ 0
-past s i h = List·getD-eq-default s 0 h
-
 pub word-past : (s : List ℕ) (i : ℕ) → length s ≤ i → word s i ≡ 0
-word-past s i h = omega (arith, past s i h, past s (i + 1) (omega arith))
+word-past s i h =
+    omega (arith, List·getD-eq-default s 0 {n = i} h, List·getD-eq-default s 0 {n = i + 1} (omega arith))
 
 pub quad-past : (s : List ℕ) (i : ℕ) → length s ≤ i → quad s i ≡ 0
 quad-past s i h = omega (arith, word-past s i h, word-past s (i + 2) (omega arith))
 
-pub shifted : (s : List ℕ) (k i j : ℕ) → j ≡ k + i → getD s j 0 ≡ getD (drop k s) i 0
-shifted s k i j e = ap (λ n. getD s n 0) e ∙ sym (getD-drop k s i 0)
-
 quad-at : (s : List ℕ) (k : ℕ) → quad s (k + 4) ≡ quad (drop k s) 4
 quad-at s k =
-    let e4 = shifted s k 4 (k + 4) refl in
-    let e5 = shifted s k 5 (k + 4 + 1) (omega arith) in
-    let e6 = shifted s k 6 (k + 4 + 2) (omega arith) in
-    let e7 = shifted s k 7 (k + 4 + 2 + 1) (omega arith) in
+    let e4 = getD-behind s k 4 (k + 4) refl in
+    let e5 = getD-behind s k 5 (k + 4 + 1) (omega arith) in
+    let e6 = getD-behind s k 6 (k + 4 + 2) (omega arith) in
+    let e7 = getD-behind s k 7 (k + 4 + 2 + 1) (omega arith) in
     omega (arith, e4, e5, e6, e7)
 
 -- the 32-bit field behind four bytes, from its own four
@@ -43,9 +39,9 @@ quad-of s k ea eb ec ed =
 pub row-is : (s : List ℕ) (k : ℕ) {o a b c : ℕ} → o ≡ byte s k → a ≡ byte s (k + 1) → b ≡ byte s (k + 2)
     → c ≡ quad s (k + 4) → _≡_ {A = Row} (record { code = o; a = a; b = b; word = c }) (rowIn (drop k s))
 row-is s k eo ea eb ec =
-    let p = eo ∙ shifted s k 0 k (omega arith) in
-    let q = ea ∙ shifted s k 1 (k + 1) refl in
-    let r = eb ∙ shifted s k 2 (k + 2) refl in
+    let p = eo ∙ getD-behind s k 0 k (omega arith) in
+    let q = ea ∙ getD-behind s k 1 (k + 1) refl in
+    let r = eb ∙ getD-behind s k 2 (k + 2) refl in
     let w = ec ∙ quad-at s k in
     λ i. record { code = p i; a = q i; b = r i; word = w i }
 

@@ -1,7 +1,6 @@
--- Laws of what a test finds: one of two, and the text of an entry.
+-- Laws of the text of an entry.
 use Prim.Native.Nat.{ℕ, _+_}
 use mathlib.Core.Path.{_≡_, refl}
-use mathlib.Core.Bool.{Bool, true, false, cond}
 use mathlib.Core.List.{List, _++_}
 use borrow.Author.Tests.{eq-eqb, ne-eqb}
 use Rattle.file_format.specs.Fields.{byte, quad}
@@ -9,13 +8,6 @@ use Rattle.text_put.specs.Words.{named}
 use Rattle.text_run.specs.Words.{locationWord, valueWord, releaseWord}
 use Rattle.machine_record.specs.Fields.{entryIn}
 use Rattle.text_run.specs.Lanes.{entryText}
-
--- one of two, by a test
-pub first-of : {A : Type 0} {t : Bool} (x y : A) → t ≡ true → x ≡ cond t x y
-first-of x y e = rw e refl
-
-pub second-of : {A : Type 0} {t : Bool} (x y : A) → t ≡ false → y ≡ cond t x y
-second-of x y e = rw e refl
 
 module _ (s : List ℕ) (from : ℕ) {place : ℕ} (p : place ≡ byte s (from + 1)) where
   pub entry-store : {value : ℕ} → byte s from ≡ 1 → value ≡ quad s (from + 4)

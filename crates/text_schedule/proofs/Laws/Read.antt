@@ -1,12 +1,13 @@
 -- Laws of what reading answers: a malformed line, too many moves, all moves.
 use Prim.Native.Nat.{ℕ, _≤_, _<_}
-use mathlib.Core.Path.{_≡_, refl, sym, ap, _∙_}
+use mathlib.Core.Path.{_≡_, refl, sym, ap, ap₂, _∙_}
 use mathlib.Core.Bool.{Bool, true, false, cond}
 use mathlib.Core.List.{List}
 use native.Mathlib.Omega.{arith}
-use borrow.Author.Tests.{eq-eqb, ne-eqb, lt-ltb, le-ltb, ltb-false}
+use borrow.Author.Tests.{eq-eqb, ne-eqb, lt-ltb, le-ltb}
 use lib.Dec.{eqb, ltb}
-use lib.ListN.{length, drop, length-append, length-drop}
+use lib.ListN.{length, take, drop, length-append}
+use lib.Seq.{take-at}
 use Rattle.sheet_format.specs.Bytes.{over}
 use Rattle.sheet_format.specs.Put.{Puts}
 use Rattle.sheet_format.proofs.Laws.Put.{puts-front}
@@ -41,24 +42,26 @@ module _ (text buffer : List ℕ) {line : ℕ} (e : line ≡ malformedFrom 1 Bla
         let laid : after ≡ over (movesOf text) buffer = puts-front fits q in
         rw (none, room) (λ i. (Moves (whole i), laid i))
 
--- moves that are read fit the buffer, which keeps its length
-abbrev Fits : List ℕ → List ℕ → ℕ → Type 0
-Fits buffer after size = (size ≤ length buffer) × (length after ≡ length buffer)
+-- moves that are read are those of the text, at the front of the buffer
+abbrev Front : List ℕ → List ℕ → ℕ → Type 0
+Front text after size = (size ≤ length after) × (take size after ≡ movesOf text)
 
 module _ (text buffer : List ℕ) {after : List ℕ} {size : ℕ} where
-  fits-by : (t u : Bool) → ltb (length buffer) (length (movesOf text)) ≡ u
-      → _≡_ {A = Read × List ℕ} (Moves size, after)
+  front-by : (t u : Bool) → _≡_ {A = Read × List ℕ} (Moves size, after)
       (cond t (cond u (TooLong, buffer) (Moves (length (movesOf text)), over (movesOf text) buffer))
       (Malformed (malformedFrom 1 Blank text), buffer))
-      → Fits buffer after size
-  fits-by true true e p = let z : _≡_ {A = ℕ} 0 1 = cc (ap (λ x. x .0) p) in absurd (omega arith)
-  fits-by true false e p =
+      → Front text after size
+  front-by true true p = let z : _≡_ {A = ℕ} 0 1 = cc (ap (λ x. x .0) p) in absurd (omega arith)
+  front-by true false p =
       let m : List ℕ = movesOf text in
       let n : size ≡ length m = cc (ap (λ x. x .0) p) in
-      let fits : length m ≤ length buffer = ltb-false (length buffer) (length m) e in
-      let same : length after ≡ length (over m buffer) = ap (λ x. length (x .1)) p in
-      (omega arith, omega (arith, length-append m (drop (length m) buffer), length-drop (length m) buffer))
-  fits-by false u e p = let z : _≡_ {A = ℕ} 0 1 = cc (ap (λ x. x .0) p) in absurd (omega arith)
+      let is : after ≡ over m buffer = ap (λ x. x .1) p in (
+        omega (arith, ap length is, length-append m (drop (length m) buffer)),
+        ap₂ (λ x y. take x y) n is ∙ take-at m (drop (length m) buffer) (length m) refl,
+      )
+  front-by false u p = let z : _≡_ {A = ℕ} 0 1 = cc (ap (λ x. x .0) p) in absurd (omega arith)
 
-  pub read-fits : {r : Read} → r ≡ Moves size → (r, after) ≡ readInto text buffer → Fits buffer after size
-  read-fits e p = fits-by (eqb (malformedFrom 1 Blank text) 0) _ refl ((λ i. (sym e i, after)) ∙ p)
+  pub read-front : {r : Read} → r ≡ Moves size → (r, after) ≡ readInto text buffer → Front text after size
+  read-front e p =
+      front-by (eqb (malformedFrom 1 Blank text) 0) (ltb (length buffer) (length (movesOf text)))
+      ((λ i. (sym e i, after)) ∙ p)

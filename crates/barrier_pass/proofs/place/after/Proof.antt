@@ -18,9 +18,6 @@ taken-out true false = refl
 taken-out false true = refl
 taken-out false false = refl
 
-mul-met : tie.Need-mul-met
-mul-met c = search needs
-
 returns : tie.Need-returns
 returns c = λ b d.
     let a = c .args in
@@ -34,4 +31,4 @@ returns c = λ b d.
     ∙ taken-out (bit (a .due) j) (bit (a .stood) (bitOf b)))
 
 pub after-spec : {M : Type 1} → statement M
-after-spec = tie.close (tie.spec mul-met returns)
+after-spec = tie.close (tie.spec (λ c. search needs) returns)

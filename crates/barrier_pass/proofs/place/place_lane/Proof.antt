@@ -53,29 +53,17 @@ loop-holds c =
       λ ops h b. reached-none (steps (isVolatile (a .args .mask)) ops) b (a .args .plan .now),
     )
 
-mul-whole-row : tie.Need-mul-whole-row Inv-loop μ-loop
-mul-whole-row c = search needs
-
 whole-row-requires : tie.Need-whole-row-requires Inv-loop μ-loop
 whole-row-requires c κs = search needs
 
 class-of-requires : tie.Need-class-of-requires Inv-loop μ-loop
 class-of-requires c κs = search needs
 
-mul-here : tie.Need-mul-here Inv-loop μ-loop
-mul-here c = search needs
-
-array-read-here : tie.Need-array-read-here Inv-loop μ-loop
-array-read-here c = search needs
-
 stands-at-requires : tie.Need-stands-at-requires Inv-loop μ-loop
 stands-at-requires c κs = search needs
 
 plan-step-requires : tie.Need-plan-step-requires Inv-loop μ-loop
 plan-step-requires c κs = search needs
-
-slice-aggregate-raises : tie.Need-slice-aggregate-raises Inv-loop μ-loop
-slice-aggregate-raises c = search needs
 
 raises-requires : tie.Need-raises-requires Inv-loop μ-loop
 raises-requires c κs = search needs
@@ -85,21 +73,6 @@ after-requires c κs = search needs
 
 landing-of-requires : tie.Need-landing-of-requires Inv-loop μ-loop
 landing-of-requires c κs = search needs
-
-mul-old : tie.Need-mul-old Inv-loop μ-loop
-mul-old c = search needs
-
-array-read-old : tie.Need-array-read-old Inv-loop μ-loop
-array-read-old c = search needs
-
-mul-brought : tie.Need-mul-brought Inv-loop μ-loop
-mul-brought c = search needs
-
-array-write-brought : tie.Need-array-write-brought Inv-loop μ-loop
-array-write-brought c = search needs
-
-add-p : tie.Need-add-p Inv-loop μ-loop
-add-p c = search needs
 
 loop-less : tie.Need-loop-less Inv-loop μ-loop
 loop-less c = search needs
@@ -149,18 +122,6 @@ loop-again c =
           (⊎-elim (λ e. inl (e .0 .taken, e .1)) (λ e. inr (e .0 .left, e .1)) (c .if1 .came))),
     )
 
-mul-plan : tie.Need-mul-plan Inv-loop μ-loop
-mul-plan c = search needs
-
-mul-plan-2 : tie.Need-mul-plan-2 Inv-loop μ-loop
-mul-plan-2 c = search needs
-
-slice-write-plan : tie.Need-slice-write-plan Inv-loop μ-loop
-slice-write-plan c = search needs
-
-cast-result : tie.Need-cast-result Inv-loop μ-loop
-cast-result c = search needs
-
 same-length : tie.Need-same-length Inv-loop μ-loop
 same-length c = simp length-set (c .before .loop .inv .2)
 
@@ -190,32 +151,8 @@ returns c =
 pub place-lane-spec : {M : Type 1} → statement M
 place-lane-spec =
     tie.close
-    (tie.spec
-    Inv-loop
-    μ-loop
-    call-table-requires
-    loop-holds
-    mul-whole-row
-    whole-row-requires
-    class-of-requires
-    mul-here
-    array-read-here
-    stands-at-requires
-    plan-step-requires
-    slice-aggregate-raises
-    raises-requires
-    after-requires
-    landing-of-requires
-    mul-old
-    array-read-old
-    mul-brought
-    array-write-brought
-    add-p
-    loop-less
-    loop-again
-    mul-plan
-    mul-plan-2
-    slice-write-plan
-    cast-result
-    same-length
-    returns)
+    (tie.spec Inv-loop μ-loop call-table-requires loop-holds (λ c. search needs) whole-row-requires class-of-requires
+    (λ c. search needs) (λ c. search needs) stands-at-requires plan-step-requires (λ c. search needs) raises-requires
+    after-requires landing-of-requires (λ c. search needs) (λ c. search needs) (λ c. search needs) (λ c. search needs)
+    (λ c. search needs) loop-less loop-again (λ c. search needs) (λ c. search needs) (λ c. search needs)
+    (λ c. search needs) same-length returns)

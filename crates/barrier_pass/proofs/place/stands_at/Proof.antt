@@ -7,18 +7,6 @@ use borrow.Author.Needs.{needs}
 use Rattle.barrier_pass.proofs.place.stands_at.Statement.{statement}
 use Rattle.barrier_pass.proofs.place.stands_at.Tie as tie
 
-mul-result : tie.Need-mul-result
-mul-result c = search needs
-
-cast-result : tie.Need-cast-result
-cast-result c = search needs
-
-shr-result : tie.Need-shr-result
-shr-result c = search needs
-
-cast-result-2 : tie.Need-cast-result-2
-cast-result-2 c = search needs
-
 returns : tie.Need-returns
 returns c =
     let a = c .args in (
@@ -27,4 +15,5 @@ returns c =
     )
 
 pub stands-at-spec : {M : Type 1} → statement M
-stands-at-spec = tie.close (tie.spec mul-result cast-result shr-result cast-result-2 returns)
+stands-at-spec =
+    tie.close (tie.spec (λ c. search needs) (λ c. search needs) (λ c. search needs) (λ c. search needs) returns)

@@ -1,8 +1,9 @@
 -- `barrier_pass::steps::class_of` meets its contract: the class is found by the code and the location's bit.
 use Prim.Native.Nat.{ℕ, _+_, _*_, _%_, _<_}
 use native.Mathlib.Omega.{arith}
-use mathlib.Core.Bool.{Bool, true, false}
+use mathlib.Core.Bool.{Bool}
 use mir.Val.{boolByte}
+use Rattle.laws.proofs.Bools.{by-test}
 use Rattle.file_format.specs.Accepted.{isVolatile}
 use Rattle.barrier_pass.proofs.Laws.Classes.{class-of, class-small}
 use borrow.Author.Needs.{needs}
@@ -11,14 +12,10 @@ use Rattle.barrier_pass.proofs.steps.class_of.Tie as tie
 
 -- the place in the table
 inside : (k : ℕ) (u : Bool) → k % 8 + 8 * boolByte u < 16
-inside k true = omega arith
-inside k false = omega arith
+inside k = by-test (λ u. k % 8 + 8 * boolByte u < 16) (omega arith) (omega arith)
 
 is-volatile-requires : tie.Need-is-volatile-requires
 is-volatile-requires c κs = search needs
-
-cast-i : tie.Need-cast-i
-cast-i c = search needs
 
 mul-i : tie.Need-mul-i
 mul-i c = omega (arith, inside (c .before .args .code) (c .is-volatile .result))
@@ -35,9 +32,6 @@ cast-result c = omega (arith, inside (c .before .args .code) (c .is-volatile .re
 shr-result : tie.Need-shr-result
 shr-result c = omega (arith, inside (c .before .args .code) (c .is-volatile .result))
 
-cast-result-2 : tie.Need-cast-result-2
-cast-result-2 c = search needs
-
 returns : tie.Need-returns
 returns c = (
   λ o ec eb. rw (c .is-volatile .ensures, ec, eb) (class-of (isVolatile (c .before .args .mask)) o),
@@ -47,13 +41,5 @@ returns c = (
 pub class-of-spec : {M : Type 1} → statement M
 class-of-spec =
     tie.close
-    (tie.spec
-    is-volatile-requires
-    cast-i
-    mul-i
-    add-i
-    mul-result
-    cast-result
-    shr-result
-    cast-result-2
+    (tie.spec is-volatile-requires (λ c. search needs) mul-i add-i mul-result cast-result shr-result (λ c. search needs)
     returns)

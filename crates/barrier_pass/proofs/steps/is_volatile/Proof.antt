@@ -6,9 +6,6 @@ use borrow.Author.Needs.{needs}
 use Rattle.barrier_pass.proofs.steps.is_volatile.Statement.{statement}
 use Rattle.barrier_pass.proofs.steps.is_volatile.Tie as tie
 
-shr-result : tie.Need-shr-result
-shr-result c = search needs
-
 returns : tie.Need-returns
 returns c = search needs
 
@@ -19,4 +16,4 @@ returns-2 c =
     rw (div-eq-of-lt small)
 
 pub is-volatile-spec : {M : Type 1} → statement M
-is-volatile-spec = tie.close (tie.spec shr-result returns returns-2)
+is-volatile-spec = tie.close (tie.spec (λ c. search needs) returns returns-2)

@@ -9,9 +9,6 @@ use Rattle.barrier_pass.proofs.table.cell_set.Tie as tie
 cell-requires : tie.Need-cell-requires
 cell-requires c κs = search needs
 
-cast-result : tie.Need-cast-result
-cast-result c = search needs
-
 shl-result : tie.Need-shl-result
 shl-result c = rw (c .cell .ensures) (code-small (cell (c .before .args .c) (c .before .args .d)))
 
@@ -21,4 +18,4 @@ returns c =
     rw (c .cell .ensures, code-set o) (refl, set-small o)
 
 pub cell-set-spec : {M : Type 1} → statement M
-cell-set-spec = tie.close (tie.spec cell-requires cast-result shl-result returns)
+cell-set-spec = tie.close (tie.spec cell-requires (λ c. search needs) shl-result returns)

@@ -63,9 +63,6 @@ judge-requires c κs =
     } in
     (fielded, a .pre fielded)
 
-same-length : tie.Need-same-length
-same-length c = search needs
-
 returns-5 : tie.Need-returns-5
 returns-5 c =
     let judged = c .before .before in
@@ -84,14 +81,5 @@ returns-5 c =
 pub accept-spec : {M : Type 1} → statement M
 accept-spec =
     tie.close
-    (tie.spec
-    returns
-    header-rule-requires
-    returns-2
-    bad-length-requires
-    returns-3
-    bad-record-requires
-    returns-4
-    judge-requires
-    same-length
-    returns-5)
+    (tie.spec returns header-rule-requires returns-2 bad-length-requires returns-3 bad-record-requires returns-4
+    judge-requires (λ c. search needs) returns-5)

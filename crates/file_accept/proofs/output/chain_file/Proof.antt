@@ -7,14 +7,12 @@ use Rattle.file_format.proofs.Laws.Rules.{few-records}
 use Rattle.file_verdict.specs.Verdict.{numberOf, recordOf}
 use Rattle.sheet_format.specs.declared.WriteResult.the-variants.{Refuses}
 use Rattle.sheet_format.proofs.Laws.Loaded.{refused-by, accepted-by}
-use Rattle.file_rows.specs.Chains.{chainBytes}
+use Rattle.sheet_format.specs.declared.Level.the-variants.{Level0}
+use Rattle.sheet_format.specs.Bytes.{sheetBytes}
 use Rattle.file_accept.proofs.Laws.Copied.{size-small, rows-room, part-counted, answer-short, answer-copied}
 use borrow.Author.Needs.{needs}
 use Rattle.file_accept.proofs.output.chain_file.Statement.{statement}
 use Rattle.file_accept.proofs.output.chain_file.Tie as tie
-
-slice-aggregate-accept : tie.Need-slice-aggregate-accept
-slice-aggregate-accept c = search needs
 
 accept-requires : tie.Need-accept-requires
 accept-requires c κs = λ f. omega (arith, few-records _ (f .header))
@@ -32,10 +30,7 @@ returns c =
     let number = n .number-of .ensures ∙ ap numberOf (n .before .before .accept .ensures .0) in
     let record-is = c .record-of .ensures ∙ ap recordOf (n .before .before .accept .ensures .0) in
     (λ i. (Refuses (number i) (record-is i), a .out .now))
-    ∙ sym (refused-by (a .file .now) chainBytes (a .out .now) (omega (arith, number, c .before .if1 .taken)))
-
-slice-aggregate-size-of : tie.Need-slice-aggregate-size-of
-slice-aggregate-size-of c = search needs
+    ∙ sym (refused-by (a .file .now) (sheetBytes Level0) (a .out .now) (omega (arith, number, c .before .if1 .taken)))
 
 size-of-requires : tie.Need-size-of-requires
 size-of-requires c κs =
@@ -97,9 +92,6 @@ copy-requires c κs =
       part-counted (a .file .now) ok _ _ front (size .size-of .ensures) (length-replicate {A = ℕ} 2064 0),
     )
 
-same-length : tie.Need-same-length
-same-length c = search needs
-
 returns-3 : tie.Need-returns-3
 returns-3 c =
     let size = c .before .before .before .before .before .before in
@@ -115,17 +107,5 @@ returns-3 c =
 pub chain-file-spec : {M : Type 1} → statement M
 chain-file-spec =
     tie.close
-    (tie.spec
-    slice-aggregate-accept
-    accept-requires
-    number-of-requires
-    record-of-requires
-    returns
-    slice-aggregate-size-of
-    size-of-requires
-    returns-2
-    array-share-prefix-rows
-    slice-aggregate-copy
-    copy-requires
-    same-length
-    returns-3)
+    (tie.spec (λ c. search needs) accept-requires number-of-requires record-of-requires returns (λ c. search needs)
+    size-of-requires returns-2 array-share-prefix-rows slice-aggregate-copy copy-requires (λ c. search needs) returns-3)

@@ -11,12 +11,6 @@ use Rattle.file_accept.proofs.output.size_of.Tie as tie
 parts-of-requires : tie.Need-parts-of-requires
 parts-of-requires c κs = search needs
 
-array-read-result : tie.Need-array-read-result
-array-read-result c = search needs
-
-array-read-result-2 : tie.Need-array-read-result-2
-array-read-result-2 c = search needs
-
 mul-result : tie.Need-mul-result
 mul-result c =
     let p = c .before .before in
@@ -36,11 +30,4 @@ returns c =
 
 pub size-of-spec : {M : Type 1} → statement M
 size-of-spec =
-    tie.close
-    (tie.spec
-    parts-of-requires
-    array-read-result
-    array-read-result-2
-    mul-result
-    add-result
-    returns)
+    tie.close (tie.spec parts-of-requires (λ c. search needs) (λ c. search needs) mul-result add-result returns)

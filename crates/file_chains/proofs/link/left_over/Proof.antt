@@ -26,12 +26,6 @@ add-e c = omega arith
 loop-holds : tie.Need-loop-holds Inv-loop μ-loop
 loop-holds c = (omega arith, search-start _ 1 (c .args .n))
 
-mul-if1 : tie.Need-mul-if1 Inv-loop μ-loop
-mul-if1 c = search needs
-
-element-copy-out-if1 : tie.Need-element-copy-out-if1 Inv-loop μ-loop
-element-copy-out-if1 c = search needs
-
 returns : tie.Need-returns Inv-loop μ-loop
 returns c =
     let a = c .before .before in
@@ -60,15 +54,5 @@ returns-2 c = search-none _ _ _ (c .loop-test .left) (c .before .loop .inv .1)
 pub left-over-spec : {M : Type 1} → statement M
 left-over-spec =
     tie.close
-    (tie.spec
-    Inv-loop
-    μ-loop
-    add-e
-    loop-holds
-    mul-if1
-    element-copy-out-if1
-    returns
-    add-i
-    loop-less
-    loop-again
-    returns-2)
+    (tie.spec Inv-loop μ-loop add-e loop-holds (λ c. search needs) (λ c. search needs) returns add-i loop-less
+    loop-again returns-2)

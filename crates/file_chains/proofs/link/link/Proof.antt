@@ -45,15 +45,6 @@ returns c =
     (lane-as (h .head-of .ensures .0) (w .walk .ensures) .flags) (c .if1 .taken) (l .loop .inv .answer) in
     (found, λ e. absurd (c .if1 .taken (found ∙ e)))
 
-mul-ends : tie.Need-mul-ends Inv-loop μ-loop
-mul-ends c = search needs
-
-array-write-ends : tie.Need-array-write-ends Inv-loop μ-loop
-array-write-ends c = search needs
-
-add-t : tie.Need-add-t Inv-loop μ-loop
-add-t c = search needs
-
 loop-less : tie.Need-loop-less Inv-loop μ-loop
 loop-less c = search needs
 
@@ -91,19 +82,5 @@ returns-3 c =
 pub link-spec : {M : Type 1} → statement M
 link-spec =
     tie.close
-    (tie.spec
-    Inv-loop
-    μ-loop
-    loop-holds
-    head-of-requires
-    walk-requires
-    returns
-    mul-ends
-    array-write-ends
-    add-t
-    loop-less
-    loop-again
-    word-at-requires
-    returns-2
-    left-over-requires
-    returns-3)
+    (tie.spec Inv-loop μ-loop loop-holds head-of-requires walk-requires returns (λ c. search needs) (λ c. search needs)
+    (λ c. search needs) loop-less loop-again word-at-requires returns-2 left-over-requires returns-3)

@@ -21,9 +21,6 @@ loop-holds c =
 mul-if1 : tie.Need-mul-if1 Inv-loop μ-loop
 mul-if1 c = omega arith
 
-element-copy-out-if1 : tie.Need-element-copy-out-if1 Inv-loop μ-loop
-element-copy-out-if1 c = search needs
-
 returns : tie.Need-returns Inv-loop μ-loop
 returns c =
     let a = c .before .before in
@@ -77,21 +74,5 @@ returns-2 c = walking-stop (c .before .loop .inv) (c .loop-test .left)
 pub walk-spec : {M : Type 1} → statement M
 walk-spec =
     tie.close
-    (tie.spec
-    Inv-loop
-    μ-loop
-    loop-holds
-    mul-if1
-    element-copy-out-if1
-    returns
-    cast-order
-    mul-order
-    element-write-order
-    add-n
-    cast-place
-    mul-place
-    element-write-place
-    next-of-requires
-    loop-less
-    loop-again
-    returns-2)
+    (tie.spec Inv-loop μ-loop loop-holds mul-if1 (λ c. search needs) returns cast-order mul-order element-write-order
+    add-n cast-place mul-place element-write-place next-of-requires loop-less loop-again returns-2)

@@ -12,15 +12,6 @@ use Rattle.file_chains.proofs.Laws.Reach.{strays-as}
 use Rattle.file_chains.proofs.targets.strays.Statement.{statement}
 use Rattle.file_chains.proofs.targets.strays.Tie as tie
 
-mul-word-at : tie.Need-mul-word-at
-mul-word-at c = search needs
-
-add-word-at : tie.Need-add-word-at
-add-word-at c = search needs
-
-add-word-at-2 : tie.Need-add-word-at-2
-add-word-at-2 c = search needs
-
 word-at-requires : tie.Need-word-at-requires
 word-at-requires c κs = search needs
 
@@ -28,17 +19,8 @@ returns : tie.Need-returns
 unfolding unreachableTarget
 returns c = rw (eq-eqb _ _ (sym (c .before .word-at .ensures .0) ∙ c .if1 .taken)) refl
 
-mul-wide-word : tie.Need-mul-wide-word
-mul-wide-word c = search needs
-
-element-copy-out-wide-word : tie.Need-element-copy-out-wide-word
-element-copy-out-wide-word c = search needs
-
 wide-word-requires : tie.Need-wide-word-requires
 wide-word-requires c κs = search needs
-
-mul-wide-word-2 : tie.Need-mul-wide-word-2
-mul-wide-word-2 c = search needs
 
 element-copy-out-wide-word-2 : tie.Need-element-copy-out-wide-word-2
 element-copy-out-wide-word-2 c =
@@ -71,17 +53,6 @@ returns-2 c =
 pub strays-spec : {M : Type 1} → statement M
 strays-spec =
     tie.close
-    (tie.spec
-    mul-word-at
-    add-word-at
-    add-word-at-2
-    word-at-requires
-    returns
-    mul-wide-word
-    element-copy-out-wide-word
-    wide-word-requires
-    mul-wide-word-2
-    element-copy-out-wide-word-2
-    wide-word-requires-2
-    reaches-requires
-    returns-2)
+    (tie.spec (λ c. search needs) (λ c. search needs) (λ c. search needs) word-at-requires returns (λ c. search needs)
+    (λ c. search needs) wide-word-requires (λ c. search needs) element-copy-out-wide-word-2 wide-word-requires-2
+    reaches-requires returns-2)

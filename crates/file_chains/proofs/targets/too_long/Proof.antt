@@ -27,12 +27,6 @@ loop-holds : tie.Need-loop-holds Inv-loop μ-loop
 unfolding chainTooLong
 loop-holds c = (omega arith, refl, refl)
 
-mul-end : tie.Need-mul-end Inv-loop μ-loop
-mul-end c = search needs
-
-element-copy-out-end : tie.Need-element-copy-out-end Inv-loop μ-loop
-element-copy-out-end c = search needs
-
 add-if1 : tie.Need-add-if1 Inv-loop μ-loop
 add-if1 c = omega arith
 
@@ -61,9 +55,6 @@ returns c =
     c .wide-word .ensures .0 ∙ ap (λ n. getD (a .order .now) (n + 64) 0) (l .inv .1) in
     first-found _ _ _ (test .loop-test .taken) (value ∙ over .0) (λ z. omega (arith, over .1)) (l .inv .2)
 
-add-t : tie.Need-add-t Inv-loop μ-loop
-add-t c = search needs
-
 loop-less : tie.Need-loop-less Inv-loop μ-loop
 loop-less c = search needs
 
@@ -84,19 +75,5 @@ returns-2 c = first-none _ _ _ (c .loop-test .left) (c .before .loop .inv .2)
 pub too-long-spec : {M : Type 1} → statement M
 too-long-spec =
     tie.close
-    (tie.spec
-    Inv-loop
-    μ-loop
-    loop-holds
-    mul-end
-    element-copy-out-end
-    add-if1
-    add-wide-word
-    mul-wide-word
-    element-copy-out-wide-word
-    wide-word-requires
-    returns
-    add-t
-    loop-less
-    loop-again
-    returns-2)
+    (tie.spec Inv-loop μ-loop loop-holds (λ c. search needs) (λ c. search needs) add-if1 add-wide-word mul-wide-word
+    element-copy-out-wide-word wide-word-requires returns (λ c. search needs) loop-less loop-again returns-2)

@@ -8,17 +8,8 @@ use borrow.Author.Needs.{needs}
 use Rattle.file_fields.proofs.header.bad_length.Statement.{statement}
 use Rattle.file_fields.proofs.header.bad_length.Tie as tie
 
-word-at-requires : tie.Need-word-at-requires
-word-at-requires c κs = search needs
-
-mul-result : tie.Need-mul-result
-mul-result c = search needs
-
-add-result : tie.Need-add-result
-add-result c = search needs
-
 returns : tie.Need-returns
 returns c = ap (λ n. not (eqb (length (c .before .before .args .s .now)) (16 + 12 * n))) (c .word-at .ensures .0)
 
 pub bad-length-spec : {M : Type 1} → statement M
-bad-length-spec = tie.close (tie.spec word-at-requires mul-result add-result returns)
+bad-length-spec = tie.close (tie.spec (λ c κs. search needs) (λ c. search needs) (λ c. search needs) returns)

@@ -6,15 +6,6 @@ use Rattle.file_format.specs.Rules.{headRule}
 use Rattle.file_fields.proofs.header.head_rule.Statement.{statement}
 use Rattle.file_fields.proofs.header.head_rule.Tie as tie
 
-head-of-requires : tie.Need-head-of-requires
-head-of-requires c κs = search needs
-
-byte-at-requires : tie.Need-byte-at-requires
-byte-at-requires c κs = search needs
-
-word-at-requires : tie.Need-word-at-requires
-word-at-requires c κs = search needs
-
 returns : tie.Need-returns
 unfolding headRule
 returns c =
@@ -32,4 +23,4 @@ returns-2 c =
 
 pub head-rule-spec : {M : Type 1} → statement M
 head-rule-spec =
-    tie.close (tie.spec head-of-requires byte-at-requires word-at-requires returns returns-2)
+    tie.close (tie.spec (λ c κs. search needs) (λ c κs. search needs) (λ c κs. search needs) returns returns-2)

@@ -10,9 +10,6 @@ use native.Mathlib.Omega.{arith}
 use Rattle.file_fields.proofs.header.mask_rule.Statement.{statement}
 use Rattle.file_fields.proofs.header.mask_rule.Tie as tie
 
-shl-result : tie.Need-shl-result
-shl-result c = search needs
-
 returns : tie.Need-returns
 returns c =
     let one : 1 * 2 ^ c .before .args .ls ≡ 2 ^ c .before .args .ls = one-mul _ in
@@ -25,4 +22,4 @@ returns-2 c =
     sym (lt-ltb _ _ less)
 
 pub mask-rule-spec : {M : Type 1} → statement M
-mask-rule-spec = tie.close (tie.spec shl-result returns returns-2)
+mask-rule-spec = tie.close (tie.spec (λ c. search needs) returns returns-2)

@@ -17,33 +17,12 @@ Inv-loop s ls ks n e a b constant target i₀ i =
 abbrev μ-loop : tie.MeasureT-loop
 μ-loop s ls ks n e a b constant target i₀ i = e - i
 
-byte-at-requires : tie.Need-byte-at-requires Inv-loop μ-loop
-byte-at-requires c κs = search needs
-
-byte-at-requires-2 : tie.Need-byte-at-requires-2 Inv-loop μ-loop
-byte-at-requires-2 c κs = search needs
-
-word-at-requires : tie.Need-word-at-requires Inv-loop μ-loop
-word-at-requires c κs = search needs
-
 add-e : tie.Need-add-e Inv-loop μ-loop
 add-e c = omega arith
 
 loop-holds : tie.Need-loop-holds Inv-loop μ-loop
 unfolding badRecord
 loop-holds c = (omega arith, search-start _ 1 (c .word-at .result) ∙ ap (lowest _ 1) (c .word-at .ensures .0))
-
-slice-aggregate-record-rule : tie.Need-slice-aggregate-record-rule Inv-loop μ-loop
-slice-aggregate-record-rule c = search needs
-
-slice-aggregate-record-rule-2 : tie.Need-slice-aggregate-record-rule-2 Inv-loop μ-loop
-slice-aggregate-record-rule-2 c = search needs
-
-slice-aggregate-record-rule-3 : tie.Need-slice-aggregate-record-rule-3 Inv-loop μ-loop
-slice-aggregate-record-rule-3 c = search needs
-
-slice-aggregate-record-rule-4 : tie.Need-slice-aggregate-record-rule-4 Inv-loop μ-loop
-slice-aggregate-record-rule-4 c = search needs
 
 record-rule-requires : tie.Need-record-rule-requires Inv-loop μ-loop
 record-rule-requires c κs =
@@ -84,21 +63,6 @@ returns-2 c = search-none _ _ _ (c .loop-test .left) (c .before .loop .inv .1)
 pub bad-record-spec : {M : Type 1} → statement M
 bad-record-spec =
     tie.close
-    (tie.spec
-    Inv-loop
-    μ-loop
-    byte-at-requires
-    byte-at-requires-2
-    word-at-requires
-    add-e
-    loop-holds
-    slice-aggregate-record-rule
-    slice-aggregate-record-rule-2
-    slice-aggregate-record-rule-3
-    slice-aggregate-record-rule-4
-    record-rule-requires
-    returns
-    add-i
-    loop-less
-    loop-again
-    returns-2)
+    (tie.spec Inv-loop μ-loop (λ c κs. search needs) (λ c κs. search needs) (λ c κs. search needs) add-e loop-holds
+    (λ c. search needs) (λ c. search needs) (λ c. search needs) (λ c. search needs) record-rule-requires returns add-i
+    loop-less loop-again returns-2)

@@ -7,12 +7,6 @@ use borrow.Author.Tests.{eq-eqb, ne-eqb}
 use Rattle.file_rows.proofs.chain.landing.Statement.{statement}
 use Rattle.file_rows.proofs.chain.landing.Tie as tie
 
-mul-wide-word : tie.Need-mul-wide-word
-mul-wide-word c = search needs
-
-element-copy-out-wide-word : tie.Need-element-copy-out-wide-word
-element-copy-out-wide-word c = search needs
-
 wide-word-requires : tie.Need-wide-word-requires
 wide-word-requires c κs = search needs
 
@@ -37,11 +31,4 @@ returns-2 c =
 pub landing-spec : {M : Type 1} → statement M
 landing-spec =
     tie.close
-    (tie.spec
-    mul-wide-word
-    element-copy-out-wide-word
-    wide-word-requires
-    sub-result
-    sub-result-2
-    returns
-    returns-2)
+    (tie.spec (λ c. search needs) (λ c. search needs) wide-word-requires sub-result sub-result-2 returns returns-2)

@@ -9,20 +9,8 @@ use borrow.Author.Needs.{needs}
 use Rattle.file_rows.proofs.chain.put_record.Statement.{statement}
 use Rattle.file_rows.proofs.chain.put_record.Tie as tie
 
-mul-from : tie.Need-mul-from
-mul-from c = search needs
-
-add-from : tie.Need-add-from
-add-from c = search needs
-
 copy-eight-requires : tie.Need-copy-eight-requires
 copy-eight-requires c κs = search needs
-
-shared-slice-read-if1 : tie.Need-shared-slice-read-if1
-shared-slice-read-if1 c = search needs
-
-add-whole-word : tie.Need-add-whole-word
-add-whole-word c = search needs
 
 whole-word-requires : tie.Need-whole-word-requires
 whole-word-requires c κs = search needs
@@ -41,15 +29,6 @@ cast-out c =
     ap (landingIn (a .args .place .now) (a .args .begin) (a .args .n)) (c .before .whole-word .ensures .0) in
     omega (arith, c .landing .ensures, lands, a .pre .1 .landed)
 
-add-out : tie.Need-add-out
-add-out c = search needs
-
-slice-write-out : tie.Need-slice-write-out
-slice-write-out c = search needs
-
-same-length : tie.Need-same-length
-same-length c = search needs
-
 returns : tie.Need-returns
 returns c =
     let i = c .before .before in
@@ -62,9 +41,6 @@ returns c =
     record-skip s (a .args .out .now) (a .args .r) at (copy .copy-eight .ensures) (i .if1 .taken)
     (c .landing .ensures ∙ lands)
 
-same-length-2 : tie.Need-same-length-2
-same-length-2 c = search needs
-
 returns-2 : tie.Need-returns-2
 returns-2 c =
     let copy = c .before .before .before .before in
@@ -75,18 +51,6 @@ returns-2 c =
 pub put-record-spec : {M : Type 1} → statement M
 put-record-spec =
     tie.close
-    (tie.spec
-    mul-from
-    add-from
-    copy-eight-requires
-    shared-slice-read-if1
-    add-whole-word
-    whole-word-requires
-    landing-requires
-    cast-out
-    add-out
-    slice-write-out
-    same-length
-    returns
-    same-length-2
-    returns-2)
+    (tie.spec (λ c. search needs) (λ c. search needs) copy-eight-requires (λ c. search needs) (λ c. search needs)
+    whole-word-requires landing-requires cast-out (λ c. search needs) (λ c. search needs) (λ c. search needs) returns
+    (λ c. search needs) returns-2)

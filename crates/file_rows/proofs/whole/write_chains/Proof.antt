@@ -9,9 +9,6 @@ use Rattle.file_rows.proofs.whole.write_chains.Tie as tie
 word-at-requires : tie.Need-word-at-requires
 word-at-requires c κs = search needs
 
-cast-mask : tie.Need-cast-mask
-cast-mask c = search needs
-
 byte-at-requires : tie.Need-byte-at-requires
 byte-at-requires c κs = search needs
 
@@ -23,18 +20,6 @@ byte-at-requires-3 c κs = search needs
 
 put-first-requires : tie.Need-put-first-requires
 put-first-requires c κs = search needs
-
-element-copy-out-a : tie.Need-element-copy-out-a
-element-copy-out-a c = search needs
-
-element-copy-out-b : tie.Need-element-copy-out-b
-element-copy-out-b c = search needs
-
-element-copy-out-c : tie.Need-element-copy-out-c
-element-copy-out-c c = search needs
-
-element-copy-out-d : tie.Need-element-copy-out-d
-element-copy-out-d c = search needs
 
 sub-put-counts : tie.Need-sub-put-counts
 sub-put-counts c =
@@ -68,9 +53,6 @@ write-lanes-requires c κs =
       a .pre .1,
     )
 
-same-length : tie.Need-same-length
-same-length c = search needs
-
 returns : tie.Need-returns
 returns c =
     let lanes = c .before .before in
@@ -85,21 +67,6 @@ returns c =
 pub write-chains-spec : {M : Type 1} → statement M
 write-chains-spec =
     tie.close
-    (tie.spec
-    word-at-requires
-    cast-mask
-    byte-at-requires
-    byte-at-requires-2
-    byte-at-requires-3
-    put-first-requires
-    element-copy-out-a
-    element-copy-out-b
-    element-copy-out-c
-    element-copy-out-d
-    sub-put-counts
-    sub-put-counts-2
-    sub-put-counts-3
-    put-counts-requires
-    write-lanes-requires
-    same-length
-    returns)
+    (tie.spec word-at-requires (λ c. search needs) byte-at-requires byte-at-requires-2 byte-at-requires-3
+    put-first-requires (λ c. search needs) (λ c. search needs) (λ c. search needs) (λ c. search needs) sub-put-counts
+    sub-put-counts-2 sub-put-counts-3 put-counts-requires write-lanes-requires (λ c. search needs) returns)

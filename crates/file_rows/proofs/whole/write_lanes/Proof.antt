@@ -27,12 +27,6 @@ abbrev μ-loop : tie.MeasureT-loop
 loop-holds : tie.Need-loop-holds Inv-loop μ-loop
 loop-holds c = (omega arith, refl, turn-none _)
 
-mul-end : tie.Need-mul-end Inv-loop μ-loop
-mul-end c = search needs
-
-element-copy-out-end : tie.Need-element-copy-out-end Inv-loop μ-loop
-element-copy-out-end c = search needs
-
 write-chain-requires : tie.Need-write-chain-requires Inv-loop μ-loop
 write-chain-requires c κs =
     let test = c .before .before in
@@ -93,15 +87,5 @@ returns c =
 pub write-lanes-spec : {M : Type 1} → statement M
 write-lanes-spec =
     tie.close
-    (tie.spec
-    Inv-loop
-    μ-loop
-    loop-holds
-    mul-end
-    element-copy-out-end
-    write-chain-requires
-    add-t
-    loop-less
-    loop-again
-    same-length
-    returns)
+    (tie.spec Inv-loop μ-loop loop-holds (λ c. search needs) (λ c. search needs) write-chain-requires add-t loop-less
+    loop-again same-length returns)

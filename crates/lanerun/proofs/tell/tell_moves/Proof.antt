@@ -1,65 +1,103 @@
--- `lanerun::tell::tell_moves` meets its contract: no more moves are told than bytes are passed, each on what the one
+-- `lanerun::tell::tell_moves` meets its contract: what is told for n is move n of the schedule, on what the moves
 -- before it came to.
-use Prim.Native.Nat.{_+_, _-_, _≤_}
+use Prim.Native.Nat.{_-_, _/_, _≤_}
 use native.Mathlib.Omega.{arith}
 use lib.ListN.{length}
-use Rattle.lanerun.specs.Told.{CameTo}
-use Rattle.lanerun.proofs.Laws.Told.{can-move, can-record, one-more}
+use Rattle.machine_spec.specs.Moves.{movesIn}
+use Rattle.lanerun.proofs.Laws.Told.{CameTo, can-record, can-move, moved, between, one-more}
 use borrow.Author.Needs.{needs}
 use Rattle.lanerun.proofs.tell.tell_moves.Statement.{statement}
 use Rattle.lanerun.proofs.tell.tell_moves.Tie as tie
 
 abbrev Inv-loop : tie.InvT-loop
-Inv-loop rows moves x₀ state₀ before₀ n₀ i₀ x state before n i =
-    (i ≤ length moves) × (n ≤ i) × CameTo n rows x state
+Inv-loop machine file moves rows state₀ x₀ before₀ n₀ state x before n =
+    (n ≤ length moves / 2) × CameTo machine file (movesIn moves) n rows x state before
 
 abbrev μ-loop : tie.MeasureT-loop
-μ-loop rows moves x₀ state₀ before₀ n₀ i₀ x state before n i = length moves - i
+μ-loop machine file moves rows state₀ x₀ before₀ n₀ state x before n = length moves / 2 - n
+
+no-rows-requires : tie.Need-no-rows-requires Inv-loop μ-loop
+no-rows-requires c κs = search needs
+
+no-state-requires : tie.Need-no-state-requires Inv-loop μ-loop
+no-state-requires c κs = search needs
+
+begin-requires : tie.Need-begin-requires Inv-loop μ-loop
+begin-requires c κs = search needs
 
 record-of-requires : tie.Need-record-of-requires Inv-loop μ-loop
-record-of-requires c κs = can-record (c .before .before .pre .1)
+record-of-requires c κs = can-record (c .before .begin .ensures)
 
 loop-holds : tie.Need-loop-holds Inv-loop μ-loop
-loop-holds c = (omega arith, omega arith, c .before .before .before .pre .1)
+loop-holds c =
+    let start = c .before .before .begin .ensures in
+    (omega arith, record { stands = start; recorded = c .record-of .ensures _ _ _ _ start })
 
-add-loop : tie.Need-add-loop Inv-loop μ-loop
-add-loop c = search needs
+mul-fold-move : tie.Need-mul-fold-move Inv-loop μ-loop
+mul-fold-move c = omega (arith, c .before .loop-test .taken)
 
-add-n : tie.Need-add-n Inv-loop μ-loop
-add-n c = search needs
+shared-slice-read-fold-move : tie.Need-shared-slice-read-fold-move Inv-loop μ-loop
+shared-slice-read-fold-move c = omega (arith, c .before .before .loop-test .taken)
 
-shared-slice-read-lane : tie.Need-shared-slice-read-lane Inv-loop μ-loop
-shared-slice-read-lane c = search needs
+mul-fold-move-2 : tie.Need-mul-fold-move-2 Inv-loop μ-loop
+mul-fold-move-2 c = omega (arith, c .before .before .loop-test .taken)
 
-add-choice : tie.Need-add-choice Inv-loop μ-loop
-add-choice c = search needs
+add-fold-move : tie.Need-add-fold-move Inv-loop μ-loop
+add-fold-move c = omega (arith, c .before .before .loop-test .taken)
 
-shared-slice-read-choice : tie.Need-shared-slice-read-choice Inv-loop μ-loop
-shared-slice-read-choice c = search needs
+shared-slice-read-fold-move-2 : tie.Need-shared-slice-read-fold-move-2 Inv-loop μ-loop
+shared-slice-read-fold-move-2 c = omega (arith, c .before .before .before .loop-test .taken)
 
 fold-move-requires : tie.Need-fold-move-requires Inv-loop μ-loop
 fold-move-requires c κs =
-    can-move (c .before .before .before .before .loop .inv .2) (omega arith)
+    let l = c .before .before .before .before .before in
+    let s = l .before .before .before .before .before .before .before .before .before .before in
+    can-move (s .args .moves .now) (s .pre .0) (l .loop .inv .1)
 
 record-of-requires-2 : tie.Need-record-of-requires-2 Inv-loop μ-loop
 record-of-requires-2 c κs =
-    let l = c .before .before .before .before .before .before .loop in
-    can-record (one-more (l .inv .2) _ (c .before .fold-move .ensures))
+    let f = c .before in
+    let t = f .before .before .before .before .before in
+    let l = t .before in
+    let s = l .before .before .before .before .before .before .before .before .before .before in
+    can-record (moved (s .args .moves .now) (s .pre .0) (l .loop .inv .1) (t .loop-test .taken) (f .fold-move .ensures))
 
-say-move-requires : tie.Need-say-move-requires Inv-loop μ-loop
-say-move-requires c κs = search needs
+say-line-requires : tie.Need-say-line-requires Inv-loop μ-loop
+say-line-requires c κs =
+    let r = c .before .before .before in
+    let f = r .before .before in
+    let t = f .before .before .before .before .before in
+    let l = t .before in
+    let s = l .before .before .before .before .before .before .before .before .before .before in
+    let b = s .args .moves .now in
+    let next = moved b (s .pre .0) (l .loop .inv .1) (t .loop-test .taken) (f .fold-move .ensures) in
+    between b (s .pre .0) (l .loop .inv .1) (t .loop-test .taken) (f .fold-move .ensures)
+    (r .record-of2 .ensures _ _ _ _ next) (s .pre .1)
 
-add-i : tie.Need-add-i Inv-loop μ-loop
-add-i c = search needs
+add-n : tie.Need-add-n Inv-loop μ-loop
+add-n c =
+    let t = c .before .before .before .before .before .before .before .before .before .before .before in
+    let s = t .before .before .before .before .before .before .before .before .before .before .before in
+    omega (arith, t .loop-test .taken, s .pre .0)
 
 loop-less : tie.Need-loop-less Inv-loop μ-loop
-loop-less c = omega arith
+loop-less c =
+    let t = c .before .before .before .before .before .before .before .before .before .before .before in
+    omega (arith, t .loop-test .taken)
 
 loop-again : tie.Need-loop-again Inv-loop μ-loop
 loop-again c =
-    let folded = c .before .before .before .before .before .before in
-    let l = folded .before .before .before .before .before .loop in
-    (omega arith, omega arith, one-more (l .inv .2) _ (folded .fold-move .ensures))
+    let r = c .before .before .before .before in
+    let f = r .before .before in
+    let t = f .before .before .before .before .before in
+    let l = t .before in
+    let s = l .before .before .before .before .before .before .before .before .before .before in
+    let b = s .args .moves .now in
+    let next = moved b (s .pre .0) (l .loop .inv .1) (t .loop-test .taken) (f .fold-move .ensures) in (
+      omega (arith, t .loop-test .taken),
+      one-more b (s .pre .0) (l .loop .inv .1) (t .loop-test .taken) (f .fold-move .ensures)
+          (r .record-of2 .ensures _ _ _ _ next),
+    )
 
 returns : tie.Need-returns Inv-loop μ-loop
 returns c = tt
@@ -70,17 +108,20 @@ tell-moves-spec =
     (tie.spec
     Inv-loop
     μ-loop
+    no-rows-requires
+    no-state-requires
+    begin-requires
     record-of-requires
     loop-holds
-    add-loop
-    add-n
-    shared-slice-read-lane
-    add-choice
-    shared-slice-read-choice
+    mul-fold-move
+    shared-slice-read-fold-move
+    mul-fold-move-2
+    add-fold-move
+    shared-slice-read-fold-move-2
     fold-move-requires
     record-of-requires-2
-    say-move-requires
-    add-i
+    say-line-requires
+    add-n
     loop-less
     loop-again
     returns)

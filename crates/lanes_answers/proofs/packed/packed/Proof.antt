@@ -6,12 +6,6 @@ use borrow.Author.Needs.{needs}
 use Rattle.lanes_answers.proofs.packed.packed.Statement.{statement}
 use Rattle.lanes_answers.proofs.packed.packed.Tie as tie
 
-enum-known-answer : tie.Need-enum-known-answer
-enum-known-answer c = search needs
-
-enum-known-answer-2 : tie.Need-enum-known-answer-2
-enum-known-answer-2 c = search needs
-
 mul-result : tie.Need-mul-result
 mul-result c =
     let small = subst Small (c .before .answer2 .given .1) (c .before .before .before .pre) in
@@ -30,5 +24,4 @@ returns-2 c = sym (ap packedLowering (c .before .answer2 .given .1))
 
 pub packed-spec : {M : Type 1} → statement M
 packed-spec =
-    tie.close
-    (tie.spec enum-known-answer enum-known-answer-2 mul-result add-result returns returns-2)
+    tie.close (tie.spec (λ c. search needs) (λ c. search needs) mul-result add-result returns returns-2)

@@ -9,17 +9,11 @@ use Rattle.machine_course.proofs.begin.begin.Tie as tie
 program-of-requires : tie.Need-program-of-requires
 program-of-requires c κs = search needs
 
-enum-known-answer : tie.Need-enum-known-answer
-enum-known-answer c = search needs
-
 start-refused-requires : tie.Need-start-refused-requires
 start-refused-requires c κs = search needs
 
 blocked-requires : tie.Need-blocked-requires
 blocked-requires c κs = search needs
-
-enum-told : tie.Need-enum-told
-enum-told c = search needs
 
 start-rows-requires : tie.Need-start-rows-requires
 start-rows-requires c κs = search needs
@@ -56,14 +50,5 @@ returns-2 c =
 pub begin-spec : {M : Type 1} → statement M
 begin-spec =
     tie.close
-    (tie.spec
-    program-of-requires
-    enum-known-answer
-    start-refused-requires
-    blocked-requires
-    enum-told
-    start-rows-requires
-    word-at-requires
-    underway-requires
-    returns
-    returns-2)
+    (tie.spec program-of-requires (λ c. search needs) start-refused-requires blocked-requires (λ c. search needs)
+    start-rows-requires word-at-requires underway-requires returns returns-2)

@@ -10,20 +10,11 @@ start-requires c κs = search needs
 byte-at-requires : tie.Need-byte-at-requires
 byte-at-requires c κs = search needs
 
-cast-lanes : tie.Need-cast-lanes
-cast-lanes c = search needs
-
 byte-at-requires-2 : tie.Need-byte-at-requires-2
 byte-at-requires-2 c κs = search needs
 
-cast-locations : tie.Need-cast-locations
-cast-locations c = search needs
-
 byte-at-requires-3 : tie.Need-byte-at-requires-3
 byte-at-requires-3 c κs = search needs
-
-cast-locks : tie.Need-cast-locks
-cast-locks c = search needs
 
 start-requires-2 : tie.Need-start-requires-2
 start-requires-2 c κs = search needs
@@ -42,14 +33,5 @@ returns-2 c =
 pub start-refused-spec : {M : Type 1} → statement M
 start-refused-spec =
     tie.close
-    (tie.spec
-    start-requires
-    byte-at-requires
-    cast-lanes
-    byte-at-requires-2
-    cast-locations
-    byte-at-requires-3
-    cast-locks
-    start-requires-2
-    returns
-    returns-2)
+    (tie.spec start-requires byte-at-requires (λ c. search needs) byte-at-requires-2 (λ c. search needs)
+    byte-at-requires-3 (λ c. search needs) start-requires-2 returns returns-2)

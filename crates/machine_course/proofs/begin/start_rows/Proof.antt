@@ -7,20 +7,11 @@ use Rattle.machine_course.proofs.begin.start_rows.Tie as tie
 byte-at-requires : tie.Need-byte-at-requires
 byte-at-requires c κs = search needs
 
-cast-lanes : tie.Need-cast-lanes
-cast-lanes c = search needs
-
 byte-at-requires-2 : tie.Need-byte-at-requires-2
 byte-at-requires-2 c κs = search needs
 
-cast-locations : tie.Need-cast-locations
-cast-locations c = search needs
-
 byte-at-requires-3 : tie.Need-byte-at-requires-3
 byte-at-requires-3 c κs = search needs
-
-cast-locks : tie.Need-cast-locks
-cast-locks c = search needs
 
 start-requires : tie.Need-start-requires
 start-requires c κs = search needs
@@ -32,12 +23,5 @@ returns c = started-by (c .before .before .before .before .byte-at .ensures)
 pub start-rows-spec : {M : Type 1} → statement M
 start-rows-spec =
     tie.close
-    (tie.spec
-    byte-at-requires
-    cast-lanes
-    byte-at-requires-2
-    cast-locations
-    byte-at-requires-3
-    cast-locks
-    start-requires
-    returns)
+    (tie.spec byte-at-requires (λ c. search needs) byte-at-requires-2 (λ c. search needs) byte-at-requires-3
+    (λ c. search needs) start-requires returns)

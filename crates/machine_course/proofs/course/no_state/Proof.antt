@@ -1,6 +1,5 @@
 -- `machine_course::course::no_state` meets its contract.
 use Rattle.machine_start.proofs.Laws.Start.{zeroed-sized}
-use borrow.Author.Needs.{needs}
 use Rattle.machine_course.proofs.course.no_state.Statement.{statement}
 use Rattle.machine_course.proofs.course.no_state.Tie as tie
 

@@ -14,20 +14,11 @@ flags-of-requires c κs = search needs
 byte-at-requires : tie.Need-byte-at-requires
 byte-at-requires c κs = search needs
 
-cast-lanecount : tie.Need-cast-lanecount
-cast-lanecount c = search needs
-
 byte-at-requires-2 : tie.Need-byte-at-requires-2
 byte-at-requires-2 c κs = search needs
 
-cast-locations : tie.Need-cast-locations
-cast-locations c = search needs
-
 byte-at-requires-3 : tie.Need-byte-at-requires-3
 byte-at-requires-3 c κs = search needs
-
-cast-lockwords : tie.Need-cast-lockwords
-cast-lockwords c = search needs
 
 returns : tie.Need-returns
 returns c =
@@ -46,13 +37,5 @@ returns c =
 pub underway-spec : {M : Type 1} → statement M
 underway-spec =
     tie.close
-    (tie.spec
-    parts-of-requires
-    flags-of-requires
-    byte-at-requires
-    cast-lanecount
-    byte-at-requires-2
-    cast-locations
-    byte-at-requires-3
-    cast-lockwords
-    returns)
+    (tie.spec parts-of-requires flags-of-requires byte-at-requires (λ c. search needs) byte-at-requires-2
+    (λ c. search needs) byte-at-requires-3 (λ c. search needs) returns)

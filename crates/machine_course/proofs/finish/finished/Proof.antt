@@ -1,6 +1,5 @@
 -- `machine_course::finish::finished` meets its contract.
 use Rattle.machine_course.proofs.Laws.Ends.{not-finished, lanes-few, finished-by}
-use borrow.Author.Needs.{needs}
 use Rattle.machine_course.proofs.finish.finished.Statement.{statement}
 use Rattle.machine_course.proofs.finish.finished.Tie as tie
 

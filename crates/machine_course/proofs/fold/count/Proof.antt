@@ -5,21 +5,6 @@ use borrow.Author.Needs.{needs}
 use Rattle.machine_course.proofs.fold.count.Statement.{statement}
 use Rattle.machine_course.proofs.fold.count.Tie as tie
 
-enum-told : tie.Need-enum-told
-enum-told c = search needs
-
-add-x : tie.Need-add-x
-add-x c = search needs
-
-enum-told-2 : tie.Need-enum-told-2
-enum-told-2 c = search needs
-
-add-x-2 : tie.Need-add-x-2
-add-x-2 c = search needs
-
-enum-told-3 : tie.Need-enum-told-3
-enum-told-3 c = search needs
-
 returns : tie.Need-returns
 returns c = sym (ap (counted (c .before .before .before .args .x)) (c .before .enum-told .given .1))
 
@@ -32,4 +17,5 @@ returns-3 c = search needs
 pub count-spec : {M : Type 1} → statement M
 count-spec =
     tie.close
-    (tie.spec enum-told add-x enum-told-2 add-x-2 enum-told-3 returns returns-2 returns-3)
+    (tie.spec (λ c. search needs) (λ c. search needs) (λ c. search needs) (λ c. search needs) (λ c. search needs)
+    returns returns-2 returns-3)

@@ -41,12 +41,6 @@ returns-2 c =
     (c .before .before .before .before .before .before .wide .ensures))
     (not-true _ (c .before .before .before .if2 .taken)) (c .before .start .ensures) (c .stop .ensures)
 
-slice-aggregate-move-lane : tie.Need-slice-aggregate-move-lane
-slice-aggregate-move-lane c = search needs
-
-mul-move-lane : tie.Need-mul-move-lane
-mul-move-lane c = search needs
-
 array-read-move-lane : tie.Need-array-read-move-lane
 array-read-move-lane c =
     let st = c .before .before .before .before .before .before .before .before .before .before .before in
@@ -61,9 +55,6 @@ array-read-move-lane c =
           .before .wide .ensures))
           (not-false _ (c .before .before .before .before .before .if2 .left)),
     )
-
-mul-move-lane-2 : tie.Need-mul-move-lane-2
-mul-move-lane-2 c = search needs
 
 array-read-move-lane-2 : tie.Need-array-read-move-lane-2
 array-read-move-lane-2 c =
@@ -114,19 +105,6 @@ returns-3 c =
 pub fold-move-spec : {M : Type 1} → statement M
 fold-move-spec =
     tie.close
-    (tie.spec
-    returns
-    wide-requires
-    limit-of-requires
-    legal-move-requires
-    start-requires
-    stop-requires
-    returns-2
-    slice-aggregate-move-lane
-    mul-move-lane
-    array-read-move-lane
-    mul-move-lane-2
-    array-read-move-lane-2
-    move-lane-requires
-    count-requires
-    returns-3)
+    (tie.spec returns wide-requires limit-of-requires legal-move-requires start-requires stop-requires returns-2
+    (λ c. search needs) (λ c. search needs) array-read-move-lane (λ c. search needs) array-read-move-lane-2
+    move-lane-requires count-requires returns-3)

@@ -16,9 +16,6 @@ write-state-requires c κs =
     let so = s .pre .1 .stands in
     (s .pre .0, (so .sized, stands-fits so .small))
 
-same-length : tie.Need-same-length
-same-length c = search needs
-
 returns : tie.Need-returns
 returns c =
     let s = c .before .before .before .before .before .before in
@@ -28,4 +25,4 @@ returns c =
     ∙ λ i. over (recordOf (done i) (so .done i) (so .waited i) (so .state i)) (s .args .out .now)
 
 pub write-record-spec : {M : Type 1} → statement M
-write-record-spec = tie.close (tie.spec finished-requires write-state-requires same-length returns)
+write-record-spec = tie.close (tie.spec finished-requires write-state-requires (λ c. search needs) returns)

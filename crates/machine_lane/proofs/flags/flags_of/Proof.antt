@@ -17,18 +17,6 @@ abbrev μ-loop : tie.MeasureT-loop
 loop-holds : tie.Need-loop-holds Inv-loop μ-loop
 loop-holds c = (omega arith, refl, λ i h. absurd (omega arith))
 
-cast-flags : tie.Need-cast-flags Inv-loop μ-loop
-cast-flags c = search needs
-
-shr-flags : tie.Need-shr-flags Inv-loop μ-loop
-shr-flags c = search needs
-
-array-write-flags : tie.Need-array-write-flags Inv-loop μ-loop
-array-write-flags c = search needs
-
-add-x : tie.Need-add-x Inv-loop μ-loop
-add-x c = search needs
-
 loop-less : tie.Need-loop-less Inv-loop μ-loop
 loop-less c = omega (arith, c .loop-test .taken)
 
@@ -53,5 +41,6 @@ returns c =
 
 pub flags-of-spec : {M : Type 1} → statement M
 flags-of-spec =
-    tie.close (tie.spec Inv-loop μ-loop loop-holds cast-flags shr-flags array-write-flags add-x loop-less
-    loop-again returns)
+    tie.close
+    (tie.spec Inv-loop μ-loop loop-holds (λ c. search needs) (λ c. search needs) (λ c. search needs) (λ c. search needs)
+    loop-less loop-again returns)

@@ -6,9 +6,6 @@ use borrow.Author.Needs.{needs}
 use Rattle.machine_lane.proofs.lane.is_volatile.Statement.{statement}
 use Rattle.machine_lane.proofs.lane.is_volatile.Tie as tie
 
-shared-slice-read-result : tie.Need-shared-slice-read-result
-shared-slice-read-result c = search needs
-
 returns : tie.Need-returns
 returns c = search needs
 
@@ -16,4 +13,4 @@ returns-2 : tie.Need-returns-2
 returns-2 c = sym (List·getD-eq-default (c .before .args .volatile .now) false (c .if1 .left))
 
 pub is-volatile-spec : {M : Type 1} → statement M
-is-volatile-spec = tie.close (tie.spec shared-slice-read-result returns returns-2)
+is-volatile-spec = tie.close (tie.spec (λ c. search needs) returns returns-2)

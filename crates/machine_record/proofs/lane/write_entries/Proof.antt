@@ -27,18 +27,6 @@ abbrev μ-loop : tie.MeasureT-loop
 loop-holds : tie.Need-loop-holds Inv-loop μ-loop
 loop-holds c = (omega arith, turn-none _)
 
-mul-write-place : tie.Need-mul-write-place Inv-loop μ-loop
-mul-write-place c = search needs
-
-array-read-write-place : tie.Need-array-read-write-place Inv-loop μ-loop
-array-read-write-place c = search needs
-
-mul-write-place-2 : tie.Need-mul-write-place-2 Inv-loop μ-loop
-mul-write-place-2 c = search needs
-
-array-read-write-place-2 : tie.Need-array-read-write-place-2 Inv-loop μ-loop
-array-read-write-place-2 c = search needs
-
 write-place-requires : tie.Need-write-place-requires Inv-loop μ-loop
 write-place-requires c κs =
     let s = c .before .before .before .before in
@@ -48,9 +36,6 @@ write-place-requires c κs =
     let end =
     turn-end (λ k. placeBytes (getElem? es k)) 8 (l .i) (λ k. place-length (getElem? es k)) (l .inv .1) in
     (omega (arith, end, puts-length (l .inv .1), c .before .loop-test .taken), λ e. s .pre .1 (l .i) (ltb-true _ _ e))
-
-add-i : tie.Need-add-i Inv-loop μ-loop
-add-i c = search needs
 
 loop-less : tie.Need-loop-less Inv-loop μ-loop
 loop-less c = omega (arith, c .before .before .before .before .loop-test .taken)
@@ -85,17 +70,5 @@ returns c =
 pub write-entries-spec : {M : Type 1} → statement M
 write-entries-spec =
     tie.close
-    (tie.spec
-    Inv-loop
-    μ-loop
-    loop-holds
-    mul-write-place
-    array-read-write-place
-    mul-write-place-2
-    array-read-write-place-2
-    write-place-requires
-    add-i
-    loop-less
-    loop-again
-    same-length
-    returns)
+    (tie.spec Inv-loop μ-loop loop-holds (λ c. search needs) (λ c. search needs) (λ c. search needs) (λ c. search needs)
+    write-place-requires (λ c. search needs) loop-less loop-again same-length returns)

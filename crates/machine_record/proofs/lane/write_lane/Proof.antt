@@ -10,23 +10,14 @@ use borrow.Author.Needs.{needs}
 use Rattle.machine_record.proofs.lane.write_lane.Statement.{statement}
 use Rattle.machine_record.proofs.lane.write_lane.Tie as tie
 
-cast-put-words : tie.Need-cast-put-words
-cast-put-words c = search needs
-
 count-requires : tie.Need-count-requires
 count-requires c κs = search needs
 
 put-words-requires : tie.Need-put-words-requires
 put-words-requires c κs = search needs
 
-slice-aggregate-put-table : tie.Need-slice-aggregate-put-table
-slice-aggregate-put-table c = search needs
-
 put-table-requires : tie.Need-put-table-requires
 put-table-requires c κs = search needs
-
-cast-write-entries : tie.Need-cast-write-entries
-cast-write-entries c = search needs
 
 write-entries-requires : tie.Need-write-entries-requires
 unfolding inTurn
@@ -45,9 +36,6 @@ write-entries-requires c κs =
       s .pre .1,
     )
 
-same-length : tie.Need-same-length
-same-length c = search needs
-
 returns : tie.Need-returns
 unfolding stateLane
 returns c =
@@ -61,13 +49,5 @@ returns c =
 pub write-lane-spec : {M : Type 1} → statement M
 write-lane-spec =
     tie.close
-    (tie.spec
-    cast-put-words
-    count-requires
-    put-words-requires
-    slice-aggregate-put-table
-    put-table-requires
-    cast-write-entries
-    write-entries-requires
-    same-length
-    returns)
+    (tie.spec (λ c. search needs) count-requires put-words-requires (λ c. search needs) put-table-requires
+    (λ c. search needs) write-entries-requires (λ c. search needs) returns)

@@ -1,8 +1,8 @@
 -- `machine_record::lane::write_place` meets its contract.
-use mathlib.Core.Path.{refl, sym, ap}
+use mathlib.Core.Path.{sym, ap}
 use mathlib.Core.Bool.{cond}
 use mathlib.Core.Option.{none, some}
-use Rattle.sheet_format.proofs.Laws.Put.{laid-put, puts-as}
+use Rattle.sheet_format.proofs.Laws.Put.{puts-as}
 use Rattle.machine_lane.specs.Lanes.{entryOf}
 use Rattle.machine_record.specs.Lanes.{placeBytes}
 use borrow.Author.Needs.{needs}
@@ -14,9 +14,6 @@ write-entry-requires c κs =
     let s = c .before .before .before in
     (s .pre .0, s .pre .1 (c .before .if1 .taken))
 
-same-length : tie.Need-same-length
-same-length c = search needs
-
 returns : tie.Need-returns
 returns c =
     let a = c .before .before .before .before .before .before .args in
@@ -25,32 +22,15 @@ returns c =
     (sym (c .before .before .before .before .if1 .taken)))
     (c .before .before .write-entry .ensures)
 
-put-row-requires : tie.Need-put-row-requires
-put-row-requires c κs = search needs
-
-add-result : tie.Need-add-result
-add-result c = search needs
-
-same-length-2 : tie.Need-same-length-2
-same-length-2 c = search needs
-
 returns-2 : tie.Need-returns-2
 returns-2 c =
-    let s = c .before .before .before .before .before .before in
-    let a = s .args in
+    let a = c .before .before .before .before .before .before .args in
     puts-as
     (ap (λ b. placeBytes (cond b (some (entryOf (a .cell) (a .value))) none))
     (sym (c .before .before .before .before .if1 .left)))
-    (laid-put (a .out .now) (a .at) _ refl refl (s .pre .0) (c .before .before .put-row .ensures))
+    (c .before .before .store-row .ensures)
 
 pub write-place-spec : {M : Type 1} → statement M
 write-place-spec =
     tie.close
-    (tie.spec
-    write-entry-requires
-    same-length
-    returns
-    put-row-requires
-    add-result
-    same-length-2
-    returns-2)
+    (tie.spec write-entry-requires (λ c. search needs) returns (λ c κs. search needs) (λ c. search needs) returns-2)

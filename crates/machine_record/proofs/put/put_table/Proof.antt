@@ -32,9 +32,6 @@ put-quad-requires c κs =
     let end = turn-end (λ i. quadBytes (getD words i 0)) 4 (l .i) (λ j. refl) (l .inv .1) in
     omega (arith, end, puts-length (l .inv .1), c .before .before .loop-test .taken)
 
-add-i : tie.Need-add-i Inv-loop μ-loop
-add-i c = search needs
-
 loop-less : tie.Need-loop-less Inv-loop μ-loop
 loop-less c = omega (arith, c .before .before .before .before .before .loop-test .taken)
 
@@ -62,14 +59,5 @@ returns c =
 pub put-table-spec : {M : Type 1} → statement M
 put-table-spec =
     tie.close
-    (tie.spec
-    Inv-loop
-    μ-loop
-    loop-holds
-    word-at-requires
-    put-quad-requires
-    add-i
-    loop-less
-    loop-again
-    same-length
-    returns)
+    (tie.spec Inv-loop μ-loop loop-holds word-at-requires put-quad-requires (λ c. search needs) loop-less loop-again
+    same-length returns)

@@ -5,12 +5,6 @@ use borrow.Author.Needs.{needs}
 use Rattle.machine_record.proofs.put.word_at.Statement.{statement}
 use Rattle.machine_record.proofs.put.word_at.Tie as tie
 
-mul-wide : tie.Need-mul-wide
-mul-wide c = search needs
-
-shared-slice-read-wide : tie.Need-shared-slice-read-wide
-shared-slice-read-wide c = search needs
-
 wide-requires : tie.Need-wide-requires
 wide-requires c κs = search needs
 
@@ -21,4 +15,4 @@ returns-2 : tie.Need-returns-2
 returns-2 c = sym (List·getD-eq-default (c .before .before .args .words .now) 0 (c .if1 .left))
 
 pub word-at-spec : {M : Type 1} → statement M
-word-at-spec = tie.close (tie.spec mul-wide shared-slice-read-wide wide-requires returns returns-2)
+word-at-spec = tie.close (tie.spec (λ c. search needs) (λ c. search needs) wide-requires returns returns-2)

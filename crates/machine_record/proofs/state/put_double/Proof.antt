@@ -10,12 +10,9 @@ put-quad-requires c κs = search needs
 put-quad-requires-2 : tie.Need-put-quad-requires-2
 put-quad-requires-2 c κs = search needs
 
-same-length : tie.Need-same-length
-same-length c = search needs
-
 returns : tie.Need-returns
 returns c = puts-on (c .before .before .before .before .before .before .put-quad .ensures)
     (c .before .before .put-quad2 .ensures)
 
 pub put-double-spec : {M : Type 1} → statement M
-put-double-spec = tie.close (tie.spec put-quad-requires put-quad-requires-2 same-length returns)
+put-double-spec = tie.close (tie.spec put-quad-requires put-quad-requires-2 (λ c. search needs) returns)

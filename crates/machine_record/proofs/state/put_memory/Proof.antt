@@ -43,9 +43,6 @@ put-quad-requires c κs =
           .before .before .before .pre .0,
     )
 
-add-x : tie.Need-add-x Inv-loop μ-loop
-add-x c = search needs
-
 loop-less : tie.Need-loop-less Inv-loop μ-loop
 loop-less c = omega (arith, c .before .before .before .before .before .before .loop-test .taken)
 
@@ -74,15 +71,5 @@ returns c =
 pub put-memory-spec : {M : Type 1} → statement M
 put-memory-spec =
     tie.close
-    (tie.spec
-    Inv-loop
-    μ-loop
-    loop-holds
-    memory-at-requires
-    wide-requires
-    put-quad-requires
-    add-x
-    loop-less
-    loop-again
-    same-length
-    returns)
+    (tie.spec Inv-loop μ-loop loop-holds memory-at-requires wide-requires put-quad-requires (λ c. search needs)
+    loop-less loop-again same-length returns)

@@ -37,9 +37,6 @@ put-double-requires-2 c κs = search needs
 put-memory-requires : tie.Need-put-memory-requires
 put-memory-requires c κs = search needs
 
-same-length : tie.Need-same-length
-same-length c = search needs
-
 returns : tie.Need-returns
 unfolding headBytes inTurn
 returns c =
@@ -58,16 +55,6 @@ returns c =
 pub write-head-spec : {M : Type 1} → statement M
 write-head-spec =
     tie.close
-    (tie.spec
-    flag-requires
-    put-four-requires
-    lock-byte-requires
-    lock-byte-requires-2
-    lock-byte-requires-3
-    lock-byte-requires-4
-    put-four-requires-2
-    put-double-requires
-    put-double-requires-2
-    put-memory-requires
-    same-length
-    returns)
+    (tie.spec flag-requires put-four-requires lock-byte-requires lock-byte-requires-2 lock-byte-requires-3
+    lock-byte-requires-4 put-four-requires-2 put-double-requires put-double-requires-2 put-memory-requires
+    (λ c. search needs) returns)

@@ -13,15 +13,6 @@ use borrow.Author.Needs.{needs}
 use Rattle.machine_record.proofs.state.write_lane_at.Statement.{statement}
 use Rattle.machine_record.proofs.state.write_lane_at.Tie as tie
 
-index-1-wide : tie.Need-index-1-wide
-index-1-wide c = search needs
-
-index-2-wide : tie.Need-index-2-wide
-index-2-wide c = search needs
-
-index-3-wide : tie.Need-index-3-wide
-index-3-wide c = search needs
-
 wide-requires : tie.Need-wide-requires
 wide-requires c κs = search needs
 
@@ -38,9 +29,6 @@ write-lane-requires c κs =
           (there-small (s .args .state .now) (s .args .t) (s .pre .1 .0) here (s .pre .1 .1)),
     )
 
-same-length : tie.Need-same-length
-same-length c = search needs
-
 returns : tie.Need-returns
 returns c =
     let s = c .before .before .before .before .before .before .before .before .before in
@@ -56,9 +44,6 @@ returns c =
 write-lane-requires-2 : tie.Need-write-lane-requires-2
 write-lane-requires-2 c κs = (c .before .before .before .before .before .pre .0, λ i l. absurd (omega arith))
 
-same-length-2 : tie.Need-same-length-2
-same-length-2 c = search needs
-
 returns-2 : tie.Need-returns-2
 returns-2 c =
     let s = c .before .before .before .before .before .before .before .before in
@@ -70,15 +55,5 @@ returns-2 c =
 pub write-lane-at-spec : {M : Type 1} → statement M
 write-lane-at-spec =
     tie.close
-    (tie.spec
-    index-1-wide
-    index-2-wide
-    index-3-wide
-    wide-requires
-    take-requires
-    write-lane-requires
-    same-length
-    returns
-    write-lane-requires-2
-    same-length-2
-    returns-2)
+    (tie.spec (λ c. search needs) (λ c. search needs) (λ c. search needs) wide-requires take-requires
+    write-lane-requires (λ c. search needs) returns write-lane-requires-2 (λ c. search needs) returns-2)

@@ -39,9 +39,6 @@ write-lane-at-requires c κs =
     (c .before .before .before .before .before .write-head .ensures) (l .inv .1) in
     (room, (record { lane = below; sized = s .pre .1 .0 }, s .pre .1 .1 .entries))
 
-add-t : tie.Need-add-t Inv-loop μ-loop
-add-t c = search needs
-
 loop-less : tie.Need-loop-less Inv-loop μ-loop
 loop-less c = omega (arith, c .before .before .before .before .loop-test .taken)
 
@@ -72,14 +69,5 @@ returns c =
 pub write-state-spec : {M : Type 1} → statement M
 write-state-spec =
     tie.close
-    (tie.spec
-    Inv-loop
-    μ-loop
-    write-head-requires
-    loop-holds
-    write-lane-at-requires
-    add-t
-    loop-less
-    loop-again
-    same-length
-    returns)
+    (tie.spec Inv-loop μ-loop write-head-requires loop-holds write-lane-at-requires (λ c. search needs) loop-less
+    loop-again same-length returns)

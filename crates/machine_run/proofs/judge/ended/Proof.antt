@@ -2,8 +2,9 @@
 use Prim.Native.Nat.{ℕ, _≤_, _<_, _-_}
 use native.Mathlib.Omega.{arith}
 use lib.ListN.{getD}
+use Rattle.laws.proofs.Numbers.{below-more}
 use Rattle.machine_state.specs.States.{laneOf}
-use Rattle.machine_run.proofs.Laws.Ended.{position, all-ended, one-goes-on, one-more}
+use Rattle.machine_run.proofs.Laws.Ended.{position, all-ended, one-goes-on}
 use borrow.Author.Needs.{needs}
 use Rattle.machine_run.proofs.judge.ended.Statement.{statement}
 use Rattle.machine_run.proofs.judge.ended.Tie as tie
@@ -13,15 +14,6 @@ Inv-loop state count n t₀ t = (t ≤ n) × ((i : ℕ) → i < t → getD count
 
 abbrev μ-loop : tie.MeasureT-loop
 μ-loop state count n t₀ t = n - t
-
-index-1-wide : tie.Need-index-1-wide Inv-loop μ-loop
-index-1-wide c = search needs
-
-index-2-wide : tie.Need-index-2-wide Inv-loop μ-loop
-index-2-wide c = search needs
-
-index-3-wide : tie.Need-index-3-wide Inv-loop μ-loop
-index-3-wide c = search needs
 
 wide-requires : tie.Need-wide-requires Inv-loop μ-loop
 wide-requires c κs = search needs
@@ -73,9 +65,6 @@ returns c =
     ))
     (omega (arith, c .if1 .taken, c .before .before .wide2 .ensures, c .before .before .before .position .ensures))
 
-add-t : tie.Need-add-t Inv-loop μ-loop
-add-t c = search needs
-
 loop-less : tie.Need-loop-less Inv-loop μ-loop
 loop-less c = omega (arith, c .before .before .before .before .loop-test .taken)
 
@@ -84,7 +73,7 @@ loop-again c =
     let s = c .before .before .before .before .before .before .before .before in
     let l = c .before .before .before .before .before .loop in (
       omega (arith, c .before .before .before .before .loop-test .taken),
-      one-more (position (s .args .state .now)) (s .args .count .now) (l .t) (l .inv .1)
+      below-more (λ i. getD (s .args .count .now) i 0 ≤ position (s .args .state .now) i) (l .t) (l .inv .1)
           (omega (
             arith,
             c .if1 .left,
@@ -104,20 +93,6 @@ returns-2 c =
 pub ended-spec : {M : Type 1} → statement M
 ended-spec =
     tie.close
-    (tie.spec
-    Inv-loop
-    μ-loop
-    index-1-wide
-    index-2-wide
-    index-3-wide
-    wide-requires
-    loop-holds
-    position-requires
-    wide-requires-2
-    mul-if1
-    element-copy-out-if1
-    returns
-    add-t
-    loop-less
-    loop-again
+    (tie.spec Inv-loop μ-loop (λ c. search needs) (λ c. search needs) (λ c. search needs) wide-requires loop-holds
+    position-requires wide-requires-2 mul-if1 element-copy-out-if1 returns (λ c. search needs) loop-less loop-again
     returns-2)

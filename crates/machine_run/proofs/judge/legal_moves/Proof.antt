@@ -25,26 +25,8 @@ abbrev μ-loop : tie.MeasureT-loop
 loop-holds : tie.Need-loop-holds Inv-loop μ-loop
 loop-holds c = (omega arith, refl, refl)
 
-mul-legal-move : tie.Need-mul-legal-move Inv-loop μ-loop
-mul-legal-move c = search needs
-
-shared-slice-read-legal-move : tie.Need-shared-slice-read-legal-move Inv-loop μ-loop
-shared-slice-read-legal-move c = search needs
-
-mul-legal-move-2 : tie.Need-mul-legal-move-2 Inv-loop μ-loop
-mul-legal-move-2 c = search needs
-
-add-legal-move : tie.Need-add-legal-move Inv-loop μ-loop
-add-legal-move c = search needs
-
-shared-slice-read-legal-move-2 : tie.Need-shared-slice-read-legal-move-2 Inv-loop μ-loop
-shared-slice-read-legal-move-2 c = search needs
-
 legal-move-requires : tie.Need-legal-move-requires Inv-loop μ-loop
 legal-move-requires c κs = search needs
-
-add-k : tie.Need-add-k Inv-loop μ-loop
-add-k c = search needs
 
 loop-less : tie.Need-loop-less Inv-loop μ-loop
 loop-less c = search needs
@@ -70,17 +52,5 @@ returns c =
 pub legal-moves-spec : {M : Type 1} → statement M
 legal-moves-spec =
     tie.close
-    (tie.spec
-    Inv-loop
-    μ-loop
-    loop-holds
-    mul-legal-move
-    shared-slice-read-legal-move
-    mul-legal-move-2
-    add-legal-move
-    shared-slice-read-legal-move-2
-    legal-move-requires
-    add-k
-    loop-less
-    loop-again
-    returns)
+    (tie.spec Inv-loop μ-loop loop-holds (λ c. search needs) (λ c. search needs) (λ c. search needs) (λ c. search needs)
+    (λ c. search needs) legal-move-requires (λ c. search needs) loop-less loop-again returns)

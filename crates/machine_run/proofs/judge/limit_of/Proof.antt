@@ -11,12 +11,6 @@ use Rattle.machine_run.proofs.judge.limit_of.Tie as tie
 target-limit : (k : Model) → 1 ≡ limit (Target k)
 target-limit Tso = refl
 
-enum-told : tie.Need-enum-told
-enum-told c = search needs
-
-enum-known-machine : tie.Need-enum-known-machine
-enum-known-machine c = search needs
-
 returns : tie.Need-returns
 returns c = search needs
 
@@ -24,4 +18,4 @@ returns-2 : tie.Need-returns-2
 returns-2 c = rw (c .before .machine .given .1) (target-limit (c .before .machine .given .0 .0))
 
 pub limit-of-spec : {M : Type 1} → statement M
-limit-of-spec = tie.close (tie.spec enum-told enum-known-machine returns returns-2)
+limit-of-spec = tie.close (tie.spec (λ c. search needs) (λ c. search needs) returns returns-2)

@@ -38,24 +38,9 @@ loop-holds c =
       λ prog h. record { sized = s .pre .0; lanes = refl; row = []; outcome = refl },
     )
 
-mul-t : tie.Need-mul-t Inv-loop μ-loop
-mul-t c = search needs
-
-shared-slice-read-t : tie.Need-shared-slice-read-t Inv-loop μ-loop
-shared-slice-read-t c = search needs
-
 cast-t : tie.Need-cast-t Inv-loop μ-loop
 cast-t c =
     let l = c .before .before .loop in omega (arith, l .inv .4 (l .k) (omega arith))
-
-mul-choice : tie.Need-mul-choice Inv-loop μ-loop
-mul-choice c = search needs
-
-add-choice : tie.Need-add-choice Inv-loop μ-loop
-add-choice c = search needs
-
-shared-slice-read-choice : tie.Need-shared-slice-read-choice Inv-loop μ-loop
-shared-slice-read-choice c = search needs
 
 position-requires : tie.Need-position-requires Inv-loop μ-loop
 position-requires c κs =
@@ -86,20 +71,11 @@ move-lane-requires c κs =
     let runs = s .pre .1 .runs in
     (lane-moves runs (l .k) _ at _ _ _ (l .inv .0) (l .inv .5 _ runs), inside runs (l .k) _ at)
 
-enum-told : tie.Need-enum-told Inv-loop μ-loop
-enum-told c = search needs
-
-enum-told-2 : tie.Need-enum-told-2 Inv-loop μ-loop
-enum-told-2 c = search needs
-
 add-done : tie.Need-add-done Inv-loop μ-loop
 add-done c =
     let l = c .before .before .before .before .before .before .before .before .before .before .before .loop in
     let test = c .before .before .before .before .before .before .before .before .before .before .loop-test in
     omega arith
-
-enum-told-3 : tie.Need-enum-told-3 Inv-loop μ-loop
-enum-told-3 c = search needs
 
 returns : tie.Need-returns Inv-loop μ-loop
 returns c =
@@ -138,9 +114,6 @@ loop-again c =
       λ prog h. run-counted h (l .k) _ at _ _ _ _ _ (l .inv .0) made (l .inv .5 prog h) _ counted (l .inv .1) refl,
     )
 
-sub-t15 : tie.Need-sub-t15 Inv-loop μ-loop
-sub-t15 c = search needs
-
 returns-2 : tie.Need-returns-2 Inv-loop μ-loop
 returns-2 c =
     let s = c .before .before .before .before .before in
@@ -153,29 +126,7 @@ returns-2 c =
 pub run-bytes-spec : {M : Type 1} → statement M
 run-bytes-spec =
     tie.close
-    (tie.spec
-    Inv-loop
-    μ-loop
-    loop-holds
-    mul-t
-    shared-slice-read-t
-    cast-t
-    mul-choice
-    add-choice
-    shared-slice-read-choice
-    position-requires
-    mul-move-lane
-    element-copy-out-move-lane
-    mul-move-lane-2
-    element-copy-out-move-lane-2
-    move-lane-requires
-    enum-told
-    enum-told-2
-    add-done
-    enum-told-3
-    returns
-    add-k
-    loop-less
-    loop-again
-    sub-t15
-    returns-2)
+    (tie.spec Inv-loop μ-loop loop-holds (λ c. search needs) (λ c. search needs) cast-t (λ c. search needs)
+    (λ c. search needs) (λ c. search needs) position-requires mul-move-lane element-copy-out-move-lane mul-move-lane-2
+    element-copy-out-move-lane-2 move-lane-requires (λ c. search needs) (λ c. search needs) add-done (λ c. search needs)
+    returns add-k loop-less loop-again (λ c. search needs) returns-2)

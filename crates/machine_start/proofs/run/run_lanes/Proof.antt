@@ -12,12 +12,6 @@ run-bytes-requires : tie.Need-run-bytes-requires
 run-bytes-requires c κs = let b = c .before .before .before .before .before .pre .1 .begins in
     (b .sized, begins-runnable b)
 
-enum-told : tie.Need-enum-told
-enum-told c = search needs
-
-enum-known-answer : tie.Need-enum-known-answer
-enum-known-answer c = search needs
-
 ended-requires : tie.Need-ended-requires
 ended-requires c κs =
     let b = c .before .before .before .before .before .before .before .before .before .before .pre .1 .begins in
@@ -35,9 +29,6 @@ returns : tie.Need-returns
 returns c =
     λ s k b. absurd (never-refused b (c .before .before .run-bytes .ensures _ (begins-run b)) (c .enum-told .given .1))
 
-same-length : tie.Need-same-length
-same-length c = search needs
-
 returns-2 : tie.Need-returns-2
 returns-2 c =
     let r = c .before .before .before .before .before .before .before .before .before .before in
@@ -52,12 +43,5 @@ returns-2 c =
 pub run-lanes-spec : {M : Type 1} → statement M
 run-lanes-spec =
     tie.close
-    (tie.spec
-    run-bytes-requires
-    enum-told
-    enum-known-answer
-    ended-requires
-    write-state-requires
-    returns
-    same-length
-    returns-2)
+    (tie.spec run-bytes-requires (λ c. search needs) (λ c. search needs) ended-requires write-state-requires returns
+    (λ c. search needs) returns-2)

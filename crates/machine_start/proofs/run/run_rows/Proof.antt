@@ -13,50 +13,11 @@ flags-of-requires c κs = mask-small (c .before .before .before .before .before 
 byte-at-requires : tie.Need-byte-at-requires
 byte-at-requires c κs = search needs
 
-cast-state : tie.Need-cast-state
-cast-state c = search needs
-
-index-1-state : tie.Need-index-1-state
-index-1-state c = search needs
-
-index-2-state : tie.Need-index-2-state
-index-2-state c = search needs
-
-index-3-state : tie.Need-index-3-state
-index-3-state c = search needs
-
 byte-at-requires-2 : tie.Need-byte-at-requires-2
 byte-at-requires-2 c κs = search needs
 
-cast-state-2 : tie.Need-cast-state-2
-cast-state-2 c = search needs
-
-index-1-state-2 : tie.Need-index-1-state-2
-index-1-state-2 c = search needs
-
-index-2-state-2 : tie.Need-index-2-state-2
-index-2-state-2 c = search needs
-
-index-3-state-2 : tie.Need-index-3-state-2
-index-3-state-2 c = search needs
-
 byte-at-requires-3 : tie.Need-byte-at-requires-3
 byte-at-requires-3 c κs = search needs
-
-cast-state-3 : tie.Need-cast-state-3
-cast-state-3 c = search needs
-
-index-1-state-3 : tie.Need-index-1-state-3
-index-1-state-3 c = search needs
-
-index-2-state-3 : tie.Need-index-2-state-3
-index-2-state-3 c = search needs
-
-index-3-state-3 : tie.Need-index-3-state-3
-index-3-state-3 c = search needs
-
-slice-aggregate-run-lanes : tie.Need-slice-aggregate-run-lanes
-slice-aggregate-run-lanes c = search needs
 
 run-lanes-requires : tie.Need-run-lanes-requires
 run-lanes-requires c κs =
@@ -67,9 +28,6 @@ run-lanes-requires c κs =
     (c .before .before .before .before .before .before .byte-at2 .ensures)
     (c .before .before .before .before .before .byte-at3 .ensures) in
     (s .pre .0, record { file = s .pre .1 .file; kernel = s .pre .1 .kernel; begins = b })
-
-same-length : tie.Need-same-length
-same-length c = search needs
 
 returns : tie.Need-returns
 returns c =
@@ -83,25 +41,7 @@ returns c =
 pub run-rows-spec : {M : Type 1} → statement M
 run-rows-spec =
     tie.close
-    (tie.spec
-    parts-of-requires
-    flags-of-requires
-    byte-at-requires
-    cast-state
-    index-1-state
-    index-2-state
-    index-3-state
-    byte-at-requires-2
-    cast-state-2
-    index-1-state-2
-    index-2-state-2
-    index-3-state-2
-    byte-at-requires-3
-    cast-state-3
-    index-1-state-3
-    index-2-state-3
-    index-3-state-3
-    slice-aggregate-run-lanes
-    run-lanes-requires
-    same-length
-    returns)
+    (tie.spec parts-of-requires flags-of-requires byte-at-requires (λ c. search needs) (λ c. search needs)
+    (λ c. search needs) (λ c. search needs) byte-at-requires-2 (λ c. search needs) (λ c. search needs)
+    (λ c. search needs) (λ c. search needs) byte-at-requires-3 (λ c. search needs) (λ c. search needs)
+    (λ c. search needs) (λ c. search needs) (λ c. search needs) run-lanes-requires (λ c. search needs) returns)

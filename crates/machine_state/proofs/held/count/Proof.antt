@@ -5,12 +5,6 @@ use borrow.Author.Needs.{needs}
 use Rattle.machine_state.proofs.held.count.Statement.{statement}
 use Rattle.machine_state.proofs.held.count.Tie as tie
 
-word-at-requires : tie.Need-word-at-requires
-word-at-requires c κs = search needs
-
-cast-n : tie.Need-cast-n
-cast-n c = search needs
-
 returns : tie.Need-returns
 returns c =
     let s = c .before .before in
@@ -24,4 +18,4 @@ returns-2 c =
     (omega (arith, few, c .before .word-at .ensures), omega arith)
 
 pub count-spec : {M : Type 1} → statement M
-count-spec = tie.close (tie.spec word-at-requires cast-n returns returns-2)
+count-spec = tie.close (tie.spec (λ c κs. search needs) (λ c. search needs) returns returns-2)

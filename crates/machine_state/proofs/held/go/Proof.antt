@@ -5,13 +5,10 @@ use borrow.Author.Needs.{needs}
 use Rattle.machine_state.proofs.held.go.Statement.{statement}
 use Rattle.machine_state.proofs.held.go.Tie as tie
 
-put-word-requires : tie.Need-put-word-requires
-put-word-requires c κs = search needs
-
 returns : tie.Need-returns
 returns c =
     let s = c .before .before in
     came (c .put-word .ensures) (position-set (s .args .state .now) (s .args .t) (s .pre) (s .args .next))
 
 pub go-spec : {M : Type 1} → statement M
-go-spec = tie.close (tie.spec put-word-requires returns)
+go-spec = tie.close (tie.spec (λ c κs. search needs) returns)

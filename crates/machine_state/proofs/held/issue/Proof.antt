@@ -14,9 +14,6 @@ use borrow.Author.Needs.{needs}
 use Rattle.machine_state.proofs.held.issue.Statement.{statement}
 use Rattle.machine_state.proofs.held.issue.Tie as tie
 
-take-requires : tie.Need-take-requires
-take-requires c κs = search needs
-
 append-requires : tie.Need-append-requires
 append-requires c κs =
     subst (λ (l : Lane). length (laneIn l .pending) < 64) (sym (c .take .ensures)) (c .before .before .pre .1)
@@ -28,9 +25,6 @@ put-newest-requires c κs =
     let more = c .before .append .ensures .len ∙ ap (λ (l : Lane). suc (l .len)) (own .ensures) in
     let few = pending-count (s .args .state .now) (s .args .t) (s .pre .0) in
     (s .pre .0, more, omega (arith, more, few, s .pre .1))
-
-go-requires : tie.Need-go-requires
-go-requires c κs = search needs
 
 returns : tie.Need-returns
 returns c =
@@ -49,4 +43,4 @@ returns c =
 
 pub issue-spec : {M : Type 1} → statement M
 issue-spec =
-    tie.close (tie.spec take-requires append-requires put-newest-requires go-requires returns)
+    tie.close (tie.spec (λ c κs. search needs) append-requires put-newest-requires (λ c κs. search needs) returns)

@@ -9,27 +9,6 @@ use borrow.Author.Needs.{needs}
 use Rattle.machine_state.proofs.held.put_list.Statement.{statement}
 use Rattle.machine_state.proofs.held.put_list.Tie as tie
 
-mul-c : tie.Need-mul-c
-mul-c c = search needs
-
-index-1-c : tie.Need-index-1-c
-index-1-c c = search needs
-
-index-2-c : tie.Need-index-2-c
-index-2-c c = search needs
-
-mul-v : tie.Need-mul-v
-mul-v c = search needs
-
-index-1-v : tie.Need-index-1-v
-index-1-v c = search needs
-
-index-2-v : tie.Need-index-2-v
-index-2-v c = search needs
-
-put-word-requires : tie.Need-put-word-requires
-put-word-requires c κs = search needs
-
 returns : tie.Need-returns
 returns c =
     let s = c .before .before .before .before in
@@ -42,4 +21,6 @@ returns c =
 
 pub put-list-spec : {M : Type 1} → statement M
 put-list-spec =
-    tie.close (tie.spec mul-c index-1-c index-2-c mul-v index-1-v index-2-v put-word-requires returns)
+    tie.close
+    (tie.spec (λ c. search needs) (λ c. search needs) (λ c. search needs) (λ c. search needs) (λ c. search needs)
+    (λ c. search needs) (λ c κs. search needs) returns)

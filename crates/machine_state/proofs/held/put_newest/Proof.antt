@@ -14,33 +14,6 @@ use borrow.Author.Needs.{needs}
 use Rattle.machine_state.proofs.held.put_newest.Statement.{statement}
 use Rattle.machine_state.proofs.held.put_newest.Tie as tie
 
-cast-n : tie.Need-cast-n
-cast-n c = search needs
-
-sub-n : tie.Need-sub-n
-sub-n c = search needs
-
-mul-put-word : tie.Need-mul-put-word
-mul-put-word c = search needs
-
-array-read-put-word : tie.Need-array-read-put-word
-array-read-put-word c = search needs
-
-put-word-requires : tie.Need-put-word-requires
-put-word-requires c κs = search needs
-
-mul-put-word-2 : tie.Need-mul-put-word-2
-mul-put-word-2 c = search needs
-
-array-read-put-word-2 : tie.Need-array-read-put-word-2
-array-read-put-word-2 c = search needs
-
-put-word-requires-2 : tie.Need-put-word-requires-2
-put-word-requires-2 c κs = search needs
-
-put-word-requires-3 : tie.Need-put-word-requires-3
-put-word-requires-3 c κs = search needs
-
 returns : tie.Need-returns
 returns c =
     let c4 = c .before .before .before .before in
@@ -60,5 +33,6 @@ returns c =
 
 pub put-newest-spec : {M : Type 1} → statement M
 put-newest-spec =
-    tie.close (tie.spec cast-n sub-n mul-put-word array-read-put-word put-word-requires mul-put-word-2
-    array-read-put-word-2 put-word-requires-2 put-word-requires-3 returns)
+    tie.close
+    (tie.spec (λ c. search needs) (λ c. search needs) (λ c. search needs) (λ c. search needs) (λ c κs. search needs)
+    (λ c. search needs) (λ c. search needs) (λ c κs. search needs) (λ c κs. search needs) returns)

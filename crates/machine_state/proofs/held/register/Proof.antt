@@ -8,9 +8,6 @@ use borrow.Author.Needs.{needs}
 use Rattle.machine_state.proofs.held.register.Statement.{statement}
 use Rattle.machine_state.proofs.held.register.Tie as tie
 
-word-at-requires : tie.Need-word-at-requires
-word-at-requires c κs = search needs
-
 returns : tie.Need-returns
 returns c =
     let s = c .before .before in
@@ -24,4 +21,4 @@ returns-2 c =
     sym (List·getD-eq-default (take 8 w) 0 (omega (arith, length-take 8 w)))
 
 pub register-spec : {M : Type 1} → statement M
-register-spec = tie.close (tie.spec word-at-requires returns returns-2)
+register-spec = tie.close (tie.spec (λ c κs. search needs) returns returns-2)

@@ -5,9 +5,6 @@ use borrow.Author.Needs.{needs}
 use Rattle.machine_state.proofs.held.set_register.Statement.{statement}
 use Rattle.machine_state.proofs.held.set_register.Tie as tie
 
-put-word-requires : tie.Need-put-word-requires
-put-word-requires c κs = search needs
-
 returns : tie.Need-returns
 returns c =
     let s = c .before .before .before in
@@ -21,4 +18,4 @@ returns-2 c =
     register-past (s .args .state .now) (s .args .t) (s .pre) (s .args .a) (s .args .value) (c .if1 .left)
 
 pub set-register-spec : {M : Type 1} → statement M
-set-register-spec = tie.close (tie.spec put-word-requires returns returns-2)
+set-register-spec = tie.close (tie.spec (λ c κs. search needs) returns returns-2)

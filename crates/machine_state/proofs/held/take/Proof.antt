@@ -8,33 +8,6 @@ use borrow.Author.Needs.{needs}
 use Rattle.machine_state.proofs.held.take.Statement.{statement}
 use Rattle.machine_state.proofs.held.take.Tie as tie
 
-registers-requires : tie.Need-registers-requires
-registers-requires c κs = search needs
-
-mul-c : tie.Need-mul-c
-mul-c c = search needs
-
-index-1-c : tie.Need-index-1-c
-index-1-c c = search needs
-
-index-2-c : tie.Need-index-2-c
-index-2-c c = search needs
-
-mul-v : tie.Need-mul-v
-mul-v c = search needs
-
-index-1-v : tie.Need-index-1-v
-index-1-v c = search needs
-
-index-2-v : tie.Need-index-2-v
-index-2-v c = search needs
-
-word-at-requires : tie.Need-word-at-requires
-word-at-requires c κs = search needs
-
-word-at-requires-2 : tie.Need-word-at-requires-2
-word-at-requires-2 c κs = search needs
-
 returns : tie.Need-returns
 returns c =
     let c4 = c .before .before .before .before in
@@ -53,5 +26,6 @@ returns c =
 
 pub take-spec : {M : Type 1} → statement M
 take-spec =
-    tie.close (tie.spec registers-requires mul-c index-1-c index-2-c mul-v index-1-v index-2-v
-    word-at-requires word-at-requires-2 returns)
+    tie.close
+    (tie.spec (λ c κs. search needs) (λ c. search needs) (λ c. search needs) (λ c. search needs) (λ c. search needs)
+    (λ c. search needs) (λ c. search needs) (λ c κs. search needs) (λ c κs. search needs) returns)

@@ -6,12 +6,6 @@ use borrow.Author.Needs.{needs}
 use Rattle.machine_state.proofs.held.write_register.Statement.{statement}
 use Rattle.machine_state.proofs.held.write_register.Tie as tie
 
-set-register-requires : tie.Need-set-register-requires
-set-register-requires c κs = search needs
-
-go-requires : tie.Need-go-requires
-go-requires c κs = search needs
-
 returns : tie.Need-returns
 returns c =
     let one = c .before .before .set-register .ensures in
@@ -19,4 +13,4 @@ returns c =
     (c .go .ensures))
 
 pub write-register-spec : {M : Type 1} → statement M
-write-register-spec = tie.close (tie.spec set-register-requires go-requires returns)
+write-register-spec = tie.close (tie.spec (λ c κs. search needs) (λ c κs. search needs) returns)

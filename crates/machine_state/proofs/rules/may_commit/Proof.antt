@@ -19,9 +19,6 @@ returns c =
     rw at-start (oldest-may (a .machine) (flags (a .volatile .now))
     (getD (laneOf (a .state .now) (a .t) .pending) 0 noEntry))
 
-enum-told : tie.Need-enum-told
-enum-told c = search needs
-
 word-at-requires : tie.Need-word-at-requires
 word-at-requires c κs =
     let s = c .before .before .before .before in
@@ -34,9 +31,6 @@ is-sync-requires c κs = search needs
 
 has-older-requires : tie.Need-has-older-requires
 has-older-requires c κs = search needs
-
-enum-known-machine : tie.Need-enum-known-machine
-enum-known-machine c = search needs
 
 returns-2 : tie.Need-returns-2
 returns-2 c =
@@ -73,5 +67,6 @@ returns-4 c =
 
 pub may-commit-spec : {M : Type 1} → statement M
 may-commit-spec =
-    tie.close (tie.spec returns enum-told word-at-requires is-sync-requires has-older-requires enum-known-machine
+    tie.close
+    (tie.spec returns (λ c. search needs) word-at-requires is-sync-requires has-older-requires (λ c. search needs)
     returns-2 returns-3 returns-4)

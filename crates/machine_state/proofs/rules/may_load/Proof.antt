@@ -5,17 +5,11 @@ use borrow.Author.Needs.{needs}
 use Rattle.machine_state.proofs.rules.may_load.Statement.{statement}
 use Rattle.machine_state.proofs.rules.may_load.Tie as tie
 
-enum-told : tie.Need-enum-told
-enum-told c = search needs
-
 is-volatile-requires : tie.Need-is-volatile-requires
 is-volatile-requires c κs = search needs
 
 has-sync-requires : tie.Need-has-sync-requires
 has-sync-requires c κs = search needs
-
-enum-told-2 : tie.Need-enum-told-2
-enum-told-2 c = search needs
 
 returns : tie.Need-returns
 returns c =
@@ -35,5 +29,6 @@ returns-3 c = search needs
 
 pub may-load-spec : {M : Type 1} → statement M
 may-load-spec =
-    tie.close (tie.spec enum-told is-volatile-requires has-sync-requires enum-told-2 returns returns-2
+    tie.close
+    (tie.spec (λ c. search needs) is-volatile-requires has-sync-requires (λ c. search needs) returns returns-2
     returns-3)

@@ -8,14 +8,8 @@ use borrow.Author.Needs.{needs}
 use Rattle.machine_state.proofs.rules.may_lock.Statement.{statement}
 use Rattle.machine_state.proofs.rules.may_lock.Tie as tie
 
-enum-told : tie.Need-enum-told
-enum-told c = search needs
-
 has-sync-requires : tie.Need-has-sync-requires
 has-sync-requires c κs = search needs
-
-enum-told-2 : tie.Need-enum-told-2
-enum-told-2 c = search needs
 
 count-requires : tie.Need-count-requires
 count-requires c κs = search needs
@@ -31,4 +25,4 @@ returns-2 c =
 
 pub may-lock-spec : {M : Type 1} → statement M
 may-lock-spec =
-    tie.close (tie.spec enum-told has-sync-requires enum-told-2 count-requires returns returns-2)
+    tie.close (tie.spec (λ c. search needs) has-sync-requires (λ c. search needs) count-requires returns returns-2)

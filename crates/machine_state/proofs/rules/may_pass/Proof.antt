@@ -7,24 +7,6 @@ use borrow.Author.Needs.{needs}
 use Rattle.machine_state.proofs.rules.may_pass.Statement.{statement}
 use Rattle.machine_state.proofs.rules.may_pass.Tie as tie
 
-enum-told : tie.Need-enum-told
-enum-told c = search needs
-
-enum-told-2 : tie.Need-enum-told-2
-enum-told-2 c = search needs
-
-enum-told-3 : tie.Need-enum-told-3
-enum-told-3 c = search needs
-
-enum-told-4 : tie.Need-enum-told-4
-enum-told-4 c = search needs
-
-enum-told-5 : tie.Need-enum-told-5
-enum-told-5 c = search needs
-
-enum-told-6 : tie.Need-enum-told-6
-enum-told-6 c = search needs
-
 count-requires : tie.Need-count-requires
 count-requires c κs = search needs
 
@@ -48,5 +30,6 @@ returns-5 c =
 
 pub may-pass-spec : {M : Type 1} → statement M
 may-pass-spec =
-    tie.close (tie.spec enum-told enum-told-2 enum-told-3 enum-told-4 enum-told-5 enum-told-6 count-requires
-    returns returns-2 returns-3 returns-4 returns-5)
+    tie.close
+    (tie.spec (λ c. search needs) (λ c. search needs) (λ c. search needs) (λ c. search needs) (λ c. search needs)
+    (λ c. search needs) count-requires returns returns-2 returns-3 returns-4 returns-5)

@@ -8,9 +8,6 @@ use borrow.Author.Needs.{needs}
 use Rattle.machine_state.proofs.rules.sees.Statement.{statement}
 use Rattle.machine_state.proofs.rules.sees.Tie as tie
 
-enum-told : tie.Need-enum-told
-enum-told c = search needs
-
 is-volatile-requires : tie.Need-is-volatile-requires
 is-volatile-requires c κs = search needs
 
@@ -19,9 +16,6 @@ take-requires c κs = search needs
 
 newest-requires : tie.Need-newest-requires
 newest-requires c κs = search needs
-
-enum-told-2 : tie.Need-enum-told-2
-enum-told-2 c = search needs
 
 take-requires-2 : tie.Need-take-requires-2
 take-requires-2 c κs = search needs
@@ -51,5 +45,6 @@ returns-3 c =
 
 pub sees-spec : {M : Type 1} → statement M
 sees-spec =
-    tie.close (tie.spec enum-told is-volatile-requires take-requires newest-requires enum-told-2
-    take-requires-2 newest-requires-2 returns returns-2 returns-3)
+    tie.close
+    (tie.spec (λ c. search needs) is-volatile-requires take-requires newest-requires (λ c. search needs) take-requires-2
+    newest-requires-2 returns returns-2 returns-3)

@@ -45,9 +45,6 @@ returns c =
     let e = entryOf (a .cell) v in
     sym (found (sameTarget e) (anySame e) refl (λ x r. refl) es (l .i) inside test) ∙ l .inv .1 v
 
-add-i : tie.Need-add-i Inv-loop μ-loop
-add-i c = search needs
-
 loop-less : tie.Need-loop-less Inv-loop μ-loop
 loop-less c = omega arith
 
@@ -78,5 +75,5 @@ returns-2 c =
 
 pub has-older-spec : {M : Type 1} → statement M
 has-older-spec =
-    tie.close (tie.spec Inv-loop μ-loop loop-holds word-at-requires returns add-i loop-less loop-again
-    returns-2)
+    tie.close
+    (tie.spec Inv-loop μ-loop loop-holds word-at-requires returns (λ c. search needs) loop-less loop-again returns-2)

@@ -44,9 +44,6 @@ returns c =
     (c .before .is-sync .ensures) (c .if1 .taken) in
     sym (found (isSync f) (anySync f) refl (λ e r. refl) es (l .i) inside test) ∙ l .inv .1
 
-add-i : tie.Need-add-i Inv-loop μ-loop
-add-i c = search needs
-
 loop-less : tie.Need-loop-less Inv-loop μ-loop
 loop-less c = omega arith
 
@@ -74,5 +71,6 @@ returns-2 c =
 
 pub has-sync-spec : {M : Type 1} → statement M
 has-sync-spec =
-    tie.close (tie.spec Inv-loop μ-loop count-requires loop-holds word-at-requires is-sync-requires returns
-    add-i loop-less loop-again returns-2)
+    tie.close
+    (tie.spec Inv-loop μ-loop count-requires loop-holds word-at-requires is-sync-requires returns (λ c. search needs)
+    loop-less loop-again returns-2)

@@ -1,12 +1,12 @@
 -- `machine_step::access::load` meets its contract.
 use mathlib.Core.Path.{refl, ap, _∙_}
 use lib.ListN.{set}
+use Rattle.laws.proofs.Bools.{denied, granted}
 use Rattle.file_format.specs.declared.accepted.Op.the-variants.{Load}
 use Rattle.machine_spec.specs.Rules.{sees}
 use Rattle.machine_lane.specs.Lanes.{flags}
 use Rattle.machine_state.specs.States.{laneOf}
 use Rattle.machine_lane.proofs.Laws.Lanes.{lane-eq}
-use Rattle.machine_state.proofs.Laws.Rules.{denied, granted}
 use Rattle.machine_state.proofs.Laws.States.{became}
 use Rattle.machine_step.proofs.Laws.Turns.{kept, not-permitted, took-does}
 use borrow.Author.Needs.{needs}

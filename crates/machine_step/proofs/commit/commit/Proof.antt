@@ -4,12 +4,12 @@ use mathlib.Core.Path.{ap, ap₂, sym, subst, _∙_}
 use mathlib.Core.List.{List}
 use native.Mathlib.Omega.{arith}
 use lib.ListN.{length}
+use Rattle.laws.proofs.Bools.{denied, granted}
 use Rattle.machine_spec.specs.Entries.{Entry, without}
 use Rattle.machine_spec.specs.Step.{landed, freed}
 use Rattle.machine_lane.specs.declared.lane.Lane.{Lane}
 use Rattle.machine_lane.specs.Lanes.{entryOf, laneIn, withPending}
 use Rattle.machine_state.specs.States.{stateIn}
-use Rattle.machine_state.proofs.Laws.Rules.{denied, granted}
 use Rattle.machine_state.proofs.Laws.States.{became, shared}
 use Rattle.machine_step.proofs.Laws.Turns.{same-lane}
 use Rattle.machine_step.proofs.Laws.Commits.{commit-past, commit-waits, commit-does}

@@ -5,12 +5,12 @@ use native.Mathlib.Numerals.{add-one}
 use borrow.Author.Tests.{eq-eqb, ne-eqb}
 use lib.Dec.{eqb}
 use lib.ListN.{getD, set}
+use Rattle.laws.proofs.Bools.{denied, granted}
 use Rattle.file_format.specs.declared.accepted.Op.the-variants.{Lock}
 use Rattle.machine_spec.specs.Rules.{mayLock}
 use Rattle.machine_lane.specs.Lanes.{flags, placedAt}
 use Rattle.machine_state.specs.States.{laneOf, stateIn}
 use Rattle.machine_lane.proofs.Laws.Lanes.{lane-eq}
-use Rattle.machine_state.proofs.Laws.Rules.{denied, granted}
 use Rattle.machine_state.proofs.Laws.States.{became, shared}
 use Rattle.machine_step.proofs.Laws.Turns.{not-permitted, took-does, same-lane}
 use borrow.Author.Needs.{needs}
@@ -46,12 +46,6 @@ returns-2 c =
 next-position-requires : tie.Need-next-position-requires
 next-position-requires c κs = search needs
 
-cast-set-lock : tie.Need-cast-set-lock
-cast-set-lock c = search needs
-
-add-set-lock : tie.Need-add-set-lock
-add-set-lock c = search needs
-
 set-lock-requires : tie.Need-set-lock-requires
 set-lock-requires c κs = search needs
 
@@ -77,5 +71,6 @@ returns-3 c =
 
 pub lock-spec : {M : Type 1} → statement M
 lock-spec =
-    tie.close (tie.spec lock-at-requires returns may-lock-requires returns-2 next-position-requires
-    cast-set-lock add-set-lock set-lock-requires go-requires returns-3)
+    tie.close
+    (tie.spec lock-at-requires returns may-lock-requires returns-2 next-position-requires (λ c. search needs)
+    (λ c. search needs) set-lock-requires go-requires returns-3)

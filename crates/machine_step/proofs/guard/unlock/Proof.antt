@@ -15,12 +15,6 @@ use Rattle.machine_step.proofs.guard.unlock.Tie as tie
 lock-at-requires : tie.Need-lock-at-requires
 lock-at-requires c κs = search needs
 
-cast-if1 : tie.Need-cast-if1
-cast-if1 c = search needs
-
-add-if1 : tie.Need-add-if1
-add-if1 c = search needs
-
 returns : tie.Need-returns
 returns c =
     let s = c .before .before .before in
@@ -32,9 +26,6 @@ returns c =
 
 next-position-requires : tie.Need-next-position-requires
 next-position-requires c κs = search needs
-
-add-issue : tie.Need-add-issue
-add-issue c = search needs
 
 issue-requires : tie.Need-issue-requires
 issue-requires c κs = search needs
@@ -53,5 +44,6 @@ returns-2 c =
 
 pub unlock-spec : {M : Type 1} → statement M
 unlock-spec =
-    tie.close (tie.spec lock-at-requires cast-if1 add-if1 returns next-position-requires add-issue
-    issue-requires returns-2)
+    tie.close
+    (tie.spec lock-at-requires (λ c. search needs) (λ c. search needs) returns next-position-requires
+    (λ c. search needs) issue-requires returns-2)

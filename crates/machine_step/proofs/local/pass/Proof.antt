@@ -1,7 +1,7 @@
 -- `machine_step::local::pass` meets its contract.
 use mathlib.Core.Path.{refl}
+use Rattle.laws.proofs.Bools.{denied, granted}
 use Rattle.machine_lane.proofs.Laws.Lanes.{lane-eq}
-use Rattle.machine_state.proofs.Laws.Rules.{denied, granted}
 use Rattle.machine_state.proofs.Laws.States.{became}
 use Rattle.machine_step.proofs.Laws.Turns.{kept, took-wait, took-passes}
 use borrow.Author.Needs.{needs}

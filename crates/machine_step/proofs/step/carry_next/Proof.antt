@@ -26,12 +26,6 @@ returns c =
     made-wait (a .machine) (flags (a .volatile .now)) prog _ (a .t) (at ∙ row-past (a .count) b p (c .if1 .taken))
     (s .pre .0 .lies .sized)
 
-mul-row-at : tie.Need-mul-row-at
-mul-row-at c = search needs
-
-add-row-at : tie.Need-add-row-at
-add-row-at c = search needs
-
 row-at-requires : tie.Need-row-at-requires
 row-at-requires c κs = search needs
 
@@ -63,5 +57,6 @@ returns-2 c =
 
 pub carry-next-spec : {M : Type 1} → statement M
 carry-next-spec =
-    tie.close (tie.spec position-requires wide-requires returns mul-row-at add-row-at row-at-requires
+    tie.close
+    (tie.spec position-requires wide-requires returns (λ c. search needs) (λ c. search needs) row-at-requires
     carry-requires returns-2)

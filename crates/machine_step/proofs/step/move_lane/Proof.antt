@@ -17,9 +17,6 @@ returns c =
     made-as (a .machine) (flags (a .volatile .now)) prog _ (a .t) (c .before .before .if1 .taken)
     (c .carry-next .ensures)
 
-sub-index : tie.Need-sub-index
-sub-index c = search needs
-
 commit-requires : tie.Need-commit-requires
 commit-requires c κs = search needs
 
@@ -32,4 +29,4 @@ returns-2 c =
 
 pub move-lane-spec : {M : Type 1} → statement M
 move-lane-spec =
-    tie.close (tie.spec carry-next-requires returns sub-index commit-requires returns-2)
+    tie.close (tie.spec carry-next-requires returns (λ c. search needs) commit-requires returns-2)

@@ -29,9 +29,6 @@ put-step-requires c κs =
     let room : 0 + length (inTurn text (a .args .n)) ≤ length (a .args .out .now) = omega (arith, a .pre .1) in
     ((omega arith, omega (arith, a .pre .0 .1)), turn-fits text (a .args .n) (l .p) room (omega arith) (l .inv .1) .1)
 
-add-p : tie.Need-add-p Inv-loop μ-loop
-add-p c = search needs
-
 loop-less : tie.Need-loop-less Inv-loop μ-loop
 loop-less c = omega arith
 
@@ -55,13 +52,4 @@ returns c =
 pub write-lane-spec : {M : Type 1} → statement M
 write-lane-spec =
     tie.close
-    (tie.spec
-    Inv-loop
-    μ-loop
-    loop-holds
-    put-step-requires
-    add-p
-    loop-less
-    loop-again
-    same-length
-    returns)
+    (tie.spec Inv-loop μ-loop loop-holds put-step-requires (λ c. search needs) loop-less loop-again same-length returns)

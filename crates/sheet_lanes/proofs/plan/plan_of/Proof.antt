@@ -6,12 +6,6 @@ use borrow.Author.Needs.{needs}
 use Rattle.sheet_lanes.proofs.plan.plan_of.Statement.{statement}
 use Rattle.sheet_lanes.proofs.plan.plan_of.Tie as tie
 
-slice-write-plan : tie.Need-slice-write-plan
-slice-write-plan c = search needs
-
-same-length : tie.Need-same-length
-same-length c = search needs
-
 returns : tie.Need-returns
 returns c =
     let a = c .before .before .before in
@@ -24,9 +18,6 @@ returns c =
 
 place-lane-requires : tie.Need-place-lane-requires
 place-lane-requires c κs = search needs
-
-same-length-2 : tie.Need-same-length-2
-same-length-2 c = search needs
 
 returns-2 : tie.Need-returns-2
 returns-2 c =
@@ -42,4 +33,4 @@ returns-2 c =
 pub plan-of-spec : {M : Type 1} → statement M
 plan-of-spec =
     tie.close
-    (tie.spec slice-write-plan same-length returns place-lane-requires same-length-2 returns-2)
+    (tie.spec (λ c. search needs) (λ c. search needs) returns place-lane-requires (λ c. search needs) returns-2)

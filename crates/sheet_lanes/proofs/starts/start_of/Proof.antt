@@ -6,12 +6,6 @@ use borrow.Author.Needs.{needs}
 use Rattle.sheet_lanes.proofs.starts.start_of.Statement.{statement}
 use Rattle.sheet_lanes.proofs.starts.start_of.Tie as tie
 
-mul-begin-of : tie.Need-mul-begin-of
-mul-begin-of c = search needs
-
-shared-slice-read-begin-of : tie.Need-shared-slice-read-begin-of
-shared-slice-read-begin-of c = search needs
-
 begin-of-requires : tie.Need-begin-of-requires
 begin-of-requires c κs = search needs
 
@@ -24,5 +18,4 @@ returns-2 c =
 
 pub start-of-spec : {M : Type 1} → statement M
 start-of-spec =
-    tie.close
-    (tie.spec mul-begin-of shared-slice-read-begin-of begin-of-requires returns returns-2)
+    tie.close (tie.spec (λ c. search needs) (λ c. search needs) begin-of-requires returns returns-2)

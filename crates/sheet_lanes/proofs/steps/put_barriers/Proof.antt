@@ -70,9 +70,6 @@ put-barrier-requires-4 c κs =
       h .put-barrier3 .ensures .1,
     )
 
-same-length : tie.Need-same-length
-same-length c = search needs
-
 returns : tie.Need-returns
 returns c =
     let e = c .before .before in
@@ -97,14 +94,5 @@ returns c =
 pub put-barriers-spec : {M : Type 1} → statement M
 put-barriers-spec =
     tie.close
-    (tie.spec
-    bit-at-requires
-    put-barrier-requires
-    bit-at-requires-2
-    put-barrier-requires-2
-    bit-at-requires-3
-    put-barrier-requires-3
-    bit-at-requires-4
-    put-barrier-requires-4
-    same-length
-    returns)
+    (tie.spec bit-at-requires put-barrier-requires bit-at-requires-2 put-barrier-requires-2 bit-at-requires-3
+    put-barrier-requires-3 bit-at-requires-4 put-barrier-requires-4 (λ c. search needs) returns)

@@ -3,10 +3,11 @@ use mathlib.Core.Path.{refl, ap, _∙_}
 use native.Mathlib.Omega.{arith}
 use lib.ListN.{take, drop, length-take}
 use lib.Seq.{sets}
+use Rattle.laws.proofs.Bytes.{eight-taken}
 use Rattle.barrier_placement.specs.Plan.{beginning}
 use Rattle.sheet_format.specs.Bytes.{row}
 use Rattle.sheet_lanes.proofs.Laws.Begins.{laid-over}
-use Rattle.sheet_lanes.proofs.Laws.Put.{eight-bytes, own-skip, own-copy}
+use Rattle.sheet_lanes.proofs.Laws.Put.{own-skip, own-copy}
 use borrow.Author.Needs.{needs}
 use Rattle.sheet_lanes.proofs.steps.put_own.Statement.{statement}
 use Rattle.sheet_lanes.proofs.steps.put_own.Tie as tie
@@ -14,38 +15,14 @@ use Rattle.sheet_lanes.proofs.steps.put_own.Tie as tie
 copy-eight-requires : tie.Need-copy-eight-requires
 copy-eight-requires c κs = search needs
 
-shared-slice-read-if1 : tie.Need-shared-slice-read-if1
-shared-slice-read-if1 c = search needs
-
-add-word-at : tie.Need-add-word-at
-add-word-at c = search needs
-
 word-at-requires : tie.Need-word-at-requires
 word-at-requires c κs = search needs
-
-cast-start-of : tie.Need-cast-start-of
-cast-start-of c = search needs
 
 start-of-requires : tie.Need-start-of-requires
 start-of-requires c κs = search needs
 
-add-put-row : tie.Need-add-put-row
-add-put-row c = search needs
-
-shared-slice-read-put-row : tie.Need-shared-slice-read-put-row
-shared-slice-read-put-row c = search needs
-
-add-put-row-2 : tie.Need-add-put-row-2
-add-put-row-2 c = search needs
-
-shared-slice-read-put-row-2 : tie.Need-shared-slice-read-put-row-2
-shared-slice-read-put-row-2 c = search needs
-
 put-row-requires : tie.Need-put-row-requires
 put-row-requires c κs = search needs
-
-same-length : tie.Need-same-length
-same-length c = search needs
 
 returns : tie.Need-returns
 returns c =
@@ -59,38 +36,22 @@ returns c =
     laid-over (a .args .out .now) (a .args .at) (take 8 (drop (a .args .from) rows)) (row 7 _ _ _)
     (omega (arith, length-take 8 (drop (a .args .from) rows))) (omega (arith, a .pre .0))
     (k .copy-eight .ensures
-    ∙ ap (sets (a .args .out .now) (a .args .at)) (eight-bytes rows (a .args .from) (a .pre .1)))
+    ∙ ap (sets (a .args .out .now) (a .args .at)) (eight-taken rows (a .args .from) (a .pre .1)))
     (w .put-row .ensures)
     ∙ ap (sets (a .args .out .now) (a .args .at))
     (own-skip rows (a .args .plan .now) (a .args .from) skip refl refl target)
-
-same-length-2 : tie.Need-same-length-2
-same-length-2 c = search needs
 
 returns-2 : tie.Need-returns-2
 returns-2 c =
     let k = c .before .before .before .before in
     let a = k .before .before .before .before .before in
     k .copy-eight .ensures
-    ∙ ap (sets (a .args .out .now) (a .args .at)) (eight-bytes (a .args .rows .now) (a .args .from) (a .pre .1)
+    ∙ ap (sets (a .args .out .now) (a .args .at)) (eight-taken (a .args .rows .now) (a .args .from) (a .pre .1)
     ∙ own-copy (a .args .rows .now) (a .args .plan .now) (a .args .from) (c .if1 .left))
 
 pub put-own-spec : {M : Type 1} → statement M
 put-own-spec =
     tie.close
-    (tie.spec
-    copy-eight-requires
-    shared-slice-read-if1
-    add-word-at
-    word-at-requires
-    cast-start-of
-    start-of-requires
-    add-put-row
-    shared-slice-read-put-row
-    add-put-row-2
-    shared-slice-read-put-row-2
-    put-row-requires
-    same-length
-    returns
-    same-length-2
-    returns-2)
+    (tie.spec copy-eight-requires (λ c. search needs) (λ c. search needs) word-at-requires (λ c. search needs)
+    start-of-requires (λ c. search needs) (λ c. search needs) (λ c. search needs) (λ c. search needs) put-row-requires
+    (λ c. search needs) returns (λ c. search needs) returns-2)

@@ -7,20 +7,11 @@ use borrow.Author.Needs.{needs}
 use Rattle.sheet_lanes.proofs.steps.put_step.Statement.{statement}
 use Rattle.sheet_lanes.proofs.steps.put_step.Tie as tie
 
-mul-put-barriers : tie.Need-mul-put-barriers
-mul-put-barriers c = search needs
-
-shared-slice-read-put-barriers : tie.Need-shared-slice-read-put-barriers
-shared-slice-read-put-barriers c = search needs
-
 put-barriers-requires : tie.Need-put-barriers-requires
 put-barriers-requires c κs =
     let s = c .before .before .before .before .before in
     let size = step-length (s .args .plan .now) (s .args .rows .now) (s .args .p) (s .pre .0 .0) in
     omega (arith, size, s .pre .1)
-
-mul-put-own : tie.Need-mul-put-own
-mul-put-own c = search needs
 
 put-own-requires : tie.Need-put-own-requires
 put-own-requires c κs =
@@ -37,9 +28,6 @@ add-result c =
     let size = step-length (s .args .plan .now) (s .args .rows .now) (s .args .p) (s .pre .0 .0) in
     omega (arith, size, s .pre .1, s .good, f .put-barriers .ensures .behind)
 
-same-length : tie.Need-same-length
-same-length c = search needs
-
 returns : tie.Need-returns
 returns c =
     let f = c .before .before .before .before .before .before in
@@ -50,12 +38,5 @@ returns c =
 pub put-step-spec : {M : Type 1} → statement M
 put-step-spec =
     tie.close
-    (tie.spec
-    mul-put-barriers
-    shared-slice-read-put-barriers
-    put-barriers-requires
-    mul-put-own
-    put-own-requires
-    add-result
-    same-length
-    returns)
+    (tie.spec (λ c. search needs) (λ c. search needs) put-barriers-requires (λ c. search needs) put-own-requires
+    add-result (λ c. search needs) returns)

@@ -10,12 +10,6 @@ use borrow.Author.Needs.{needs}
 use Rattle.sheet_lanes.proofs.whole.write_lanes.Statement.{statement}
 use Rattle.sheet_lanes.proofs.whole.write_lanes.Tie as tie
 
-array-read-put-lane : tie.Need-array-read-put-lane
-array-read-put-lane c = search needs
-
-array-read-put-lane-2 : tie.Need-array-read-put-lane-2
-array-read-put-lane-2 c = search needs
-
 put-lane-requires : tie.Need-put-lane-requires
 put-lane-requires c κs =
     let s = c .before .before .before .before .before .before .before .before .before in
@@ -30,12 +24,6 @@ put-lane-requires c κs =
       ),
       omega (arith, size, turn-fits text 4 0 (s .pre .1 .1) (omega arith) t0 .1),
     )
-
-array-read-put-lane-3 : tie.Need-array-read-put-lane-3
-array-read-put-lane-3 c = search needs
-
-array-read-put-lane-4 : tie.Need-array-read-put-lane-4
-array-read-put-lane-4 c = search needs
 
 put-lane-requires-2 : tie.Need-put-lane-requires-2
 put-lane-requires-2 c κs =
@@ -54,12 +42,6 @@ put-lane-requires-2 c κs =
       ),
       omega (arith, size, turn-fits text 4 1 (s .pre .1 .1) (omega arith) t1 .1),
     )
-
-array-read-put-lane-5 : tie.Need-array-read-put-lane-5
-array-read-put-lane-5 c = search needs
-
-array-read-put-lane-6 : tie.Need-array-read-put-lane-6
-array-read-put-lane-6 c = search needs
 
 put-lane-requires-3 : tie.Need-put-lane-requires-3
 put-lane-requires-3 c κs =
@@ -80,12 +62,6 @@ put-lane-requires-3 c κs =
       ),
       omega (arith, size, turn-fits text 4 2 (s .pre .1 .1) (omega arith) t2 .1),
     )
-
-array-read-put-lane-7 : tie.Need-array-read-put-lane-7
-array-read-put-lane-7 c = search needs
-
-array-read-put-lane-8 : tie.Need-array-read-put-lane-8
-array-read-put-lane-8 c = search needs
 
 put-lane-requires-4 : tie.Need-put-lane-requires-4
 put-lane-requires-4 c κs =
@@ -109,9 +85,6 @@ put-lane-requires-4 c κs =
       omega (arith, size, turn-fits text 4 3 (s .pre .1 .1) (omega arith) t3 .1),
     )
 
-same-length : tie.Need-same-length
-same-length c = search needs
-
 returns : tie.Need-returns
 returns c =
     let s = c .before .before .before .before .before .before .before .before .before .before .before .before .before
@@ -132,18 +105,6 @@ returns c =
 pub write-lanes-spec : {M : Type 1} → statement M
 write-lanes-spec =
     tie.close
-    (tie.spec
-    array-read-put-lane
-    array-read-put-lane-2
-    put-lane-requires
-    array-read-put-lane-3
-    array-read-put-lane-4
-    put-lane-requires-2
-    array-read-put-lane-5
-    array-read-put-lane-6
-    put-lane-requires-3
-    array-read-put-lane-7
-    array-read-put-lane-8
-    put-lane-requires-4
-    same-length
-    returns)
+    (tie.spec (λ c. search needs) (λ c. search needs) put-lane-requires (λ c. search needs) (λ c. search needs)
+    put-lane-requires-2 (λ c. search needs) (λ c. search needs) put-lane-requires-3 (λ c. search needs)
+    (λ c. search needs) put-lane-requires-4 (λ c. search needs) returns)

@@ -8,21 +8,12 @@ use Rattle.sheet_level1.proofs.lower.lower1.Tie as tie
 lower-short-requires : tie.Need-lower-short-requires
 lower-short-requires c κs = search needs
 
-same-length : tie.Need-same-length
-same-length c = search needs
-
 returns : tie.Need-returns
 returns c = search needs
-
-slice-aggregate-lower-in : tie.Need-slice-aggregate-lower-in
-slice-aggregate-lower-in c = search needs
 
 lower-in-requires : tie.Need-lower-in-requires
 lower-in-requires c κs =
     λ f. omega (arith, few-records _ (f .header))
-
-same-length-2 : tie.Need-same-length-2
-same-length-2 c = search needs
 
 returns-2 : tie.Need-returns-2
 returns-2 c = search needs
@@ -30,11 +21,5 @@ returns-2 c = search needs
 pub lower1-spec : {M : Type 1} → statement M
 lower1-spec =
     tie.close
-    (tie.spec
-    lower-short-requires
-    same-length
-    returns
-    slice-aggregate-lower-in
-    lower-in-requires
-    same-length-2
+    (tie.spec lower-short-requires (λ c. search needs) returns (λ c. search needs) lower-in-requires (λ c. search needs)
     returns-2)

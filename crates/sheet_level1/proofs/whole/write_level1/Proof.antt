@@ -12,23 +12,8 @@ use Rattle.sheet_level1.proofs.whole.write_level1.Tie as tie
 word-at-requires : tie.Need-word-at-requires
 word-at-requires c κs = search needs
 
-cast-mask : tie.Need-cast-mask
-cast-mask c = search needs
-
 parts-of-requires : tie.Need-parts-of-requires
 parts-of-requires c κs = search needs
-
-slice-aggregate-plan-lanes : tie.Need-slice-aggregate-plan-lanes
-slice-aggregate-plan-lanes c = search needs
-
-slice-aggregate-plan-lanes-2 : tie.Need-slice-aggregate-plan-lanes-2
-slice-aggregate-plan-lanes-2 c = search needs
-
-slice-aggregate-plan-lanes-3 : tie.Need-slice-aggregate-plan-lanes-3
-slice-aggregate-plan-lanes-3 c = search needs
-
-slice-aggregate-plan-lanes-4 : tie.Need-slice-aggregate-plan-lanes-4
-slice-aggregate-plan-lanes-4 c = search needs
 
 plan-lanes-requires : tie.Need-plan-lanes-requires
 plan-lanes-requires c κs =
@@ -36,33 +21,6 @@ plan-lanes-requires c κs =
       (chains-short (a .args .s .now) (a .pre .0) (a .pre .1), c .before .before .before .before .parts-of .ensures),
       (omega arith, omega arith, omega arith, omega arith),
     )
-
-array-read-total : tie.Need-array-read-total
-array-read-total c = search needs
-
-array-read-total-2 : tie.Need-array-read-total-2
-array-read-total-2 c = search needs
-
-array-read-total-3 : tie.Need-array-read-total-3
-array-read-total-3 c = search needs
-
-array-read-total-4 : tie.Need-array-read-total-4
-array-read-total-4 c = search needs
-
-add-total : tie.Need-add-total
-add-total c = search needs
-
-add-total-2 : tie.Need-add-total-2
-add-total-2 c = search needs
-
-add-total-3 : tie.Need-add-total-3
-add-total-3 c = search needs
-
-mul-total : tie.Need-mul-total
-mul-total c = search needs
-
-add-total-4 : tie.Need-add-total-4
-add-total-4 c = search needs
 
 returns : tie.Need-returns
 returns c =
@@ -86,32 +44,8 @@ byte-at-requires-3 c κs = search needs
 put-first-requires : tie.Need-put-first-requires
 put-first-requires c κs = search needs
 
-array-read-put-counts : tie.Need-array-read-put-counts
-array-read-put-counts c = search needs
-
-array-read-put-counts-2 : tie.Need-array-read-put-counts-2
-array-read-put-counts-2 c = search needs
-
-array-read-put-counts-3 : tie.Need-array-read-put-counts-3
-array-read-put-counts-3 c = search needs
-
-array-read-put-counts-4 : tie.Need-array-read-put-counts-4
-array-read-put-counts-4 c = search needs
-
 put-counts-requires : tie.Need-put-counts-requires
 put-counts-requires c κs = search needs
-
-slice-aggregate-write-lanes : tie.Need-slice-aggregate-write-lanes
-slice-aggregate-write-lanes c = search needs
-
-slice-aggregate-write-lanes-2 : tie.Need-slice-aggregate-write-lanes-2
-slice-aggregate-write-lanes-2 c = search needs
-
-slice-aggregate-write-lanes-3 : tie.Need-slice-aggregate-write-lanes-3
-slice-aggregate-write-lanes-3 c = search needs
-
-slice-aggregate-write-lanes-4 : tie.Need-slice-aggregate-write-lanes-4
-slice-aggregate-write-lanes-4 c = search needs
 
 write-lanes-requires : tie.Need-write-lanes-requires
 write-lanes-requires c κs =
@@ -135,9 +69,6 @@ write-lanes-requires c κs =
         omega (arith, size, room, fits, first, counts),
       ),
     )
-
-same-length : tie.Need-same-length
-same-length c = search needs
 
 returns-2 : tie.Need-returns-2
 returns-2 c =
@@ -167,38 +98,10 @@ returns-2 c =
 pub write-level1-spec : {M : Type 1} → statement M
 write-level1-spec =
     tie.close
-    (tie.spec
-    word-at-requires
-    cast-mask
-    parts-of-requires
-    slice-aggregate-plan-lanes
-    slice-aggregate-plan-lanes-2
-    slice-aggregate-plan-lanes-3
-    slice-aggregate-plan-lanes-4
-    plan-lanes-requires
-    array-read-total
-    array-read-total-2
-    array-read-total-3
-    array-read-total-4
-    add-total
-    add-total-2
-    add-total-3
-    mul-total
-    add-total-4
-    returns
-    byte-at-requires
-    byte-at-requires-2
-    byte-at-requires-3
-    put-first-requires
-    array-read-put-counts
-    array-read-put-counts-2
-    array-read-put-counts-3
-    array-read-put-counts-4
-    put-counts-requires
-    slice-aggregate-write-lanes
-    slice-aggregate-write-lanes-2
-    slice-aggregate-write-lanes-3
-    slice-aggregate-write-lanes-4
-    write-lanes-requires
-    same-length
-    returns-2)
+    (tie.spec word-at-requires (λ c. search needs) parts-of-requires (λ c. search needs) (λ c. search needs)
+    (λ c. search needs) (λ c. search needs) plan-lanes-requires (λ c. search needs) (λ c. search needs)
+    (λ c. search needs) (λ c. search needs) (λ c. search needs) (λ c. search needs) (λ c. search needs)
+    (λ c. search needs) (λ c. search needs) returns byte-at-requires byte-at-requires-2 byte-at-requires-3
+    put-first-requires (λ c. search needs) (λ c. search needs) (λ c. search needs) (λ c. search needs)
+    put-counts-requires (λ c. search needs) (λ c. search needs) (λ c. search needs) (λ c. search needs)
+    write-lanes-requires (λ c. search needs) returns-2)

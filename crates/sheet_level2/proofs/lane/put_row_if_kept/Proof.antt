@@ -9,9 +9,6 @@ use borrow.Author.Needs.{needs}
 use Rattle.sheet_level2.proofs.lane.put_row_if_kept.Statement.{statement}
 use Rattle.sheet_level2.proofs.lane.put_row_if_kept.Tie as tie
 
-mul-whole-row : tie.Need-mul-whole-row
-mul-whole-row c = search needs
-
 whole-row-requires : tie.Need-whole-row-requires
 whole-row-requires c κs = search needs
 
@@ -33,15 +30,6 @@ one-requires c κs = search needs
 wide-requires : tie.Need-wide-requires
 wide-requires c κs = search needs
 
-mul-result : tie.Need-mul-result
-mul-result c = search needs
-
-add-result : tie.Need-add-result
-add-result c = search needs
-
-same-length : tie.Need-same-length
-same-length c = search needs
-
 returns : tie.Need-returns
 returns c =
     let a = c .before .before .before .before .before .before .before .before .before .before .before
@@ -58,16 +46,5 @@ returns c =
 pub put-row-if-kept-spec : {M : Type 1} → statement M
 put-row-if-kept-spec =
     tie.close
-    (tie.spec
-    mul-whole-row
-    whole-row-requires
-    word-of-requires
-    code-of-requires
-    put-row-requires
-    stays-requires
-    one-requires
-    wide-requires
-    mul-result
-    add-result
-    same-length
-    returns)
+    (tie.spec (λ c. search needs) whole-row-requires word-of-requires code-of-requires put-row-requires stays-requires
+    one-requires wide-requires (λ c. search needs) (λ c. search needs) (λ c. search needs) returns)

@@ -33,9 +33,6 @@ put-row-if-kept-requires c κs =
       ),
     )
 
-add-p : tie.Need-add-p Inv-loop μ-loop
-add-p c = search needs
-
 loop-less : tie.Need-loop-less Inv-loop μ-loop
 loop-less c = omega arith
 
@@ -46,9 +43,6 @@ loop-again c =
 
 same-length : tie.Need-same-length Inv-loop μ-loop
 same-length c = c .before .loop .inv .1 .same
-
-same-length-2 : tie.Need-same-length-2 Inv-loop μ-loop
-same-length-2 c = search needs
 
 returns : tie.Need-returns Inv-loop μ-loop
 returns c =
@@ -61,15 +55,5 @@ returns c =
 pub relower-lane-spec : {M : Type 1} → statement M
 relower-lane-spec =
     tie.close
-    (tie.spec
-    Inv-loop
-    μ-loop
-    find-positions-requires
-    loop-holds
-    put-row-if-kept-requires
-    add-p
-    loop-less
-    loop-again
-    same-length
-    same-length-2
-    returns)
+    (tie.spec Inv-loop μ-loop find-positions-requires loop-holds put-row-if-kept-requires (λ c. search needs) loop-less
+    loop-again same-length (λ c. search needs) returns)

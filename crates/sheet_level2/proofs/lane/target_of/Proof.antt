@@ -8,14 +8,8 @@ use Rattle.sheet_level2.proofs.lane.target_of.Tie as tie
 least-requires : tie.Need-least-requires
 least-requires c κs = search needs
 
-mul-result : tie.Need-mul-result
-mul-result c = search needs
-
-shared-slice-read-result : tie.Need-shared-slice-read-result
-shared-slice-read-result c = search needs
-
 returns : tie.Need-returns
 returns c = ap (λ i. getD (c .before .before .before .args .new .now) i 0) (c .before .least .ensures)
 
 pub target-of-spec : {M : Type 1} → statement M
-target-of-spec = tie.close (tie.spec least-requires mul-result shared-slice-read-result returns)
+target-of-spec = tie.close (tie.spec least-requires (λ c. search needs) (λ c. search needs) returns)

@@ -6,12 +6,6 @@ use borrow.Author.Needs.{needs}
 use Rattle.sheet_level2.proofs.lower.or_large.Statement.{statement}
 use Rattle.sheet_level2.proofs.lower.or_large.Tie as tie
 
-enum-known-answer : tie.Need-enum-known-answer
-enum-known-answer c = search needs
-
-enum-known-answer-2 : tie.Need-enum-known-answer-2
-enum-known-answer-2 c = search needs
-
 through-large-requires : tie.Need-through-large-requires
 through-large-requires c κs = search needs
 
@@ -19,9 +13,6 @@ returns : tie.Need-returns
 returns c = λ own before p.
     let a = c .before .before .before .before .before .args in
     through-wrote (a .file .now) own before ((λ i. (sym (c .before .answer .given .1) i, a .out .now)) ∙ p)
-
-same-length : tie.Need-same-length
-same-length c = search needs
 
 returns-2 : tie.Need-returns-2
 returns-2 c = λ own before p.
@@ -43,11 +34,5 @@ returns-3 c = λ own before p.
 pub or-large-spec : {M : Type 1} → statement M
 or-large-spec =
     tie.close
-    (tie.spec
-    enum-known-answer
-    enum-known-answer-2
-    through-large-requires
-    returns
-    same-length
-    returns-2
+    (tie.spec (λ c. search needs) (λ c. search needs) through-large-requires returns (λ c. search needs) returns-2
     returns-3)

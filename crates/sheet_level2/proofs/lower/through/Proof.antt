@@ -11,12 +11,6 @@ use Rattle.sheet_level2.proofs.lower.through.Tie as tie
 lower1-requires : tie.Need-lower1-requires
 lower1-requires c κs = search needs
 
-enum-known-answer : tie.Need-enum-known-answer
-enum-known-answer c = search needs
-
-enum-told : tie.Need-enum-told
-enum-told c = search needs
-
 relower-requires : tie.Need-relower-requires
 relower-requires c κs =
     let told = c .before .before .before in
@@ -27,24 +21,12 @@ relower-requires c κs =
     ∙ l .ensures) in
     (ok, λ t h. a .pre _ (ok .few t h) (omega (arith, ok .inside t h, begins (l .last .1 .0) t h)))
 
-same-length : tie.Need-same-length
-same-length c = search needs
-
 returns : tie.Need-returns
 returns c =
     let l = c .before .before .before .before .before .lower1 in
     let a = c .before .before .before .before .before .before .before .before .before .before .before .args in
     through-first (a .file .now) (a .first .now) (a .out .now)
     ((λ i. (sym (c .before .answer .given .1) i, l .last .1 .0)) ∙ l .ensures)
-
-same-length-2 : tie.Need-same-length-2
-same-length-2 c = search needs
-
-same-length-3 : tie.Need-same-length-3
-same-length-3 c = search needs
-
-same-length-4 : tie.Need-same-length-4
-same-length-4 c = search needs
 
 returns-2 : tie.Need-returns-2
 returns-2 c =
@@ -60,14 +42,5 @@ returns-2 c =
 pub through-spec : {M : Type 1} → statement M
 through-spec =
     tie.close
-    (tie.spec
-    lower1-requires
-    enum-known-answer
-    enum-told
-    relower-requires
-    same-length
-    returns
-    same-length-2
-    same-length-3
-    same-length-4
-    returns-2)
+    (tie.spec lower1-requires (λ c. search needs) (λ c. search needs) relower-requires (λ c. search needs) returns
+    (λ c. search needs) (λ c. search needs) (λ c. search needs) returns-2)

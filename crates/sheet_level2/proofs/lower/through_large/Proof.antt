@@ -6,17 +6,8 @@ use borrow.Author.Needs.{needs}
 use Rattle.sheet_level2.proofs.lower.through_large.Statement.{statement}
 use Rattle.sheet_level2.proofs.lower.through_large.Tie as tie
 
-slice-aggregate-through : tie.Need-slice-aggregate-through
-slice-aggregate-through c = search needs
-
-slice-aggregate-through-2 : tie.Need-slice-aggregate-through-2
-slice-aggregate-through-2 c = search needs
-
 through-requires : tie.Need-through-requires
 through-requires c κs = search needs
-
-same-length : tie.Need-same-length
-same-length c = search needs
 
 returns : tie.Need-returns
 returns c =
@@ -25,10 +16,4 @@ returns c =
 
 pub through-large-spec : {M : Type 1} → statement M
 through-large-spec =
-    tie.close
-    (tie.spec
-    slice-aggregate-through
-    slice-aggregate-through-2
-    through-requires
-    same-length
-    returns)
+    tie.close (tie.spec (λ c. search needs) (λ c. search needs) through-requires (λ c. search needs) returns)

@@ -3,20 +3,11 @@ use borrow.Author.Needs.{needs}
 use Rattle.sheet_level2.proofs.lower.through_small.Statement.{statement}
 use Rattle.sheet_level2.proofs.lower.through_small.Tie as tie
 
-slice-aggregate-through : tie.Need-slice-aggregate-through
-slice-aggregate-through c = search needs
-
-slice-aggregate-through-2 : tie.Need-slice-aggregate-through-2
-slice-aggregate-through-2 c = search needs
-
 through-requires : tie.Need-through-requires
 through-requires c κs = search needs
 
 or-large-requires : tie.Need-or-large-requires
 or-large-requires c κs = search needs
-
-same-length : tie.Need-same-length
-same-length c = search needs
 
 returns : tie.Need-returns
 returns c =
@@ -28,10 +19,4 @@ returns c =
 pub through-small-spec : {M : Type 1} → statement M
 through-small-spec =
     tie.close
-    (tie.spec
-    slice-aggregate-through
-    slice-aggregate-through-2
-    through-requires
-    or-large-requires
-    same-length
-    returns)
+    (tie.spec (λ c. search needs) (λ c. search needs) through-requires or-large-requires (λ c. search needs) returns)

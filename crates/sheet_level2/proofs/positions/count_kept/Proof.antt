@@ -4,7 +4,7 @@ use mathlib.Core.Path.{_≡_, refl, sym, ap, ap₂, _∙_}
 use mathlib.Core.Bool.{cond}
 use lib.ListN.{length}
 use native.Mathlib.Omega.{arith}
-use Rattle.sheet_format.specs.Levels.{level2}
+use Rattle.sheet_format.specs.declared.Level.the-variants.{Level2}
 use Rattle.sheet_format.specs.Read.{readRows}
 use Rattle.sheet_format.specs.Relower.{newPosition}
 use Rattle.sheet_level2.proofs.Laws.Positions.{keptTo, kept-few, kept-length}
@@ -13,19 +13,13 @@ use Rattle.sheet_level2.proofs.positions.count_kept.Statement.{statemen
 use Rattle.sheet_level2.proofs.positions.count_kept.Tie as tie
 
 abbrev Inv-loop : tie.InvT-loop
-Inv-loop rows n kept₀ p₀ kept p = (p ≤ n) × (kept ≡ length (keptTo (newPosition level2 (readRows n rows)) rows p))
+Inv-loop rows n kept₀ p₀ kept p = (p ≤ n) × (kept ≡ length (keptTo (newPosition Level2 (readRows n rows)) rows p))
 
 abbrev μ-loop : tie.MeasureT-loop
 μ-loop rows n kept₀ p₀ kept p = n - p
 
 loop-holds : tie.Need-loop-holds Inv-loop μ-loop
 loop-holds c = (omega arith, refl)
-
-mul-stays : tie.Need-mul-stays Inv-loop μ-loop
-mul-stays c = search needs
-
-shared-slice-read-stays : tie.Need-shared-slice-read-stays Inv-loop μ-loop
-shared-slice-read-stays c = search needs
 
 stays-requires : tie.Need-stays-requires Inv-loop μ-loop
 stays-requires c κs = search needs
@@ -37,11 +31,8 @@ add-kept : tie.Need-add-kept Inv-loop μ-loop
 add-kept c =
     let l = c .before .before .before .before .loop in
     let a = c .before .before .before .before .before .before .args in
-    let few = kept-few (newPosition level2 (readRows (a .n) (a .rows .now))) (a .rows .now) (l .p) in
+    let few = kept-few (newPosition Level2 (readRows (a .n) (a .rows .now))) (a .rows .now) (l .p) in
     omega (arith, l .inv .1, few, c .one .ensures .1)
-
-add-p : tie.Need-add-p Inv-loop μ-loop
-add-p c = search needs
 
 loop-less : tie.Need-loop-less Inv-loop μ-loop
 loop-less c = omega arith
@@ -50,7 +41,7 @@ loop-again : tie.Need-loop-again Inv-loop μ-loop
 loop-again c =
     let l = c .before .before .before .before .loop in
     let a = c .before .before .before .before .before .before .args in
-    let r = newPosition level2 (readRows (a .n) (a .rows .now)) in
+    let r = newPosition Level2 (readRows (a .n) (a .rows .now)) in
     let one : suc (l .p) ≡ l .p + 1 = omega arith in (
       omega arith,
       ap₂ (λ m n. m + n) (l .inv .1) (c .one .ensures .0 ∙ ap (λ b. cond b 1 0) (c .before .stays .ensures))
@@ -62,7 +53,7 @@ cast-result : tie.Need-cast-result Inv-loop μ-loop
 cast-result c =
     let l = c .before .loop in
     let a = c .before .before .before .args in
-    let few = kept-few (newPosition level2 (readRows (a .n) (a .rows .now))) (a .rows .now) (l .p) in
+    let few = kept-few (newPosition Level2 (readRows (a .n) (a .rows .now))) (a .rows .now) (l .p) in
     omega (arith, l .inv .1, few)
 
 returns : tie.Need-returns Inv-loop μ-loop
@@ -71,22 +62,10 @@ returns c =
     let a = c .before .before .before .args in
     let last : l .p ≡ a .n = omega arith in
     l .inv .1
-    ∙ ap (λ q. length (keptTo (newPosition level2 (readRows (a .n) (a .rows .now))) (a .rows .now) q)) last
+    ∙ ap (λ q. length (keptTo (newPosition Level2 (readRows (a .n) (a .rows .now))) (a .rows .now) q)) last
 
 pub count-kept-spec : {M : Type 1} → statement M
 count-kept-spec =
     tie.close
-    (tie.spec
-    Inv-loop
-    μ-loop
-    loop-holds
-    mul-stays
-    shared-slice-read-stays
-    stays-requires
-    one-requires
-    add-kept
-    add-p
-    loop-less
-    loop-again
-    cast-result
-    returns)
+    (tie.spec Inv-loop μ-loop loop-holds (λ c. search needs) (λ c. search needs) stays-requires one-requires add-kept
+    (λ c. search needs) loop-less loop-again cast-result returns)

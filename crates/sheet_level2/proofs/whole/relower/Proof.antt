@@ -21,18 +21,6 @@ parts-of-requires c κs = search needs
 count-lanes-requires : tie.Need-count-lanes-requires
 count-lanes-requires c κs = search needs
 
-array-read-size : tie.Need-array-read-size
-array-read-size c = search needs
-
-array-read-size-2 : tie.Need-array-read-size-2
-array-read-size-2 c = search needs
-
-array-read-size-3 : tie.Need-array-read-size-3
-array-read-size-3 c = search needs
-
-array-read-size-4 : tie.Need-array-read-size-4
-array-read-size-4 c = search needs
-
 add-size : tie.Need-add-size
 add-size c =
     let k = c .count-lanes .ensures .few in
@@ -76,18 +64,6 @@ byte-at-requires-3 c κs = search needs
 put-first-requires : tie.Need-put-first-requires
 put-first-requires c κs = search needs
 
-array-read-put-counts : tie.Need-array-read-put-counts
-array-read-put-counts c = search needs
-
-array-read-put-counts-2 : tie.Need-array-read-put-counts-2
-array-read-put-counts-2 c = search needs
-
-array-read-put-counts-3 : tie.Need-array-read-put-counts-3
-array-read-put-counts-3 c = search needs
-
-array-read-put-counts-4 : tie.Need-array-read-put-counts-4
-array-read-put-counts-4 c = search needs
-
 put-counts-requires : tie.Need-put-counts-requires
 put-counts-requires c κs = search needs
 
@@ -121,12 +97,6 @@ relower-lanes-requires c κs =
       ),
     )
 
-same-length : tie.Need-same-length
-same-length c = search needs
-
-same-length-2 : tie.Need-same-length-2
-same-length-2 c = search needs
-
 returns-2 : tie.Need-returns-2
 returns-2 c =
     let a = c .before .before .before .before .before .before .before .before .before .before .before
@@ -155,29 +125,7 @@ returns-2 c =
 pub relower-spec : {M : Type 1} → statement M
 relower-spec =
     tie.close
-    (tie.spec
-    parts-of-requires
-    count-lanes-requires
-    array-read-size
-    array-read-size-2
-    array-read-size-3
-    array-read-size-4
-    add-size
-    add-size-2
-    add-size-3
-    mul-size
-    add-size-4
-    returns
-    byte-at-requires
-    byte-at-requires-2
-    byte-at-requires-3
-    put-first-requires
-    array-read-put-counts
-    array-read-put-counts-2
-    array-read-put-counts-3
-    array-read-put-counts-4
-    put-counts-requires
-    relower-lanes-requires
-    same-length
-    same-length-2
-    returns-2)
+    (tie.spec parts-of-requires count-lanes-requires (λ c. search needs) (λ c. search needs) (λ c. search needs)
+    (λ c. search needs) add-size add-size-2 add-size-3 mul-size add-size-4 returns byte-at-requires byte-at-requires-2
+    byte-at-requires-3 put-first-requires (λ c. search needs) (λ c. search needs) (λ c. search needs)
+    (λ c. search needs) put-counts-requires relower-lanes-requires (λ c. search needs) (λ c. search needs) returns-2)

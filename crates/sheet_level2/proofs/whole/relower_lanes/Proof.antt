@@ -4,11 +4,11 @@ use mathlib.Core.Path.{_≡_, refl, ap, _∙_}
 use lib.ListN.{length, getD}
 use lib.Seq.{sets}
 use native.Mathlib.Omega.{arith}
-use Rattle.sheet_format.specs.Levels.{level2}
+use Rattle.laws.proofs.Parts.{part-length}
+use Rattle.sheet_format.specs.declared.Level.the-variants.{Level2}
 use Rattle.sheet_format.specs.Bytes.{laneBytes}
 use Rattle.sheet_format.specs.Put.{Puts, inTurn}
 use Rattle.sheet_format.specs.Relower.{relower}
-use Rattle.sheet_format.proofs.Laws.Part.{part-length}
 use Rattle.sheet_format.proofs.Laws.Put.{puts-length}
 use Rattle.sheet_format.proofs.Laws.Turn.{turn-none}
 use Rattle.sheet_level2.specs.Readable.{rowsAt2}
@@ -27,12 +27,6 @@ abbrev μ-loop : tie.MeasureT-loop
 
 loop-holds : tie.Need-loop-holds Inv-loop μ-loop
 loop-holds c = (omega arith, turn-none _, refl)
-
-mul-first : tie.Need-mul-first Inv-loop μ-loop
-mul-first c = search needs
-
-array-read-first : tie.Need-array-read-first Inv-loop μ-loop
-array-read-first c = search needs
 
 mul-end : tie.Need-mul-end Inv-loop μ-loop
 mul-end c = omega arith
@@ -89,15 +83,6 @@ part-relower-lane-start-2 c =
     let s = a .args .sheet .now in
     omega (arith, part-inside s (a .pre .0 .0) (a .pre .0 .1) (l .t) (omega arith))
 
-part-relower-lane-end-2 : tie.Need-part-relower-lane-end-2 Inv-loop μ-loop
-part-relower-lane-end-2 c = search needs
-
-mul-relower-lane : tie.Need-mul-relower-lane Inv-loop μ-loop
-mul-relower-lane c = search needs
-
-array-read-relower-lane : tie.Need-array-read-relower-lane Inv-loop μ-loop
-array-read-relower-lane c = search needs
-
 relower-lane-requires : tie.Need-relower-lane-requires Inv-loop μ-loop
 relower-lane-requires c κs =
     let a = c .before .before .before .before .before .before .before .before .before .before in
@@ -111,13 +96,10 @@ relower-lane-requires c κs =
       (few, omega (arith, inside, size), omega (arith, fits, l .inv .2)),
       (
         part-proper s (a .pre .0 .0) (a .pre .0 .1) (l .t) (omega arith),
-        ap (λ x. length (laneBytes level2 (relower level2 x))) rows
+        ap (λ x. length (laneBytes Level2 (relower Level2 x))) rows
             ∙ part-size s (a .pre .1 .0) (l .t) (omega arith) (l .inv .1) (a .pre .1 .1),
       ),
     )
-
-add-t : tie.Need-add-t Inv-loop μ-loop
-add-t c = search needs
 
 loop-less : tie.Need-loop-less Inv-loop μ-loop
 loop-less c = omega arith
@@ -129,8 +111,8 @@ loop-again c =
     let l = c .before .before .before .before .before .before .before .before .before .loop in
     let s = a .args .sheet .now in
     let rows = part-rows s (a .pre .0 .0) (a .pre .0 .1) (l .t) (omega arith) in
-    let filled = c .before .before .before .before .relower-lane .ensures ∙ ap (λ x. laneBytes level2
-    (relower level2 x)) rows in
+    let filled = c .before .before .before .before .relower-lane .ensures ∙ ap (λ x. laneBytes Level2
+    (relower Level2 x)) rows in
     (omega arith, lane-put s (a .pre .1 .0) (l .t) (omega arith) (l .inv .1) (a .pre .1 .1) filled, search needs)
 
 same-length : tie.Need-same-length Inv-loop μ-loop
@@ -149,28 +131,7 @@ returns c =
 pub relower-lanes-spec : {M : Type 1} → statement M
 relower-lanes-spec =
     tie.close
-    (tie.spec
-    Inv-loop
-    μ-loop
-    loop-holds
-    mul-first
-    array-read-first
-    mul-end
-    array-read-end
-    mul-end-2
-    add-end
-    sub-relower-lane
-    part-relower-lane-start
-    part-relower-lane-end
-    sub-relower-lane-2
-    part-relower-lane-start-2
-    part-relower-lane-end-2
-    mul-relower-lane
-    array-read-relower-lane
-    relower-lane-requires
-    add-t
-    loop-less
-    loop-again
-    same-length
-    same-length-2
-    returns)
+    (tie.spec Inv-loop μ-loop loop-holds (λ c. search needs) (λ c. search needs) mul-end array-read-end mul-end-2
+    add-end sub-relower-lane part-relower-lane-start part-relower-lane-end sub-relower-lane-2 part-relower-lane-start-2
+    (λ c. search needs) (λ c. search needs) (λ c. search needs) relower-lane-requires (λ c. search needs) loop-less
+    loop-again same-length same-length-2 returns)

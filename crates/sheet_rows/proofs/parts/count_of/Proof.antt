@@ -9,17 +9,8 @@ use Rattle.sheet_rows.proofs.parts.count_of.Tie as tie
 byte-at-requires : tie.Need-byte-at-requires
 byte-at-requires c κs = search needs
 
-mul-word-at : tie.Need-mul-word-at
-mul-word-at c = search needs
-
-add-word-at : tie.Need-add-word-at
-add-word-at c = search needs
-
 word-at-requires : tie.Need-word-at-requires
 word-at-requires c κs = search needs
-
-cast-result : tie.Need-cast-result
-cast-result c = search needs
 
 returns : tie.Need-returns
 returns c =
@@ -37,11 +28,5 @@ returns-2 c =
 pub count-of-spec : {M : Type 1} → statement M
 count-of-spec =
     tie.close
-    (tie.spec
-    byte-at-requires
-    mul-word-at
-    add-word-at
-    word-at-requires
-    cast-result
-    returns
+    (tie.spec byte-at-requires (λ c. search needs) (λ c. search needs) word-at-requires (λ c. search needs) returns
     returns-2)

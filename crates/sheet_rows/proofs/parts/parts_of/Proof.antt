@@ -17,33 +17,6 @@ count-of-requires-3 c κs = search needs
 count-of-requires-4 : tie.Need-count-of-requires-4
 count-of-requires-4 c κs = search needs
 
-mul-t6 : tie.Need-mul-t6
-mul-t6 c = search needs
-
-add-t7 : tie.Need-add-t7
-add-t7 c = search needs
-
-add-t8 : tie.Need-add-t8
-add-t8 c = search needs
-
-mul-t9 : tie.Need-mul-t9
-mul-t9 c = search needs
-
-add-t10 : tie.Need-add-t10
-add-t10 c = search needs
-
-add-t11 : tie.Need-add-t11
-add-t11 c = search needs
-
-add-t12 : tie.Need-add-t12
-add-t12 c = search needs
-
-mul-t13 : tie.Need-mul-t13
-mul-t13 c = search needs
-
-add-t14 : tie.Need-add-t14
-add-t14 c = search needs
-
 returns : tie.Need-returns
 returns c =
     let a = c .before .before .before .count-of .ensures .0 in
@@ -58,18 +31,6 @@ returns c =
 pub parts-of-spec : {M : Type 1} → statement M
 parts-of-spec =
     tie.close
-    (tie.spec
-    count-of-requires
-    count-of-requires-2
-    count-of-requires-3
-    count-of-requires-4
-    mul-t6
-    add-t7
-    add-t8
-    mul-t9
-    add-t10
-    add-t11
-    add-t12
-    mul-t13
-    add-t14
-    returns)
+    (tie.spec count-of-requires count-of-requires-2 count-of-requires-3 count-of-requires-4 (λ c. search needs)
+    (λ c. search needs) (λ c. search needs) (λ c. search needs) (λ c. search needs) (λ c. search needs)
+    (λ c. search needs) (λ c. search needs) (λ c. search needs) returns)

@@ -1,31 +1,20 @@
 -- `sheet_rows::put::put_first` meets its contract.
-use mathlib.Core.Path.{_∙_}
-use mathlib.Core.List.{[], _∷_}
-use Rattle.sheet_format.specs.Put.{laid}
+use native.Mathlib.Omega.{arith}
+use Rattle.sheet_format.proofs.Laws.Put.{puts-on}
+use Rattle.sheet_rows.proofs.Laws.Put.{laid-whole, laid-short}
 use borrow.Author.Needs.{needs}
 use Rattle.sheet_rows.proofs.put.put_first.Statement.{statement}
 use Rattle.sheet_rows.proofs.put.put_first.Tie as tie
 
-low-requires : tie.Need-low-requires
-low-requires c κs = search needs
-
-low-requires-2 : tie.Need-low-requires-2
-low-requires-2 c κs = search needs
-
-put-eight-requires : tie.Need-put-eight-requires
-put-eight-requires c κs = search needs
-
-same-length : tie.Need-same-length
-same-length c = search needs
-
 returns : tie.Need-returns
 returns c =
-    let a = c .before .before .before .before .before .before .before .args in
-    c .before .before .put-eight .ensures
-    ∙ (λ i. laid (a .out .now) 0
-    (a .t ∷ a .ls ∷ a .ks ∷ a .level ∷ c .before .before .before .before .low .ensures i ∷ c .before .before .before
-    .low2 .ensures i ∷ 0 ∷ 0 ∷ []))
+    let w = c .before .before in
+    let f = w .before .before .before .before in
+    laid-whole (f .before .before .if1 .taken) (puts-on (f .put-four .ensures) (w .put-words .ensures))
+
+returns-2 : tie.Need-returns-2
+returns-2 c = laid-short (c .before .before .args .out .now) 0 _ (omega (arith, c .if1 .left))
 
 pub put-first-spec : {M : Type 1} → statement M
 put-first-spec =
-    tie.close (tie.spec low-requires low-requires-2 put-eight-requires same-length returns)
+    tie.close (tie.spec (λ c κs. search needs) (λ c κs. search needs) (λ c. search needs) returns returns-2)

@@ -1,45 +1,26 @@
 -- `sheet_rows::put::put_row` meets its contract.
-use mathlib.Core.Path.{_∙_}
-use mathlib.Core.List.{[], _∷_}
+use mathlib.Core.Path.{sym, _∙_}
 use Rattle.sheet_format.specs.Put.{laid}
+use Rattle.sheet_rows.proofs.Laws.Put.{room, laid-whole}
 use borrow.Author.Needs.{needs}
 use Rattle.sheet_rows.proofs.put.put_row.Statement.{statement}
 use Rattle.sheet_rows.proofs.put.put_row.Tie as tie
 
-low-requires : tie.Need-low-requires
-low-requires c κs = search needs
-
-low-requires-2 : tie.Need-low-requires-2
-low-requires-2 c κs = search needs
-
-low-requires-3 : tie.Need-low-requires-3
-low-requires-3 c κs = search needs
-
-low-requires-4 : tie.Need-low-requires-4
-low-requires-4 c κs = search needs
-
-put-eight-requires : tie.Need-put-eight-requires
-put-eight-requires c κs = search needs
-
-same-length : tie.Need-same-length
-same-length c = search needs
-
 returns : tie.Need-returns
 returns c =
-    let c4 = c .before .before .before .before in
-    let a = c4 .before .before .before .before .before .args in
-    c .before .before .put-eight .ensures
-    ∙ (λ i. laid (a .out .now) (a .at) (a .o ∷ a .a ∷ a .b ∷ 0 ∷ c4 .before .before .low .ensures i
-    ∷ c4 .before .low2 .ensures i ∷ c4 .low3 .ensures i ∷ c .before .before .before .low4 .ensures i ∷ []))
+    let s = c .before .before in
+    let f = s .before .before .before in
+    laid-whole (room (f .before .before .args .at) _ (f .fits2 .ensures) (s .before .before .if1 .taken))
+    (s .store-row .ensures)
+
+returns-2 : tie.Need-returns-2
+unfolding laid
+returns-2 c = rw (sym (c .before .fits2 .ensures) ∙ c .if1 .left)
 
 pub put-row-spec : {M : Type 1} → statement M
 put-row-spec =
     tie.close
-    (tie.spec
-    low-requires
-    low-requires-2
-    low-requires-3
-    low-requires-4
-    put-eight-requires
-    same-length
-    returns)
+    (tie.spec (λ c κs. search needs)
+    (λ c κs. let f = c .before .before in
+    room (f .before .before .args .at) _ (f .fits2 .ensures) (c .before .if1 .taken))
+    (λ c. search needs) returns returns-2)

@@ -8,17 +8,8 @@ use Rattle.sheet_rows.proofs.read.quad_at.Tie as tie
 word-at-requires : tie.Need-word-at-requires
 word-at-requires c κs = search needs
 
-add-word-at : tie.Need-add-word-at
-add-word-at c = search needs
-
 word-at-requires-2 : tie.Need-word-at-requires-2
 word-at-requires-2 c κs = search needs
-
-mul-result : tie.Need-mul-result
-mul-result c = search needs
-
-add-result : tie.Need-add-result
-add-result c = search needs
 
 returns : tie.Need-returns
 returns c = search needs
@@ -29,11 +20,5 @@ returns-2 c = sym (quad-past (c .before .before .args .s .now) (c .before .befor
 pub quad-at-spec : {M : Type 1} → statement M
 quad-at-spec =
     tie.close
-    (tie.spec
-    word-at-requires
-    add-word-at
-    word-at-requires-2
-    mul-result
-    add-result
-    returns
+    (tie.spec word-at-requires (λ c. search needs) word-at-requires-2 (λ c. search needs) (λ c. search needs) returns
     returns-2)

@@ -20,23 +20,11 @@ whole-row-requires c κs =
 returns : tie.Need-returns
 returns c = search needs
 
-shared-slice-read-t8 : tie.Need-shared-slice-read-t8
-shared-slice-read-t8 c = search needs
-
-add-byte-at : tie.Need-add-byte-at
-add-byte-at c = search needs
-
 byte-at-requires : tie.Need-byte-at-requires
 byte-at-requires c κs = search needs
 
-add-byte-at-2 : tie.Need-add-byte-at-2
-add-byte-at-2 c = search needs
-
 byte-at-requires-2 : tie.Need-byte-at-requires-2
 byte-at-requires-2 c κs = search needs
-
-add-quad-at : tie.Need-add-quad-at
-add-quad-at c = search needs
 
 quad-at-requires : tie.Need-quad-at-requires
 quad-at-requires c κs = search needs
@@ -53,16 +41,5 @@ returns-3 c = sym (ap rowIn (drop-of-length-le (c .before .before .before .befor
 pub row-at-spec : {M : Type 1} → statement M
 row-at-spec =
     tie.close
-    (tie.spec
-    fits-requires
-    whole-row-requires
-    returns
-    shared-slice-read-t8
-    add-byte-at
-    byte-at-requires
-    add-byte-at-2
-    byte-at-requires-2
-    add-quad-at
-    quad-at-requires
-    returns-2
-    returns-3)
+    (tie.spec fits-requires whole-row-requires returns (λ c. search needs) (λ c. search needs) byte-at-requires
+    (λ c. search needs) byte-at-requires-2 (λ c. search needs) quad-at-requires returns-2 returns-3)

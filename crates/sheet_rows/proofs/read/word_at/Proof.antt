@@ -12,20 +12,11 @@ byte-at-requires c κs = search needs
 wide-requires : tie.Need-wide-requires
 wide-requires c κs = search needs
 
-add-byte-at : tie.Need-add-byte-at
-add-byte-at c = search needs
-
 byte-at-requires-2 : tie.Need-byte-at-requires-2
 byte-at-requires-2 c κs = search needs
 
 wide-requires-2 : tie.Need-wide-requires-2
 wide-requires-2 c κs = search needs
-
-mul-result : tie.Need-mul-result
-mul-result c = search needs
-
-add-result : tie.Need-add-result
-add-result c = search needs
 
 returns : tie.Need-returns
 returns c = search needs
@@ -40,13 +31,5 @@ returns-2 c = (
 pub word-at-spec : {M : Type 1} → statement M
 word-at-spec =
     tie.close
-    (tie.spec
-    byte-at-requires
-    wide-requires
-    add-byte-at
-    byte-at-requires-2
-    wide-requires-2
-    mul-result
-    add-result
-    returns
-    returns-2)
+    (tie.spec byte-at-requires wide-requires (λ c. search needs) byte-at-requires-2 wide-requires-2 (λ c. search needs)
+    (λ c. search needs) returns returns-2)

@@ -27,15 +27,6 @@ put-requires c κs =
       pair-few (s .args .lane) (s .args .position) (omega arith) (omega arith),
     )
 
-cast-put-instr : tie.Need-cast-put-instr
-cast-put-instr c = search needs
-
-cast-put-instr-2 : tie.Need-cast-put-instr-2
-cast-put-instr-2 c = search needs
-
-cast-put-instr-3 : tie.Need-cast-put-instr-3
-cast-put-instr-3 c = search needs
-
 put-instr-requires : tie.Need-put-instr-requires
 put-instr-requires c κs =
     let q = c .before .before .before .before .before .before in
@@ -67,9 +58,6 @@ put-requires-2 c κs =
       instr-few (w .code) (w .a) (w .b) (w .word) (omega (arith, k)) (omega (arith, k)) (omega (arith, k)),
     )
 
-same-length : tie.Need-same-length
-same-length c = search needs
-
 returns : tie.Need-returns
 unfolding lineOf
 returns c =
@@ -92,14 +80,5 @@ returns c =
 pub put-line-spec : {M : Type 1} → statement M
 put-line-spec =
     tie.close
-    (tie.spec
-    row-at-requires
-    put-pair-requires
-    put-requires
-    cast-put-instr
-    cast-put-instr-2
-    cast-put-instr-3
-    put-instr-requires
-    put-requires-2
-    same-length
-    returns)
+    (tie.spec row-at-requires put-pair-requires put-requires (λ c. search needs) (λ c. search needs) (λ c. search needs)
+    put-instr-requires put-requires-2 (λ c. search needs) returns)

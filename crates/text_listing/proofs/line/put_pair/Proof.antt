@@ -29,9 +29,6 @@ put-decimal-requires-2 c κs =
           .before .before .pre,
     )
 
-same-length : tie.Need-same-length
-same-length c = search needs
-
 returns : tie.Need-returns
 returns c =
     let c4 = c .before .before .before .before in
@@ -41,5 +38,4 @@ returns c =
 
 pub put-pair-spec : {M : Type 1} → statement M
 put-pair-spec =
-    tie.close
-    (tie.spec put-decimal-requires put-requires put-decimal-requires-2 same-length returns)
+    tie.close (tie.spec put-decimal-requires put-requires put-decimal-requires-2 (λ c. search needs) returns)

@@ -10,13 +10,10 @@ put-text-requires c κs = search needs
 put-pair-requires : tie.Need-put-pair-requires
 put-pair-requires c κs = search needs
 
-same-length : tie.Need-same-length
-same-length c = search needs
-
 returns : tie.Need-returns
 returns c =
     let c4 = c .before .before .before .before in
     puts-on (c4 .before .before .put-text .ensures) (c .before .before .put-pair .ensures)
 
 pub put-two-spec : {M : Type 1} → statement M
-put-two-spec = tie.close (tie.spec put-text-requires put-pair-requires same-length returns)
+put-two-spec = tie.close (tie.spec put-text-requires put-pair-requires (λ c. search needs) returns)

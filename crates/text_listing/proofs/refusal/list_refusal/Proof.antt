@@ -5,9 +5,6 @@ use borrow.Author.Needs.{needs}
 use Rattle.text_listing.proofs.refusal.list_refusal.Statement.{statement}
 use Rattle.text_listing.proofs.refusal.list_refusal.Tie as tie
 
-slice-aggregate-put-refusal : tie.Need-slice-aggregate-put-refusal
-slice-aggregate-put-refusal c = search needs
-
 put-refusal-requires : tie.Need-put-refusal-requires
 put-refusal-requires c κs = search needs
 
@@ -19,9 +16,6 @@ returns c =
 put-refusal-requires-2 : tie.Need-put-refusal-requires-2
 put-refusal-requires-2 c κs = search needs
 
-same-length : tie.Need-same-length
-same-length c = search needs
-
 returns-2 : tie.Need-returns-2
 returns-2 c =
     let c4 = c .before .before .before .before in
@@ -31,10 +25,4 @@ returns-2 c =
 pub list-refusal-spec : {M : Type 1} → statement M
 list-refusal-spec =
     tie.close
-    (tie.spec
-    slice-aggregate-put-refusal
-    put-refusal-requires
-    returns
-    put-refusal-requires-2
-    same-length
-    returns-2)
+    (tie.spec (λ c. search needs) put-refusal-requires returns put-refusal-requires-2 (λ c. search needs) returns-2)

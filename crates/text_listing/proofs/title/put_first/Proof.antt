@@ -1,51 +1,31 @@
 -- `text_listing::title::put_first` meets its contract.
 use native.Mathlib.Omega.{arith}
+use Rattle.laws.proofs.Numbers.{ones-in}
 use Rattle.text_listing.specs.Line.{firstLine}
+use Rattle.text_listing.specs.Ones.{ones}
 use Rattle.sheet_format.proofs.Laws.Put.{puts-as, puts-on}
 use Rattle.text_listing.proofs.Laws.Line.{first-same}
-use Rattle.text_listing.proofs.Laws.Ones.{ones-16}
 use borrow.Author.Needs.{needs}
 use Rattle.text_listing.proofs.title.put_first.Statement.{statement}
 use Rattle.text_listing.proofs.title.put_first.Tie as tie
 
-slice-aggregate-put-one : tie.Need-slice-aggregate-put-one
-slice-aggregate-put-one c = search needs
-
 byte-at-requires : tie.Need-byte-at-requires
 byte-at-requires c κs = search needs
-
-cast-put-one : tie.Need-cast-put-one
-cast-put-one c = search needs
 
 put-one-requires : tie.Need-put-one-requires
 put-one-requires c κs = search needs
 
-slice-aggregate-put-one-2 : tie.Need-slice-aggregate-put-one-2
-slice-aggregate-put-one-2 c = search needs
-
 byte-at-requires-2 : tie.Need-byte-at-requires-2
 byte-at-requires-2 c κs = search needs
-
-cast-put-one-2 : tie.Need-cast-put-one-2
-cast-put-one-2 c = search needs
 
 put-one-requires-2 : tie.Need-put-one-requires-2
 put-one-requires-2 c κs = search needs
 
-slice-aggregate-put-one-3 : tie.Need-slice-aggregate-put-one-3
-slice-aggregate-put-one-3 c = search needs
-
 put-one-requires-3 : tie.Need-put-one-requires-3
 put-one-requires-3 c κs = search needs
 
-slice-aggregate-put-one-4 : tie.Need-slice-aggregate-put-one-4
-slice-aggregate-put-one-4 c = search needs
-
 byte-at-requires-3 : tie.Need-byte-at-requires-3
 byte-at-requires-3 c κs = search needs
-
-cast-put-one-3 : tie.Need-cast-put-one-3
-cast-put-one-3 c = search needs
 
 put-one-requires-4 : tie.Need-put-one-requires-4
 put-one-requires-4 c κs = search needs
@@ -53,11 +33,8 @@ put-one-requires-4 c κs = search needs
 put-requires : tie.Need-put-requires
 put-requires c κs = search needs
 
-same-length : tie.Need-same-length
-same-length c = search needs
-
 returns : tie.Need-returns
-unfolding firstLine
+unfolding firstLine ones
 returns c =
     let c4 = c .before .before .before .before in
     let k = c4 .before .before in
@@ -72,7 +49,7 @@ returns c =
     (c .before .before .put .ensures) in
     let same =
     first-same (t .before .byte-at .ensures) (l .before .byte-at2 .ensures)
-    (ones-16 (s .args .mask) (omega arith))
+    (ones-in 16 (s .args .mask) (omega arith))
     (k .before .byte-at3 .ensures) in (
       omega (
         arith,
@@ -88,21 +65,6 @@ returns c =
 pub put-first-spec : {M : Type 1} → statement M
 put-first-spec =
     tie.close
-    (tie.spec
-    slice-aggregate-put-one
-    byte-at-requires
-    cast-put-one
-    put-one-requires
-    slice-aggregate-put-one-2
-    byte-at-requires-2
-    cast-put-one-2
-    put-one-requires-2
-    slice-aggregate-put-one-3
-    put-one-requires-3
-    slice-aggregate-put-one-4
-    byte-at-requires-3
-    cast-put-one-3
-    put-one-requires-4
-    put-requires
-    same-length
-    returns)
+    (tie.spec (λ c. search needs) byte-at-requires (λ c. search needs) put-one-requires (λ c. search needs)
+    byte-at-requires-2 (λ c. search needs) put-one-requires-2 (λ c. search needs) put-one-requires-3 (λ c. search needs)
+    byte-at-requires-3 (λ c. search needs) put-one-requires-4 put-requires (λ c. search needs) returns)

@@ -8,9 +8,6 @@ use Rattle.text_listing.proofs.whole.lanes_of.Tie as tie
 byte-at-requires : tie.Need-byte-at-requires
 byte-at-requires c κs = search needs
 
-cast-t : tie.Need-cast-t
-cast-t c = search needs
-
 returns : tie.Need-returns
 returns c =
     let size = counts-size (c .before .before .before .args .sheet .now) in
@@ -22,4 +19,4 @@ returns-2 c =
     (omega (arith, c .before .byte-at .ensures), omega arith)
 
 pub lanes-of-spec : {M : Type 1} → statement M
-lanes-of-spec = tie.close (tie.spec byte-at-requires cast-t returns returns-2)
+lanes-of-spec = tie.close (tie.spec byte-at-requires (λ c. search needs) returns returns-2)

@@ -5,9 +5,6 @@ use borrow.Author.Needs.{needs}
 use Rattle.text_listing.proofs.whole.list_sheet.Statement.{statement}
 use Rattle.text_listing.proofs.whole.list_sheet.Tie as tie
 
-slice-aggregate-put-sheet : tie.Need-slice-aggregate-put-sheet
-slice-aggregate-put-sheet c = search needs
-
 put-sheet-requires : tie.Need-put-sheet-requires
 put-sheet-requires c κs = search needs
 
@@ -20,9 +17,6 @@ returns c =
 put-sheet-requires-2 : tie.Need-put-sheet-requires-2
 put-sheet-requires-2 c κs = search needs
 
-same-length : tie.Need-same-length
-same-length c = search needs
-
 returns-2 : tie.Need-returns-2
 returns-2 c =
     let c4 = c .before .before .before .before in
@@ -32,10 +26,4 @@ returns-2 c =
 pub list-sheet-spec : {M : Type 1} → statement M
 list-sheet-spec =
     tie.close
-    (tie.spec
-    slice-aggregate-put-sheet
-    put-sheet-requires
-    returns
-    put-sheet-requires-2
-    same-length
-    returns-2)
+    (tie.spec (λ c. search needs) put-sheet-requires returns put-sheet-requires-2 (λ c. search needs) returns-2)

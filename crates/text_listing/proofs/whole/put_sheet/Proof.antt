@@ -11,9 +11,6 @@ put-first-requires c κs = search needs
 put-lanes-requires : tie.Need-put-lanes-requires
 put-lanes-requires c κs = search needs
 
-same-length : tie.Need-same-length
-same-length c = search needs
-
 returns : tie.Need-returns
 unfolding sheetText
 returns c =
@@ -21,4 +18,4 @@ returns c =
     puts-on (c4 .before .before .put-first .ensures .1) (c .before .before .put-lanes .ensures .0)
 
 pub put-sheet-spec : {M : Type 1} → statement M
-put-sheet-spec = tie.close (tie.spec put-first-requires put-lanes-requires same-length returns)
+put-sheet-spec = tie.close (tie.spec put-first-requires put-lanes-requires (λ c. search needs) returns)

@@ -14,9 +14,6 @@ put-text-requires c κs = search needs
 put-decimal-requires : tie.Need-put-decimal-requires
 put-decimal-requires c κs = search needs
 
-same-length : tie.Need-same-length
-same-length c = search needs
-
 returns : tie.Need-returns
 returns c =
     let c4 = c .before .before .before .before in
@@ -27,4 +24,4 @@ returns c =
     (omega (arith, few, all .behind, length-append (s .args .name .now) (decimal (s .args .b))), all)
 
 pub put-one-spec : {M : Type 1} → statement M
-put-one-spec = tie.close (tie.spec put-text-requires put-decimal-requires same-length returns)
+put-one-spec = tie.close (tie.spec put-text-requires put-decimal-requires (λ c. search needs) returns)

@@ -7,38 +7,20 @@ use borrow.Author.Needs.{needs}
 use Rattle.text_run.proofs.entry.put_entry.Statement.{statement}
 use Rattle.text_run.proofs.entry.put_entry.Tie as tie
 
-add-byte-at : tie.Need-add-byte-at
-add-byte-at c = search needs
-
 byte-at-requires : tie.Need-byte-at-requires
 byte-at-requires c κs = search needs
-
-cast-place : tie.Need-cast-place
-cast-place c = search needs
 
 byte-at-requires-2 : tie.Need-byte-at-requires-2
 byte-at-requires-2 c κs = search needs
 
-slice-aggregate-put-one : tie.Need-slice-aggregate-put-one
-slice-aggregate-put-one c = search needs
-
 put-one-requires : tie.Need-put-one-requires
 put-one-requires c κs = search needs
-
-slice-aggregate-put-one-2 : tie.Need-slice-aggregate-put-one-2
-slice-aggregate-put-one-2 c = search needs
-
-add-quad-at : tie.Need-add-quad-at
-add-quad-at c = search needs
 
 quad-at-requires : tie.Need-quad-at-requires
 quad-at-requires c κs = search needs
 
 put-one-requires-2 : tie.Need-put-one-requires-2
 put-one-requires-2 c κs = search needs
-
-same-length : tie.Need-same-length
-same-length c = search needs
 
 returns : tie.Need-returns
 returns c =
@@ -56,14 +38,8 @@ returns c =
       puts-as text (puts-on (c8 .put-one .ensures .1) (c2 .put-one2 .ensures .1)),
     )
 
-slice-aggregate-put-one-3 : tie.Need-slice-aggregate-put-one-3
-slice-aggregate-put-one-3 c = search needs
-
 put-one-requires-3 : tie.Need-put-one-requires-3
 put-one-requires-3 c κs = search needs
-
-same-length-2 : tie.Need-same-length-2
-same-length-2 c = search needs
 
 returns-2 : tie.Need-returns-2
 returns-2 c =
@@ -80,20 +56,6 @@ returns-2 c =
 pub put-entry-spec : {M : Type 1} → statement M
 put-entry-spec =
     tie.close
-    (tie.spec
-    add-byte-at
-    byte-at-requires
-    cast-place
-    byte-at-requires-2
-    slice-aggregate-put-one
-    put-one-requires
-    slice-aggregate-put-one-2
-    add-quad-at
-    quad-at-requires
-    put-one-requires-2
-    same-length
-    returns
-    slice-aggregate-put-one-3
-    put-one-requires-3
-    same-length-2
-    returns-2)
+    (tie.spec (λ c. search needs) byte-at-requires (λ c. search needs) byte-at-requires-2 (λ c. search needs)
+    put-one-requires (λ c. search needs) (λ c. search needs) quad-at-requires put-one-requires-2 (λ c. search needs)
+    returns (λ c. search needs) put-one-requires-3 (λ c. search needs) returns-2)

@@ -13,17 +13,11 @@ use borrow.Author.Needs.{needs}
 use Rattle.text_run.proofs.lane.put_lane_line.Statement.{statement}
 use Rattle.text_run.proofs.lane.put_lane_line.Tie as tie
 
-slice-aggregate-put-one : tie.Need-slice-aggregate-put-one
-slice-aggregate-put-one c = search needs
-
 put-one-requires : tie.Need-put-one-requires
 put-one-requires c κs = search needs
 
 lane-from-requires : tie.Need-lane-from-requires
 lane-from-requires c κs = search needs
-
-slice-aggregate-put-one-2 : tie.Need-slice-aggregate-put-one-2
-slice-aggregate-put-one-2 c = search needs
 
 word-at-requires : tie.Need-word-at-requires
 word-at-requires c κs = search needs
@@ -31,17 +25,8 @@ word-at-requires c κs = search needs
 put-one-requires-2 : tie.Need-put-one-requires-2
 put-one-requires-2 c κs = search needs
 
-slice-aggregate-put-numbers-line : tie.Need-slice-aggregate-put-numbers-line
-slice-aggregate-put-numbers-line c = search needs
-
-add-put-numbers-line : tie.Need-add-put-numbers-line
-add-put-numbers-line c = search needs
-
 put-numbers-line-requires : tie.Need-put-numbers-line-requires
 put-numbers-line-requires c κs = search needs
-
-same-length : tie.Need-same-length
-same-length c = search needs
 
 returns : tie.Need-returns
 returns c =
@@ -65,15 +50,5 @@ returns c =
 pub put-lane-line-spec : {M : Type 1} → statement M
 put-lane-line-spec =
     tie.close
-    (tie.spec
-    slice-aggregate-put-one
-    put-one-requires
-    lane-from-requires
-    slice-aggregate-put-one-2
-    word-at-requires
-    put-one-requires-2
-    slice-aggregate-put-numbers-line
-    add-put-numbers-line
-    put-numbers-line-requires
-    same-length
-    returns)
+    (tie.spec (λ c. search needs) put-one-requires lane-from-requires (λ c. search needs) word-at-requires
+    put-one-requires-2 (λ c. search needs) (λ c. search needs) put-numbers-line-requires (λ c. search needs) returns)

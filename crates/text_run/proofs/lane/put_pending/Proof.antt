@@ -8,14 +8,8 @@ use borrow.Author.Needs.{needs}
 use Rattle.text_run.proofs.lane.put_pending.Statement.{statement}
 use Rattle.text_run.proofs.lane.put_pending.Tie as tie
 
-slice-aggregate-put-one : tie.Need-slice-aggregate-put-one
-slice-aggregate-put-one c = search needs
-
 put-one-requires : tie.Need-put-one-requires
 put-one-requires c κs = search needs
-
-slice-aggregate-put-text : tie.Need-slice-aggregate-put-text
-slice-aggregate-put-text c = search needs
 
 put-text-requires : tie.Need-put-text-requires
 put-text-requires c κs = search needs
@@ -28,9 +22,6 @@ put-entry-requires c κs = search needs
 
 put-requires : tie.Need-put-requires
 put-requires c κs = search needs
-
-same-length : tie.Need-same-length
-same-length c = search needs
 
 returns : tie.Need-returns
 returns c =
@@ -57,13 +48,5 @@ returns c =
 pub put-pending-spec : {M : Type 1} → statement M
 put-pending-spec =
     tie.close
-    (tie.spec
-    slice-aggregate-put-one
-    put-one-requires
-    slice-aggregate-put-text
-    put-text-requires
-    entry-from-requires
-    put-entry-requires
-    put-requires
-    same-length
-    returns)
+    (tie.spec (λ c. search needs) put-one-requires (λ c. search needs) put-text-requires entry-from-requires
+    put-entry-requires put-requires (λ c. search needs) returns)

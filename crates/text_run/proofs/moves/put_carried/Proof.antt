@@ -14,15 +14,6 @@ next-row-requires c κs = search needs
 row-at-requires : tie.Need-row-at-requires
 row-at-requires c κs = search needs
 
-cast-put-instr : tie.Need-cast-put-instr
-cast-put-instr c = search needs
-
-cast-put-instr-2 : tie.Need-cast-put-instr-2
-cast-put-instr-2 c = search needs
-
-cast-put-instr-3 : tie.Need-cast-put-instr-3
-cast-put-instr-3 c = search needs
-
 put-instr-requires : tie.Need-put-instr-requires
 put-instr-requires c κs = search needs
 
@@ -36,9 +27,6 @@ put-loaded-requires c κs =
     let k = c4 .struct-known3 .given in
     let few = instr-few (w .code) (w .a) (w .b) (w .word) (omega (arith, k)) (omega (arith, k)) (omega (arith, k)) in
     omega (arith, few, c3 .put-instr .ensures .behind, c14 .pre)
-
-same-length : tie.Need-same-length
-same-length c = search needs
 
 returns : tie.Need-returns
 returns c =
@@ -62,13 +50,5 @@ returns c =
 pub put-carried-spec : {M : Type 1} → statement M
 put-carried-spec =
     tie.close
-    (tie.spec
-    next-row-requires
-    row-at-requires
-    cast-put-instr
-    cast-put-instr-2
-    cast-put-instr-3
-    put-instr-requires
-    put-loaded-requires
-    same-length
-    returns)
+    (tie.spec next-row-requires row-at-requires (λ c. search needs) (λ c. search needs) (λ c. search needs)
+    put-instr-requires put-loaded-requires (λ c. search needs) returns)

@@ -2,25 +2,19 @@
 use mathlib.Core.Path.{ap}
 use native.Mathlib.Omega.{arith}
 use borrow.Author.Tests.{eq-eqb, ne-eqb}
+use Rattle.laws.proofs.Bools.{first-of, second-of}
 use Rattle.sheet_format.proofs.Laws.Put.{puts-as, puts-on}
 use Rattle.machine_record.specs.Fields.{entryIn}
 use Rattle.text_run.specs.Lanes.{entryText}
-use Rattle.text_run.proofs.Laws.Entry.{first-of, second-of}
 use borrow.Author.Needs.{needs}
 use Rattle.text_run.proofs.moves.put_done.Statement.{statement}
 use Rattle.text_run.proofs.moves.put_done.Tie as tie
-
-slice-aggregate-put-text : tie.Need-slice-aggregate-put-text
-slice-aggregate-put-text c = search needs
 
 put-text-requires : tie.Need-put-text-requires
 put-text-requires c κs = search needs
 
 put-carried-requires : tie.Need-put-carried-requires
 put-carried-requires c κs = search needs
-
-same-length : tie.Need-same-length
-same-length c = search needs
 
 returns : tie.Need-returns
 returns c =
@@ -32,26 +26,14 @@ returns c =
       puts-on (c7 .put-text .ensures) (puts-as text (c2 .put-carried .ensures .1)),
     )
 
-slice-aggregate-put-text-2 : tie.Need-slice-aggregate-put-text-2
-slice-aggregate-put-text-2 c = search needs
-
 put-text-requires-2 : tie.Need-put-text-requires-2
 put-text-requires-2 c κs = search needs
-
-sub-entry-from : tie.Need-sub-entry-from
-sub-entry-from c = search needs
-
-cast-entry-from : tie.Need-cast-entry-from
-cast-entry-from c = search needs
 
 entry-from-requires : tie.Need-entry-from-requires
 entry-from-requires c κs = search needs
 
 put-entry-requires : tie.Need-put-entry-requires
 put-entry-requires c κs = search needs
-
-same-length-2 : tie.Need-same-length-2
-same-length-2 c = search needs
 
 returns-2 : tie.Need-returns-2
 returns-2 c =
@@ -71,17 +53,6 @@ returns-2 c =
 pub put-done-spec : {M : Type 1} → statement M
 put-done-spec =
     tie.close
-    (tie.spec
-    slice-aggregate-put-text
-    put-text-requires
-    put-carried-requires
-    same-length
-    returns
-    slice-aggregate-put-text-2
-    put-text-requires-2
-    sub-entry-from
-    cast-entry-from
-    entry-from-requires
-    put-entry-requires
-    same-length-2
-    returns-2)
+    (tie.spec (λ c. search needs) put-text-requires put-carried-requires (λ c. search needs) returns (λ c. search needs)
+    put-text-requires-2 (λ c. search needs) (λ c. search needs) entry-from-requires put-entry-requires
+    (λ c. search needs) returns-2)

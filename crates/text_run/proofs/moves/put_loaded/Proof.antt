@@ -7,17 +7,11 @@ use borrow.Author.Needs.{needs}
 use Rattle.text_run.proofs.moves.put_loaded.Statement.{statement}
 use Rattle.text_run.proofs.moves.put_loaded.Tie as tie
 
-slice-aggregate-put-one : tie.Need-slice-aggregate-put-one
-slice-aggregate-put-one c = search needs
-
 register-at-requires : tie.Need-register-at-requires
 register-at-requires c κs = search needs
 
 put-one-requires : tie.Need-put-one-requires
 put-one-requires c κs = search needs
-
-same-length : tie.Need-same-length
-same-length c = search needs
 
 returns : tie.Need-returns
 returns c =
@@ -40,11 +34,4 @@ returns-2 c =
 
 pub put-loaded-spec : {M : Type 1} → statement M
 put-loaded-spec =
-    tie.close
-    (tie.spec
-    slice-aggregate-put-one
-    register-at-requires
-    put-one-requires
-    same-length
-    returns
-    returns-2)
+    tie.close (tie.spec (λ c. search needs) register-at-requires put-one-requires (λ c. search needs) returns returns-2)

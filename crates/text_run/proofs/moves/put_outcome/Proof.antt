@@ -2,8 +2,8 @@
 use mathlib.Core.Path.{sym, _∙_}
 use native.Mathlib.Omega.{arith}
 use borrow.Author.Tests.{eq-eqb, ne-eqb}
+use Rattle.laws.proofs.Bools.{first-of, second-of}
 use Rattle.sheet_format.proofs.Laws.Put.{puts-as}
-use Rattle.text_run.proofs.Laws.Entry.{first-of, second-of}
 use borrow.Author.Needs.{needs}
 use Rattle.text_run.proofs.moves.put_outcome.Statement.{statement}
 use Rattle.text_run.proofs.moves.put_outcome.Tie as tie
@@ -14,14 +14,8 @@ quad-at-requires c κs = search needs
 quad-at-requires-2 : tie.Need-quad-at-requires-2
 quad-at-requires-2 c κs = search needs
 
-slice-aggregate-put-text : tie.Need-slice-aggregate-put-text
-slice-aggregate-put-text c = search needs
-
 put-text-requires : tie.Need-put-text-requires
 put-text-requires c κs = search needs
-
-same-length : tie.Need-same-length
-same-length c = search needs
 
 returns : tie.Need-returns
 returns c =
@@ -35,9 +29,6 @@ returns c =
 put-done-requires : tie.Need-put-done-requires
 put-done-requires c κs = search needs
 
-same-length-2 : tie.Need-same-length-2
-same-length-2 c = search needs
-
 returns-2 : tie.Need-returns-2
 returns-2 c =
     let c2 = c .before .before in
@@ -50,13 +41,5 @@ returns-2 c =
 pub put-outcome-spec : {M : Type 1} → statement M
 put-outcome-spec =
     tie.close
-    (tie.spec
-    quad-at-requires
-    quad-at-requires-2
-    slice-aggregate-put-text
-    put-text-requires
-    same-length
-    returns
-    put-done-requires
-    same-length-2
-    returns-2)
+    (tie.spec quad-at-requires quad-at-requires-2 (λ c. search needs) put-text-requires (λ c. search needs) returns
+    put-done-requires (λ c. search needs) returns-2)

@@ -10,17 +10,11 @@ use Rattle.text_run.proofs.moves.tell_move.Tie as tie
 put-decimal-requires : tie.Need-put-decimal-requires
 put-decimal-requires c κs = search needs
 
-slice-aggregate-put-one : tie.Need-slice-aggregate-put-one
-slice-aggregate-put-one c = search needs
-
 put-one-requires : tie.Need-put-one-requires
 put-one-requires c κs =
     let c4 = c .before .before .before .before in
     let c10 = c4 .before .before .before .before .before .before in
     omega (arith, c4 .put-decimal .ensures .behind, decimal-few (c10 .args .n) (omega arith))
-
-slice-aggregate-put-one-2 : tie.Need-slice-aggregate-put-one-2
-slice-aggregate-put-one-2 c = search needs
 
 put-one-requires-2 : tie.Need-put-one-requires-2
 put-one-requires-2 c κs =
@@ -59,9 +53,6 @@ put-requires c κs =
       decimal-few (c23 .args .n) (omega arith),
     )
 
-same-length : tie.Need-same-length
-same-length c = search needs
-
 returns : tie.Need-returns
 unfolding lineBy
 returns c =
@@ -70,21 +61,25 @@ returns c =
     let c10 = c6 .before .before .before .before in
     let c15 = c10 .before .before .before .before .before in
     let c20 = c15 .before .before .before .before .before in
-    puts-on
-    (puts-on (puts-on (puts-on (c20 .put-decimal .ensures) (c15 .put-one .ensures .1)) (c10 .put-one2 .ensures .1))
-    (c6 .put-outcome .ensures .1))
-    (c2 .put .ensures)
+    let c26 = c20 .before .before .before .before .before .before in (
+      omega (
+        arith,
+        c2 .put .ensures .behind,
+        c6 .put-outcome .ensures .0,
+        c10 .put-one2 .ensures .0,
+        c15 .put-one .ensures .0,
+        c20 .put-decimal .ensures .behind,
+        decimal-few (c26 .args .n) (omega arith),
+      ),
+      puts-on
+          (puts-on
+          (puts-on (puts-on (c20 .put-decimal .ensures) (c15 .put-one .ensures .1)) (c10 .put-one2 .ensures .1))
+          (c6 .put-outcome .ensures .1))
+          (c2 .put .ensures),
+    )
 
 pub tell-move-spec : {M : Type 1} → statement M
 tell-move-spec =
     tie.close
-    (tie.spec
-    put-decimal-requires
-    slice-aggregate-put-one
-    put-one-requires
-    slice-aggregate-put-one-2
-    put-one-requires-2
-    put-outcome-requires
-    put-requires
-    same-length
-    returns)
+    (tie.spec put-decimal-requires (λ c. search needs) put-one-requires (λ c. search needs) put-one-requires-2
+    put-outcome-requires put-requires (λ c. search needs) returns)

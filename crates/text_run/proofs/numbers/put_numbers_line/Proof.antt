@@ -26,9 +26,6 @@ put-text-requires c κs = search needs
 loop-holds : tie.Need-loop-holds Inv-loop μ-loop
 loop-holds c = (omega arith, omega arith, turn-none _)
 
-slice-aggregate-put-one : tie.Need-slice-aggregate-put-one Inv-loop μ-loop
-slice-aggregate-put-one c = search needs
-
 number-at-requires : tie.Need-number-at-requires Inv-loop μ-loop
 number-at-requires c κs =
     let c11 = c .before .before .before .before .before .before .before .before .before .before .before in
@@ -98,17 +95,5 @@ returns c =
 pub put-numbers-line-spec : {M : Type 1} → statement M
 put-numbers-line-spec =
     tie.close
-    (tie.spec
-    Inv-loop
-    μ-loop
-    put-text-requires
-    loop-holds
-    slice-aggregate-put-one
-    number-at-requires
-    put-one-requires
-    add-i
-    loop-less
-    loop-again
-    put-requires
-    same-length
-    returns)
+    (tie.spec Inv-loop μ-loop put-text-requires loop-holds (λ c. search needs) number-at-requires put-one-requires add-i
+    loop-less loop-again put-requires same-length returns)

@@ -11,12 +11,6 @@ use Rattle.text_run.proofs.places.first_row.Tie as tie
 parts-of-requires : tie.Need-parts-of-requires
 parts-of-requires c κs = search needs
 
-mul-result : tie.Need-mul-result
-mul-result c = search needs
-
-array-read-result : tie.Need-array-read-result
-array-read-result c = search needs
-
 returns : tie.Need-returns
 returns c =
     let c2 = c .before .before in
@@ -33,4 +27,4 @@ returns-2 c =
 
 pub first-row-spec : {M : Type 1} → statement M
 first-row-spec =
-    tie.close (tie.spec parts-of-requires mul-result array-read-result returns returns-2)
+    tie.close (tie.spec parts-of-requires (λ c. search needs) (λ c. search needs) returns returns-2)

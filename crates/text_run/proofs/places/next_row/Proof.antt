@@ -16,15 +16,6 @@ lane-from-requires c κs = search needs
 word-at-requires : tie.Need-word-at-requires
 word-at-requires c κs = search needs
 
-cast-result : tie.Need-cast-result
-cast-result c = search needs
-
-mul-result : tie.Need-mul-result
-mul-result c = search needs
-
-add-result : tie.Need-add-result
-add-result c = search needs
-
 returns : tie.Need-returns
 returns c =
     let c2 = c .before .before in
@@ -36,11 +27,5 @@ returns c =
 pub next-row-spec : {M : Type 1} → statement M
 next-row-spec =
     tie.close
-    (tie.spec
-    first-row-requires
-    lane-from-requires
-    word-at-requires
-    cast-result
-    mul-result
-    add-result
-    returns)
+    (tie.spec first-row-requires lane-from-requires word-at-requires (λ c. search needs) (λ c. search needs)
+    (λ c. search needs) returns)

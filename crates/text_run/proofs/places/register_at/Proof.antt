@@ -9,15 +9,6 @@ use Rattle.text_run.proofs.places.register_at.Tie as tie
 lane-from-requires : tie.Need-lane-from-requires
 lane-from-requires c κs = search needs
 
-add-quad-at : tie.Need-add-quad-at
-add-quad-at c = search needs
-
-mul-quad-at : tie.Need-mul-quad-at
-mul-quad-at c = search needs
-
-add-quad-at-2 : tie.Need-add-quad-at-2
-add-quad-at-2 c = search needs
-
 quad-at-requires : tie.Need-quad-at-requires
 quad-at-requires c κs = search needs
 
@@ -30,4 +21,4 @@ returns c =
 pub register-at-spec : {M : Type 1} → statement M
 register-at-spec =
     tie.close
-    (tie.spec lane-from-requires add-quad-at mul-quad-at add-quad-at-2 quad-at-requires returns)
+    (tie.spec lane-from-requires (λ c. search needs) (λ c. search needs) (λ c. search needs) quad-at-requires returns)

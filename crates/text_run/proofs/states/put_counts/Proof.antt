@@ -9,17 +9,11 @@ use borrow.Author.Needs.{needs}
 use Rattle.text_run.proofs.states.put_counts.Statement.{statement}
 use Rattle.text_run.proofs.states.put_counts.Tie as tie
 
-slice-aggregate-put-one : tie.Need-slice-aggregate-put-one
-slice-aggregate-put-one c = search needs
-
 quad-at-requires : tie.Need-quad-at-requires
 quad-at-requires c κs = search needs
 
 put-one-requires : tie.Need-put-one-requires
 put-one-requires c κs = search needs
-
-slice-aggregate-put-one-2 : tie.Need-slice-aggregate-put-one-2
-slice-aggregate-put-one-2 c = search needs
 
 quad-at-requires-2 : tie.Need-quad-at-requires-2
 quad-at-requires-2 c κs = search needs
@@ -29,9 +23,6 @@ put-one-requires-2 c κs = search needs
 
 put-requires : tie.Need-put-requires
 put-requires c κs = search needs
-
-same-length : tie.Need-same-length
-same-length c = search needs
 
 returns : tie.Need-returns
 returns c =
@@ -50,13 +41,5 @@ returns c =
 pub put-counts-spec : {M : Type 1} → statement M
 put-counts-spec =
     tie.close
-    (tie.spec
-    slice-aggregate-put-one
-    quad-at-requires
-    put-one-requires
-    slice-aggregate-put-one-2
-    quad-at-requires-2
-    put-one-requires-2
-    put-requires
-    same-length
-    returns)
+    (tie.spec (λ c. search needs) quad-at-requires put-one-requires (λ c. search needs) quad-at-requires-2
+    put-one-requires-2 put-requires (λ c. search needs) returns)

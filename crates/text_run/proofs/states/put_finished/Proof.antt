@@ -2,8 +2,8 @@
 use mathlib.Core.Path.{sym, _∙_}
 use native.Mathlib.Omega.{arith}
 use borrow.Author.Tests.{eq-eqb, ne-eqb}
+use Rattle.laws.proofs.Bools.{first-of, second-of}
 use Rattle.sheet_format.proofs.Laws.Put.{puts-as, puts-on}
-use Rattle.text_run.proofs.Laws.Entry.{first-of, second-of}
 use borrow.Author.Needs.{needs}
 use Rattle.text_run.proofs.states.put_finished.Statement.{statement}
 use Rattle.text_run.proofs.states.put_finished.Tie as tie
@@ -11,17 +11,11 @@ use Rattle.text_run.proofs.states.put_finished.Tie as tie
 byte-at-requires : tie.Need-byte-at-requires
 byte-at-requires c κs = search needs
 
-slice-aggregate-put-text : tie.Need-slice-aggregate-put-text
-slice-aggregate-put-text c = search needs
-
 put-text-requires : tie.Need-put-text-requires
 put-text-requires c κs = search needs
 
 put-requires : tie.Need-put-requires
 put-requires c κs = search needs
-
-same-length : tie.Need-same-length
-same-length c = search needs
 
 returns : tie.Need-returns
 returns c =
@@ -34,17 +28,11 @@ returns c =
       puts-on (puts-as text (c6 .put-text .ensures)) (c2 .put .ensures),
     )
 
-slice-aggregate-put-text-2 : tie.Need-slice-aggregate-put-text-2
-slice-aggregate-put-text-2 c = search needs
-
 put-text-requires-2 : tie.Need-put-text-requires-2
 put-text-requires-2 c κs = search needs
 
 put-requires-2 : tie.Need-put-requires-2
 put-requires-2 c κs = search needs
-
-same-length-2 : tie.Need-same-length-2
-same-length-2 c = search needs
 
 returns-2 : tie.Need-returns-2
 returns-2 c =
@@ -60,15 +48,5 @@ returns-2 c =
 pub put-finished-spec : {M : Type 1} → statement M
 put-finished-spec =
     tie.close
-    (tie.spec
-    byte-at-requires
-    slice-aggregate-put-text
-    put-text-requires
-    put-requires
-    same-length
-    returns
-    slice-aggregate-put-text-2
-    put-text-requires-2
-    put-requires-2
-    same-length-2
-    returns-2)
+    (tie.spec byte-at-requires (λ c. search needs) put-text-requires put-requires (λ c. search needs) returns
+    (λ c. search needs) put-text-requires-2 put-requires-2 (λ c. search needs) returns-2)

@@ -15,26 +15,17 @@ put-counts-requires c κs = search needs
 put-finished-requires : tie.Need-put-finished-requires
 put-finished-requires c κs = search needs
 
-slice-aggregate-put-numbers-line : tie.Need-slice-aggregate-put-numbers-line
-slice-aggregate-put-numbers-line c = search needs
-
 byte-at-requires : tie.Need-byte-at-requires
 byte-at-requires c κs = search needs
 
 put-numbers-line-requires : tie.Need-put-numbers-line-requires
 put-numbers-line-requires c κs = search needs
 
-slice-aggregate-put-numbers-line-2 : tie.Need-slice-aggregate-put-numbers-line-2
-slice-aggregate-put-numbers-line-2 c = search needs
-
 byte-at-requires-2 : tie.Need-byte-at-requires-2
 byte-at-requires-2 c κs = search needs
 
 put-numbers-line-requires-2 : tie.Need-put-numbers-line-requires-2
 put-numbers-line-requires-2 c κs = search needs
-
-same-length : tie.Need-same-length
-same-length c = search needs
 
 returns : tie.Need-returns
 returns c =
@@ -66,14 +57,5 @@ returns c =
 pub put-head-spec : {M : Type 1} → statement M
 put-head-spec =
     tie.close
-    (tie.spec
-    put-counts-requires
-    put-finished-requires
-    slice-aggregate-put-numbers-line
-    byte-at-requires
-    put-numbers-line-requires
-    slice-aggregate-put-numbers-line-2
-    byte-at-requires-2
-    put-numbers-line-requires-2
-    same-length
-    returns)
+    (tie.spec put-counts-requires put-finished-requires (λ c. search needs) byte-at-requires put-numbers-line-requires
+    (λ c. search needs) byte-at-requires-2 put-numbers-line-requires-2 (λ c. search needs) returns)

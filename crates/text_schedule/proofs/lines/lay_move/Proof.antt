@@ -5,38 +5,20 @@ use borrow.Author.Needs.{needs}
 use Rattle.text_schedule.proofs.lines.lay_move.Statement.{statement}
 use Rattle.text_schedule.proofs.lines.lay_move.Tie as tie
 
-enum-known-p : tie.Need-enum-known-p
-enum-known-p c = search needs
-
 lay-two-requires : tie.Need-lay-two-requires
 lay-two-requires c κs = search needs
-
-enum-known-p-2 : tie.Need-enum-known-p-2
-enum-known-p-2 c = search needs
 
 lay-two-requires-2 : tie.Need-lay-two-requires-2
 lay-two-requires-2 c κs = search needs
 
-enum-known-p-3 : tie.Need-enum-known-p-3
-enum-known-p-3 c = search needs
-
 lay-two-requires-3 : tie.Need-lay-two-requires-3
 lay-two-requires-3 c κs = search needs
-
-same-length : tie.Need-same-length
-same-length c = search needs
 
 returns : tie.Need-returns
 returns c = rw (c .before .before .before .before .before .p .given .1) (c .before .before .lay-two .ensures)
 
-same-length-2 : tie.Need-same-length-2
-same-length-2 c = search needs
-
 returns-2 : tie.Need-returns-2
 returns-2 c = rw (c .before .before .before .before .before .p2 .given .1) (c .before .before .lay-two2 .ensures)
-
-same-length-3 : tie.Need-same-length-3
-same-length-3 c = search needs
 
 returns-3 : tie.Need-returns-3
 returns-3 c = rw (c .before .before .before .before .before .p3 .given .1) (c .before .before .lay-two3 .ensures)
@@ -47,17 +29,6 @@ returns-4 c = puts-as (no-move (c .before .before .args .p) (c .match .keys4)) p
 pub lay-move-spec : {M : Type 1} → statement M
 lay-move-spec =
     tie.close
-    (tie.spec
-    enum-known-p
-    lay-two-requires
-    enum-known-p-2
-    lay-two-requires-2
-    enum-known-p-3
-    lay-two-requires-3
-    same-length
-    returns
-    same-length-2
-    returns-2
-    same-length-3
-    returns-3
+    (tie.spec (λ c. search needs) lay-two-requires (λ c. search needs) lay-two-requires-2 (λ c. search needs)
+    lay-two-requires-3 (λ c. search needs) returns (λ c. search needs) returns-2 (λ c. search needs) returns-3
     returns-4)

@@ -19,9 +19,6 @@ abbrev μ-loop : tie.MeasureT-loop
 loop-holds : tie.Need-loop-holds Inv-loop μ-loop
 loop-holds c = (omega arith, λ n k q. q)
 
-shared-slice-read-b : tie.Need-shared-slice-read-b Inv-loop μ-loop
-shared-slice-read-b c = search needs
-
 lay-move-requires : tie.Need-lay-move-requires Inv-loop μ-loop
 lay-move-requires c κs =
     let a = c .before .before .before .before in
@@ -78,16 +75,5 @@ returns c =
 pub lay-moves-spec : {M : Type 1} → statement M
 lay-moves-spec =
     tie.close
-    (tie.spec
-    Inv-loop
-    μ-loop
-    loop-holds
-    shared-slice-read-b
-    lay-move-requires
-    after-requires
-    add-i
-    loop-less
-    loop-again
-    lay-move-requires-2
-    same-length
-    returns)
+    (tie.spec Inv-loop μ-loop loop-holds (λ c. search needs) lay-move-requires after-requires add-i loop-less loop-again
+    lay-move-requires-2 same-length returns)

@@ -7,17 +7,8 @@ use Rattle.text_schedule.proofs.lines.lay_two.Tie as tie
 store-requires : tie.Need-store-requires
 store-requires c κs = search needs
 
-add-store : tie.Need-add-store
-add-store c = search needs
-
 store-requires-2 : tie.Need-store-requires-2
 store-requires-2 c κs = search needs
-
-add-result : tie.Need-add-result
-add-result c = search needs
-
-same-length : tie.Need-same-length
-same-length c = search needs
 
 returns : tie.Need-returns
 returns c =
@@ -27,4 +18,5 @@ returns c =
 
 pub lay-two-spec : {M : Type 1} → statement M
 lay-two-spec =
-    tie.close (tie.spec store-requires add-store store-requires-2 add-result same-length returns)
+    tie.close
+    (tie.spec store-requires (λ c. search needs) store-requires-2 (λ c. search needs) (λ c. search needs) returns)

@@ -22,9 +22,6 @@ abbrev μ-loop : tie.MeasureT-loop
 loop-holds : tie.Need-loop-holds Inv-loop μ-loop
 loop-holds c = (omega arith, omega arith, refl)
 
-shared-slice-read-b : tie.Need-shared-slice-read-b Inv-loop μ-loop
-shared-slice-read-b c = search needs
-
 is-wrong-requires : tie.Need-is-wrong-requires Inv-loop μ-loop
 is-wrong-requires c κs = search needs
 
@@ -89,18 +86,5 @@ returns-3 c =
 pub malformed-spec : {M : Type 1} → statement M
 malformed-spec =
     tie.close
-    (tie.spec
-    Inv-loop
-    μ-loop
-    loop-holds
-    shared-slice-read-b
-    is-wrong-requires
-    returns
-    add-line
-    after-requires
-    add-i
-    loop-less
-    loop-again
-    is-wrong-requires-2
-    returns-2
-    returns-3)
+    (tie.spec Inv-loop μ-loop loop-holds (λ c. search needs) is-wrong-requires returns add-line after-requires add-i
+    loop-less loop-again is-wrong-requires-2 returns-2 returns-3)

@@ -6,17 +6,11 @@ use Rattle.text_schedule.specs.Place.{sorted}
 use Rattle.text_schedule.proofs.place.after.Statement.{statement}
 use Rattle.text_schedule.proofs.place.after.Tie as tie
 
-enum-told : tie.Need-enum-told
-enum-told c = search needs
-
 grown-requires : tie.Need-grown-requires
 grown-requires c κs = search needs
 
 sorted-requires : tie.Need-sorted-requires
 sorted-requires c κs = search needs
-
-enum-known-p : tie.Need-enum-known-p
-enum-known-p c = search needs
 
 grown-requires-2 : tie.Need-grown-requires-2
 grown-requires-2 c κs = search needs
@@ -24,17 +18,11 @@ grown-requires-2 c κs = search needs
 sorted-requires-2 : tie.Need-sorted-requires-2
 sorted-requires-2 c κs = search needs
 
-enum-known-p-2 : tie.Need-enum-known-p-2
-enum-known-p-2 c = search needs
-
 grown-requires-3 : tie.Need-grown-requires-3
 grown-requires-3 c κs = search needs
 
 sorted-requires-3 : tie.Need-sorted-requires-3
 sorted-requires-3 c κs = search needs
-
-enum-known-p-3 : tie.Need-enum-known-p-3
-enum-known-p-3 c = search needs
 
 grown-requires-4 : tie.Need-grown-requires-4
 grown-requires-4 c κs = search needs
@@ -42,20 +30,8 @@ grown-requires-4 c κs = search needs
 sorted-requires-4 : tie.Need-sorted-requires-4
 sorted-requires-4 c κs = search needs
 
-enum-known-p-4 : tie.Need-enum-known-p-4
-enum-known-p-4 c = search needs
-
 sorted-requires-5 : tie.Need-sorted-requires-5
 sorted-requires-5 c κs = search needs
-
-enum-told-2 : tie.Need-enum-told-2
-enum-told-2 c = search needs
-
-enum-known-p-5 : tie.Need-enum-known-p-5
-enum-known-p-5 c = search needs
-
-enum-told-3 : tie.Need-enum-told-3
-enum-told-3 c = search needs
 
 returns : tie.Need-returns
 returns c =
@@ -87,29 +63,7 @@ returns-8 c = search needs
 pub after-spec : {M : Type 1} → statement M
 after-spec =
     tie.close
-    (tie.spec
-    enum-told
-    grown-requires
-    sorted-requires
-    enum-known-p
-    grown-requires-2
-    sorted-requires-2
-    enum-known-p-2
-    grown-requires-3
-    sorted-requires-3
-    enum-known-p-3
-    grown-requires-4
-    sorted-requires-4
-    enum-known-p-4
-    sorted-requires-5
-    enum-told-2
-    enum-known-p-5
-    enum-told-3
-    returns
-    returns-2
-    returns-3
-    returns-4
-    returns-5
-    returns-6
-    returns-7
-    returns-8)
+    (tie.spec (λ c. search needs) grown-requires sorted-requires (λ c. search needs) grown-requires-2 sorted-requires-2
+    (λ c. search needs) grown-requires-3 sorted-requires-3 (λ c. search needs) grown-requires-4 sorted-requires-4
+    (λ c. search needs) sorted-requires-5 (λ c. search needs) (λ c. search needs) (λ c. search needs) returns returns-2
+    returns-3 returns-4 returns-5 returns-6 returns-7 returns-8)

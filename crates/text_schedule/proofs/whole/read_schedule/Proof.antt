@@ -10,9 +10,6 @@ malformed-requires c κs = search needs
 returns : tie.Need-returns
 returns c = read-malformed _ _ (c .before .malformed .ensures) (c .if1 .taken)
 
-slice-aggregate-lay-moves : tie.Need-slice-aggregate-lay-moves
-slice-aggregate-lay-moves c = search needs
-
 lay-moves-requires : tie.Need-lay-moves-requires
 lay-moves-requires c κs = search needs
 
@@ -25,9 +22,6 @@ returns-2 c =
 lay-moves-requires-2 : tie.Need-lay-moves-requires-2
 lay-moves-requires-2 c κs = search needs
 
-same-length : tie.Need-same-length
-same-length c = search needs
-
 returns-3 : tie.Need-returns-3
 returns-3 c =
     let room = c .before .before .before .before in
@@ -39,12 +33,5 @@ returns-3 c =
 pub read-schedule-spec : {M : Type 1} → statement M
 read-schedule-spec =
     tie.close
-    (tie.spec
-    malformed-requires
-    returns
-    slice-aggregate-lay-moves
-    lay-moves-requires
-    returns-2
-    lay-moves-requires-2
-    same-length
-    returns-3)
+    (tie.spec malformed-requires returns (λ c. search needs) lay-moves-requires returns-2 lay-moves-requires-2
+    (λ c. search needs) returns-3)

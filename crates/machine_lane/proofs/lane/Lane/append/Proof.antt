@@ -12,17 +12,8 @@ use borrow.Author.Needs.{needs}
 use Rattle.machine_lane.proofs.lane.Lane.append.Statement.{statement}
 use Rattle.machine_lane.proofs.lane.Lane.append.Tie as tie
 
-cast-n : tie.Need-cast-n
-cast-n c = search needs
-
-mul-c : tie.Need-mul-c
-mul-c c = search needs
-
 array-write-c : tie.Need-array-write-c
 array-write-c c = let s = c .before .before in omega (arith, pending-length (s .args .self) _ (s .good .0))
-
-mul-v : tie.Need-mul-v
-mul-v c = search needs
 
 array-write-v : tie.Need-array-write-v
 array-write-v c = let s = c .before .before .before in omega (arith, pending-length (s .args .self) _ (s .good .0))
@@ -49,4 +40,5 @@ returns c =
     }
 
 pub append-spec : {M : Type 1} → statement M
-append-spec = tie.close (tie.spec cast-n mul-c array-write-c mul-v array-write-v add-self returns)
+append-spec = tie.close
+    (tie.spec (λ c. search needs) (λ c. search needs) array-write-c (λ c. search needs) array-write-v add-self returns)

@@ -4,9 +4,10 @@ use Prim.Native.Nat.{suc, _≤_, _<_, _-_}
 use native.Mathlib.Numerals.{add-one}
 use native.Mathlib.Omega.{arith}
 use lib.ListN.{length, take, length-set}
+use Rattle.laws.proofs.Parts.{take-length-take}
 use Rattle.machine_spec.specs.Entries.{without}
 use Rattle.machine_lane.specs.Lanes.{entriesOf}
-use Rattle.machine_lane.proofs.Laws.Entries.{entries-length, moved-down, shifted, take-length-take}
+use Rattle.machine_lane.proofs.Laws.Entries.{entries-length, moved-down, shifted}
 use Rattle.machine_lane.proofs.Laws.Lanes.{cells-length, values-length, lane-eq}
 use borrow.Author.Needs.{needs}
 use Rattle.machine_lane.proofs.lane.Lane.commit.Statement.{statement}
@@ -20,12 +21,6 @@ Inv-loop self index last c₀ v₀ i₀ c v i =
 abbrev μ-loop : tie.MeasureT-loop
 μ-loop self index last c₀ v₀ i₀ c v i = last - i
 
-count-requires : tie.Need-count-requires Inv-loop μ-loop
-count-requires c κs = search needs
-
-sub-last : tie.Need-sub-last Inv-loop μ-loop
-sub-last c = search needs
-
 loop-holds : tie.Need-loop-holds Inv-loop μ-loop
 loop-holds c =
     let l = c .before .before .before .args .self in (
@@ -36,39 +31,6 @@ loop-holds c =
       omega arith,
       refl,
     )
-
-add-c : tie.Need-add-c Inv-loop μ-loop
-add-c c = search needs
-
-mul-c : tie.Need-mul-c Inv-loop μ-loop
-mul-c c = search needs
-
-array-read-c : tie.Need-array-read-c Inv-loop μ-loop
-array-read-c c = search needs
-
-mul-c-2 : tie.Need-mul-c-2 Inv-loop μ-loop
-mul-c-2 c = search needs
-
-array-write-c : tie.Need-array-write-c Inv-loop μ-loop
-array-write-c c = search needs
-
-add-v : tie.Need-add-v Inv-loop μ-loop
-add-v c = search needs
-
-mul-v : tie.Need-mul-v Inv-loop μ-loop
-mul-v c = search needs
-
-array-read-v : tie.Need-array-read-v Inv-loop μ-loop
-array-read-v c = search needs
-
-mul-v-2 : tie.Need-mul-v-2 Inv-loop μ-loop
-mul-v-2 c = search needs
-
-array-write-v : tie.Need-array-write-v Inv-loop μ-loop
-array-write-v c = search needs
-
-add-i : tie.Need-add-i Inv-loop μ-loop
-add-i c = search needs
 
 loop-less : tie.Need-loop-less Inv-loop μ-loop
 loop-less c = omega arith
@@ -84,9 +46,6 @@ loop-again c =
       l .inv .4,
       rw add-one (moved-down (l .c) (l .v) (l .i) (l .inv .0) (l .inv .1) h ∙ l .inv .5),
     )
-
-cast-self : tie.Need-cast-self Inv-loop μ-loop
-cast-self c = search needs
 
 returns : tie.Need-returns Inv-loop μ-loop
 returns c =
@@ -107,6 +66,8 @@ returns c =
 
 pub commit-spec : {M : Type 1} → statement M
 commit-spec =
-    tie.close (tie.spec Inv-loop μ-loop count-requires sub-last loop-holds add-c mul-c array-read-c mul-c-2
-    array-write-c add-v mul-v array-read-v mul-v-2 array-write-v add-i loop-less loop-again cast-self
-    returns)
+    tie.close
+    (tie.spec Inv-loop μ-loop (λ c κs. search needs) (λ c. search needs) loop-holds (λ c. search needs)
+    (λ c. search needs) (λ c. search needs) (λ c. search needs) (λ c. search needs) (λ c. search needs)
+    (λ c. search needs) (λ c. search needs) (λ c. search needs) (λ c. search needs) (λ c. search needs) loop-less
+    loop-again (λ c. search needs) returns)

@@ -5,9 +5,6 @@ use borrow.Author.Needs.{needs}
 use Rattle.machine_lane.proofs.lane.Lane.count.Statement.{statement}
 use Rattle.machine_lane.proofs.lane.Lane.count.Tie as tie
 
-cast-n : tie.Need-cast-n
-cast-n c = search needs
-
 returns : tie.Need-returns
 returns c = (omega (arith, pending-length (c .before .before .args .self) _ (c .before .before .good .0)), omega arith)
 
@@ -16,4 +13,4 @@ returns-2 c =
     (omega (arith, pending-length (c .before .before .args .self) _ (c .before .before .good .0)), omega arith)
 
 pub count-spec : {M : Type 1} → statement M
-count-spec = tie.close (tie.spec cast-n returns returns-2)
+count-spec = tie.close (tie.spec (λ c. search needs) returns returns-2)

@@ -4,9 +4,9 @@ use Prim.Native.Nat.{suc, _≤_, _-_}
 use native.Mathlib.Omega.{arith}
 use borrow.Author.Tests.{eq-eqb, ne-eqb}
 use lib.ListN.{take}
+use Rattle.laws.proofs.Parts.{take-length-take}
 use Rattle.machine_spec.specs.Entries.{newest}
 use Rattle.machine_lane.specs.Lanes.{entriesOf}
-use Rattle.machine_lane.proofs.Laws.Entries.{take-length-take}
 use Rattle.machine_lane.proofs.Laws.Lanes.{cells-length, values-length}
 use Rattle.machine_lane.proofs.Laws.Searches.{newest-on}
 use borrow.Author.Needs.{needs}
@@ -32,21 +32,6 @@ loop-holds c =
       ap (newest (a .cell) (a .otherwise))
           (ap (λ n. take n es) (c .count .ensures .0) ∙ take-length-take (a .self .len) es),
     )
-
-sub-i : tie.Need-sub-i Inv-loop μ-loop
-sub-i c = search needs
-
-mul-if1 : tie.Need-mul-if1 Inv-loop μ-loop
-mul-if1 c = search needs
-
-array-read-if1 : tie.Need-array-read-if1 Inv-loop μ-loop
-array-read-if1 c = search needs
-
-mul-value : tie.Need-mul-value Inv-loop μ-loop
-mul-value c = search needs
-
-array-read-value : tie.Need-array-read-value Inv-loop μ-loop
-array-read-value c = search needs
 
 returns : tie.Need-returns Inv-loop μ-loop
 returns c =
@@ -91,5 +76,6 @@ returns-2 c =
 
 pub newest-spec : {M : Type 1} → statement M
 newest-spec =
-    tie.close (tie.spec Inv-loop μ-loop count-requires loop-holds sub-i mul-if1 array-read-if1 mul-value
-    array-read-value returns loop-less loop-again returns-2)
+    tie.close
+    (tie.spec Inv-loop μ-loop count-requires loop-holds (λ c. search needs) (λ c. search needs) (λ c. search needs)
+    (λ c. search needs) (λ c. search needs) returns loop-less loop-again returns-2)

@@ -1,2 +1,0 @@
--- Told: a run that is told move by move.
-pub mod Told
