@@ -1,4 +1,4 @@
--- Small lanes and their parts of both sheets, and the bytes of a small sheet, by computation.
+-- Small lanes and their parts of both sheets, and the bytes of a small sheet at each level, by computation.
 use Prim.Native.Nat.{ℕ}
 use mathlib.Core.Path.{_≡_, refl}
 use mathlib.Core.Bool.{Bool}
@@ -10,7 +10,7 @@ use Rattle.file_format.specs.Accepted.{Program}
 use Rattle.barrier_placement.specs.declared.cookbook.Barrier.the-variants.{LL, LS, SS, SL}
 use Rattle.barrier_placement.specs.Place.{stands, due, dueAfter}
 use Rattle.sheet_format.specs.Layout.{Instr, op, barrier, sheet}
-use Rattle.sheet_format.specs.declared.Level.the-variants.{Level1, Level2}
+use Rattle.sheet_format.specs.declared.Level.the-variants.{Level0, Level1, Level2}
 use Rattle.sheet_format.specs.Levels.{placed, sheetLanes}
 use Rattle.sheet_format.specs.declared.WriteResult.the-variants.{Wrote, Refuses}
 use Rattle.sheet_format.specs.Bytes.{sheetBytes, writeInto}
@@ -87,6 +87,14 @@ kernel = record {
   lanes = (Store 3 1 ∷ Load 4 1 ∷ []) ∷ (Set 5 258 ∷ []) ∷ [];
 }
 
+-- level 0 has the operations alone, and the mask
+abbrev bare : List ℕ
+bare =
+    2 ∷ 2 ∷ 0 ∷ 0 ∷ 2 ∷ 0 ∷ 0 ∷ 0 ∷ 2 ∷ 0 ∷ 1 ∷ 0 ∷ 0 ∷ 0 ∷ 0 ∷ 0
+    ∷ 4 ∷ 3 ∷ 1 ∷ 0 ∷ 0 ∷ 0 ∷ 0 ∷ 0
+    ∷ 3 ∷ 4 ∷ 1 ∷ 0 ∷ 0 ∷ 0 ∷ 0 ∷ 0
+    ∷ 1 ∷ 5 ∷ 0 ∷ 0 ∷ 2 ∷ 1 ∷ 0 ∷ 0 ∷ []
+
 abbrev first : List ℕ
 first =
     2 ∷ 2 ∷ 0 ∷ 1 ∷ 2 ∷ 0 ∷ 0 ∷ 0 ∷ 3 ∷ 0 ∷ 1 ∷ 0 ∷ 0 ∷ 0 ∷ 0 ∷ 0
@@ -104,7 +112,7 @@ second =
     ∷ 3 ∷ 4 ∷ 1 ∷ 0 ∷ 0 ∷ 0 ∷ 0 ∷ 0
     ∷ 1 ∷ 5 ∷ 0 ∷ 0 ∷ 2 ∷ 1 ∷ 0 ∷ 0 ∷ []
 
-bytes-hold : sheetBytes Level1 kernel ∷ sheetBytes Level2 kernel ∷ [] ≡ first ∷ second ∷ []
+bytes-hold : map (λ l. sheetBytes l kernel) (Level0 ∷ Level1 ∷ Level2 ∷ []) ≡ bare ∷ first ∷ second ∷ []
 unfolding sheetBytes stands due dueAfter
 bytes-hold = refl
 
