@@ -2,8 +2,8 @@
  *
  * A kernel file, a schedule and an output buffer are each a pointer and a length in bytes. A pointer is never NULL,
  * also where the length is 0. The buffers of one call do not overlap. A call keeps no pointer and needs no memory but
- * stack: measured on x86-64 and the longest kernel, lanes_lower1 4,248 bytes, lanes_lower2 19,976, lanes_run_source
- * 11,832 and lanes_run_tso 28,664.
+ * stack: measured on x86-64 and the longest kernel, lanes_lower1 and lanes_lower2 5,008 bytes, lanes_run_source 12,344
+ * and lanes_run_tso 14,224.
  *
  * Answer: a success is the number of bytes written, below 2^32. A refusal is number * 2^32 + record, the record being
  * 0 where none is named. After a refusal the output buffer is as it was; after a success the bytes behind the result
@@ -27,16 +27,16 @@
 extern "C" {
 #endif
 
-/* What every sheet of a level fits in: 16 bytes and 8 for each instruction, of which a lane has at most five for each
- * of its 64 records at level 1, and at most two at level 2. */
-#define LANES_SHEET1_MAX 10256
+/* What every sheet of a level fits in: 16 bytes and 8 for each instruction, of which a lane has at most three for each
+ * of its 64 records at level 1, since at most two barriers stand before an access, and at most two at level 2. */
+#define LANES_SHEET1_MAX 6160
 #define LANES_SHEET2_MAX 4112
 
 /* A state record has this many bytes. */
 #define LANES_STATE_SIZE 2280
 
 /* Stack that is enough for every call, in bytes. */
-#define LANES_STACK 32768
+#define LANES_STACK 16384
 
 /* The number of a refusal, 0 for a success; and the record that it names. */
 #define LANES_NUMBER(answer) ((uint32_t)((answer) >> 32))

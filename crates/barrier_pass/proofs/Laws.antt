@@ -1,2 +1,4 @@
 -- Laws by subject.
-pub mod Classes
+pub mod Known
+pub mod Plan
+pub mod Read

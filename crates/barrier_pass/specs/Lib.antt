@@ -1,2 +1,3 @@
--- The class of a step as a number.
-pub mod Classes
+-- Known: what the pass knows of a step, as a number; Plan: a lane's plan as numbers.
+pub mod Known
+pub mod Plan

@@ -1,4 +1,4 @@
 // Placement of the cookbook's barriers in a lane that is given as rows. `place::place_lane` is the entry.
 pub mod place;
-pub mod steps;
-mod table;
+mod steps;
+pub mod table;

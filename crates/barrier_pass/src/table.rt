@@ -1,22 +1,24 @@
-// What the cookbook's table calls for, a number for each class of the earlier access.
+// The tables of the pass: what it knows of a step, from the cookbook's table, and how many instructions an operation
+// makes with a set of barriers.
 use barrier_placement::cookbook::Class;
 use barrier_placement::cookbook::cell;
 ghost use mathlib.Core.Path.{_≡_};
-ghost use Prim.Native.Nat.{_≤_};
+ghost use Prim.Native.Nat.{_+_, _*_, _≤_};
 ghost use Rattle.barrier_placement.specs.Cookbook.{cell as cellOf};
 ghost use Rattle.barrier_placement.specs.Placed.{setOf, rowNumber};
-ghost use Rattle.barrier_pass.specs.Classes.{callTable};
+ghost use Rattle.barrier_pass.specs.Known.{knownTable};
+ghost use Rattle.barrier_pass.specs.Plan.{Widths};
 
 // The barrier that an access of class c calls for before one of class d, as a set; the codes go from 11 up.
-fn cell_set(c: Class, d: Class) -> u16
+fn cell_set(c: Class, d: Class) -> u32
     ensures { λ r. ⌜ (r ≡ setOf (cellOf c d)) × (r ≤ 8) ⌝ }
 {
     (1 << cell(c, d)) >> 11
 }
 
 // All that an access of class c calls for.
-fn row(c: Class) -> u16
-    ensures { λ r. ⌜ r ≡ rowNumber c ⌝ }
+fn row(c: Class) -> u32
+    ensures { λ r. ⌜ (r ≡ rowNumber c) × (r ≤ 34952) ⌝ }
 {
     let pl = cell_set(c, Class::PL);
     let ps = cell_set(c, Class::PS);
@@ -25,15 +27,56 @@ fn row(c: Class) -> u16
     pl + 16 * ps + 256 * vl + 4096 * vs
 }
 
-// By the class of a step, with nothing for a step that is no access.
-pub(crate) fn call_table() -> [u16; 5]
-    ensures { λ r. ⌜ r ≡ callTable ⌝ }
+// By operation code, at a plain location and then at a volatile one.
+pub fn known_table() -> [u32; 16]
+    ensures { λ r. ⌜ r ≡ knownTable ⌝ }
+{
+    let none = 16;
+    let pl = 32 * row(Class::PL);
+    let ps = 4 + 32 * row(Class::PS);
+    let vl = 8 + 32 * row(Class::VL);
+    let vs = 12 + 32 * row(Class::VS);
+    [
+        none,
+        none,
+        none,
+        pl,
+        ps,
+        vl,
+        vs,
+        none,
+        none,
+        none,
+        none,
+        vl,
+        vs,
+        vl,
+        vs,
+        none,
+    ]
+}
+
+// By the set of the barriers that stand before an operation: 16 times the instructions that it makes with them at level
+// 1, and 8,192 times those at level 2.
+pub fn width_table() -> [u32; 16]
+    ensures { λ r. ⌜ Widths r ⌝ }
 {
     [
-        row(Class::PL),
-        row(Class::PS),
-        row(Class::VL),
-        row(Class::VS),
-        0,
+        0x2010,
+        0x2020,
+        0x2020,
+        0x2030,
+        0x2020,
+        0x2030,
+        0x2030,
+        0x2040,
+        0x4020,
+        0x4030,
+        0x4030,
+        0x4040,
+        0x4030,
+        0x4040,
+        0x4040,
+        0x4050,
     ]
 }

@@ -1,49 +1,21 @@
 -- The computed placement has the paper's sentence, on every chain whose skips go forward.
 use Prim.Native.Nat.{ℕ, zero, suc, _<_, _≤_}
-use native.Mathlib.Nat.{not-suc-le-zero, le-of-suc-le-suc, eq-or-lt-of-le}
+use native.Mathlib.Nat.{not-suc-le-zero}
 use native.Mathlib.Omega.{arith}
 use mathlib.Core.Path.{_≡_, refl, sym, ap, _∙_, subst}
-use mathlib.Core.Bool.{true, false, not, _&&_, _||_, false≢true}
-use mathlib.Core.List.{List}
+use mathlib.Core.Bool.{true, false, not, _&&_}
 use mathlib.Core.Option.{some}
 use mathlib.Core.Logic.{_⊎_, inl, inr}
-use lib.ListN.{length, getD}
+use lib.ListN.{length}
 use borrow.Author.Tests.{not-true}
 use Rattle.laws.proofs.Bools.{or-true, or-left, or-right, and-true, both-true}
 use Rattle.barrier_placement.specs.Cookbook.{Class, Barrier, cell}
 use Rattle.barrier_placement.specs.Chain.{Step, Access, Chain, at, Next, Path, edge, more, Between, Forward}
-use Rattle.barrier_placement.specs.Place.{Classes, has, noClasses, standsAt, raises, after, leads, arrives}
-use Rattle.barrier_placement.specs.Place.{dueAfter, due, stands}
+use Rattle.barrier_placement.specs.Place.{standsAt, raises, after, dueAfter, due, stands}
 use Rattle.barrier_placement.specs.Sentence.{Open, Sentence}
 use Rattle.barrier_placement.proofs.Laws.Cookbook.{cell-calls}
 use Rattle.barrier_placement.proofs.Laws.Place.{leads-next, next-leads, raised, stands-class, access-inside}
-use Rattle.barrier_placement.proofs.Laws.DueAfter.{due-after-has}
-
--- a position below k leads to p, and something is due after it before a class d
-abbrev Found : Chain → List Classes → ℕ → ℕ → Class → Type 0
-Found s rows k p d = (q : ℕ) × (q < k) × (leads s q p ≡ true) × (has (getD rows q noClasses) d ≡ true)
-
-arrives-from : (s : Chain) (rows : List Classes) (k p : ℕ) (d : Class) → arrives s rows k p d ≡ true
-    → Found s rows k p d
-arrives-from s rows zero p d h = absurd (false≢true h)
-arrives-from s rows (suc k) p d h = go (arrives-from s rows k p d) (or-true _ _ h)
-  where
-    go : (arrives s rows k p d ≡ true → Found s rows k p d)
-        → ((leads s k p && has (getD rows k noClasses) d) ≡ true) ⊎ (arrives s rows k p d ≡ true)
-        → Found s rows (suc k) p d
-    go ih (inl a) = let f = and-true _ _ a in (k, omega arith, f .0, f .1)
-    go ih (inr a) = let f = ih a in (f .0, omega (arith, f .1), f .2, f .3)
-
-arrives-of : (s : Chain) (rows : List Classes) (k p : ℕ) (d : Class) → Found s rows k p d → arrives s rows k p d ≡ true
-arrives-of s rows zero p d f = absurd (not-suc-le-zero (f .1))
-arrives-of s rows (suc k) p d f = go (arrives-of s rows k p d) (eq-or-lt-of-le (le-of-suc-le-suc (f .1)))
-  where
-    go : (Found s rows k p d → arrives s rows k p d ≡ true) → (f .0 ≡ k) ⊎ (f .0 < k)
-        → arrives s rows (suc k) p d ≡ true
-    go ih (inl e) =
-        subst (λ (x : ℕ). ((leads s x p && has (getD rows x noClasses) d) || arrives s rows k p d) ≡ true) e
-        (or-left _ (arrives s rows k p d) (both-true _ _ (f .2) (f .3)))
-    go ih (inr b) = or-right (leads s k p && has (getD rows k noClasses) d) _ (ih (f .0, b, f .2, f .3))
+use Rattle.barrier_placement.proofs.Laws.DueAfter.{due-after-has, arrives-from, arrives-of}
 
 module _ (s : Chain) (b : Barrier) where
   -- an access that calls for b before the class d, and a path from it to p on which no b stands

@@ -7,7 +7,7 @@ pub mod Place
 pub mod DueAfter
 pub mod Pass
 pub mod Chosen
+pub mod Kinds
 pub mod Layout
 pub mod Items
 pub mod Traces
-pub mod Plan

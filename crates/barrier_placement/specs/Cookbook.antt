@@ -1,6 +1,6 @@
 -- The cookbook table: which barrier an earlier access and a later one call for.
 use Prim.Native.Nat.{ℕ}
-use mathlib.Core.Bool.{Bool, false}
+use mathlib.Core.Bool.{Bool, true, false}
 use mathlib.Core.Option.{Option, none, some}
 use lib.Dec.{eqb}
 pub use Rattle.barrier_placement.specs.declared.cookbook.Class.{Class}
@@ -46,3 +46,14 @@ holds (some a) b = same a b
 -- the test: the cell of the two classes is b
 abbrev pub calls : Barrier → Class → Class → Bool
 calls b c d = holds (cell c d) b
+
+-- a barrier's second letter: it stands before a load, or else before a store
+abbrev pub beforeLoad : Barrier → Bool
+beforeLoad LL = true
+beforeLoad LS = false
+beforeLoad SS = false
+beforeLoad SL = true
+
+-- an access of the class is a load, or else a store
+abbrev pub isLoad : Class → Bool
+isLoad = column true false true false

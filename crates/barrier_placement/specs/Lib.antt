@@ -8,5 +8,4 @@ pub mod Place
 pub mod Placed
 pub mod Layout
 pub mod Sheet
-pub mod Plan
 pub mod CookbookExamples

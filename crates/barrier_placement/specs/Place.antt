@@ -94,3 +94,8 @@ example = refl
 skipped : before (Access VL ∷ Skip 3 ∷ Access PS ∷ Access VS ∷ []) 3 ≡ LS ∷ SS ∷ []
 unfolding stands due dueAfter
 skipped = refl
+
+-- the volatile load and the volatile store each call for a barrier before the last load
+two : before (Access VL ∷ Access VS ∷ Access VL ∷ []) 2 ≡ LL ∷ SL ∷ []
+unfolding stands due dueAfter
+two = refl

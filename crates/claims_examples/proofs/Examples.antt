@@ -8,7 +8,7 @@ use Rattle.file_format.specs.Linkage.{chain, walkOf, badLinkage, linkageFrom, c
 use Rattle.file_format.specs.Targets.{member, badTarget, unreachableTarget, position}
 use Rattle.file_format.specs.Accepted.{opOf, opsFrom}
 use Rattle.file_format.specs.Held.{heldFrom, same, conflictBelow, faultAt, faultPosition, recordAt, lockFault}
-use Rattle.file_verdict.specs.Verdict.{structureThen, refusalOf}
+use Rattle.file_verdict.specs.Verdict.{fieldsThen, structureThen, refusalOf}
 use Rattle.barrier_placement.specs.Place.{stands, due, dueAfter}
 use Rattle.sheet_format.specs.Bytes.{sheetBytes}
 use Rattle.sheet_format.specs.Read.{readSheet}
@@ -24,8 +24,9 @@ use Rattle.claims_examples.specs.Table.{table, Each, end, _▸_}
 use Rattle.claims_examples.proofs.Never.{never-on-tso, never-on-source}
 
 pub examples : Each table
-unfolding table refusalOf structureThen headerRule headRule badRecord recordRule limitA limitB limitConstant limitTarget
-    lowest firstOf badLinkage linkageFrom chain member walkOf chainTooLong badTarget unreachableTarget lockFault
+unfolding table refusalOf structureThen fieldsThen headerRule headRule badRecord recordRule limitA limitB limitConstant
+    limitTarget lowest firstOf badLinkage linkageFrom chain member walkOf chainTooLong badTarget unreachableTarget
+    lockFault
     position
     opOf opsFrom recordAt faultPosition faultAt conflictBelow heldFrom same stands due dueAfter sheetBytes readSheet
     inTurn entriesBytes stateLane headBytes recordOf

@@ -23,8 +23,8 @@ recordsIn order ends t = take (countOf ends t) (drop (beginOf ends t) order)
 -- The lanes' chains stand in the order one behind the other. Each of the file's records stands in it once, and its
 -- place is one more than its index there.
 pub record Ordered (s order place ends : List ℕ) : Type 0 where
-  pub order-room : length order ≡ 257
-  pub place-room : length place ≡ 257
+  pub order-room : recordCount s ≤ length order
+  pub place-room : recordCount s < length place
   pub four : length ends ≡ 4
   pub rising : (t : ℕ) → t < 4 → beginOf ends t ≤ getD ends t 0
   pub all : getD ends 3 0 ≡ recordCount s

@@ -4,16 +4,20 @@ use mathlib.Core.Path.{_≡_}
 use mathlib.Core.Bool.{Bool, false, not, cond}
 use mathlib.Core.List.{List, [], _++_, map}
 use lib.Dec.{eqb}
-use lib.ListN.{length, getD, take}
+use lib.ListN.{length, getD, take, replicate}
 use Rattle.file_format.specs.Fields.{recordCount, head}
 use Rattle.file_format.specs.Linkage.{chain, walked, walkOf}
+
+-- the places of 257 records, 0 for those that the array has no room for
+abbrev pub padded : List ℕ → List ℕ
+padded place = take 257 (place ++ replicate 257 0)
 
 -- the flags of a walk: the records that have a place
 abbrev pub given : ℕ → Bool
 given x = not (eqb x 0)
 
-abbrev pub met : List ℕ → List Bool
-met place = map given place
+unfoldable pub met : List ℕ → List Bool
+met place = map given (padded place)
 
 abbrev pub bit : Bool → ℕ
 bit b = cond b 1 0
@@ -30,8 +34,8 @@ fronts s (suc t) = fronts s t ++ chain s 257 (head s t)
 
 -- The order has n records, each once, and these are the records that have a place.
 pub record Filling (s order place : List ℕ) (n : ℕ) : Type 0 where
-  pub order-room : length order ≡ 257
-  pub place-room : length place ≡ 257
+  pub order-room : recordCount s ≤ length order
+  pub place-room : recordCount s < length place
   pub counted : tally (met place) 1 (recordCount s) ≡ n
   pub named : (j : ℕ) → j < n → (1 ≤ getD order j 0) × (getD order j 0 ≤ recordCount s)
   pub placed : (j : ℕ) → j < n → getD place (getD order j 0) 0 ≡ j + 1

@@ -1,8 +1,8 @@
 // The lanes of a file walked one after the other: the order of its records, and each record's place in it (refusal 5).
 ghost use mathlib.Core.Path.{_≡_};
 ghost use mathlib.Core.Bool.{false, not};
-ghost use Prim.Native.Nat.{_≤_};
-ghost use lib.ListN.{getD, replicate};
+ghost use Prim.Native.Nat.{_≤_, _<_};
+ghost use lib.ListN.{length, getD, replicate};
 ghost use Rattle.file_format.specs.Fields.{recordCount};
 ghost use Rattle.file_format.specs.Rules.{badRecord};
 ghost use Rattle.file_format.specs.Structured.{Fielded};
@@ -21,7 +21,7 @@ pub struct Along {
 }
 
 // Walks the chain of record h, and puts each record behind the k that the order has.
-fn walk(s: &[u8], h: usize, k: usize, order: &mut [u16; 257], place: &mut [u16; 257]) -> Along
+fn walk(s: &[u8], h: usize, k: usize, order: &mut [u16], place: &mut [u16]) -> Along
     requires { ⌜ (h ≤ recordCount (now s)) × (recordCount (now s) ≤ 256) × (badRecord (now s) ≡ 0)
         × Filling (now s) (now order) (now place) k ⌝ }
     ensures { λ r. ⌜ LaneWalked (now (s .entry)) h k (now (order .entry)) (now (place .entry))
@@ -42,8 +42,8 @@ fn walk(s: &[u8], h: usize, k: usize, order: &mut [u16; 257], place: &mut [u16; 
 }
 
 // The lowest of the n records that has no place, or 0.
-fn left_over(n: usize, place: &[u16; 257]) -> usize
-    requires { ⌜ n ≤ 256 ⌝ }
+fn left_over(n: usize, place: &[u16]) -> usize
+    requires { ⌜ (n ≤ 256) × (n < length (now place)) ⌝ }
     ensures { λ r. ⌜ r ≡ lowest (λ i. not (getD (met (now (place .entry))) i false)) 1 n ⌝ }
 {
     let e = n + 1;
@@ -64,9 +64,10 @@ pub struct Linked {
 }
 
 // Walks the lanes: the order of the records, and each record's place in it, which a refusal leaves open, and the ends.
-pub fn link(s: &[u8], order: &mut [u16; 257], place: &mut [u16; 257]) -> Linked
+pub fn link(s: &[u8], order: &mut [u16], place: &mut [u16]) -> Linked
     requires fields { ⌜ Fielded (now s) ⌝ }
-    requires blank { ⌜ (now order ≡ replicate 257 0) × (now place ≡ replicate 257 0) ⌝ }
+    requires room { ⌜ (recordCount (now s) ≤ length (now order)) × (recordCount (now s) < length (now place)) ⌝ }
+    requires blank { ⌜ now place ≡ replicate (length (now place)) 0 ⌝ }
     ensures bad { λ r. ⌜ r .bad ≡ badLinkage (now (s .entry)) ⌝ }
     ensures order { λ r. ⌜ (badLinkage (now (s .entry)) ≡ 0
         → Ordered (now (s .entry)) (now (order .exit)) (now (place .exit)) (r .ends)) ⌝ }

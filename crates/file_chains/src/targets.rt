@@ -13,7 +13,7 @@ use file_format::fields::wide_word;
 use file_format::fields::word_at;
 
 // The 65th record of the first lane of the file that has one, or 0.
-pub fn too_long(s: &[u8], order: &[u16; 257], ends: &[usize; 4]) -> usize
+pub fn too_long(s: &[u8], order: &[u16], ends: &[usize; 4]) -> usize
     requires { ⌜ ((place : List ℕ) × Ordered (now s) (now order) place (now ends)) ⌝ }
     ensures { λ r. ⌜ r ≡ chainTooLong (now (s .entry)) ⌝ }
 {
@@ -50,7 +50,7 @@ fn reaches(ends: &[usize; 4], j: usize, z: usize) -> bool
 }
 
 // The target of record i is neither zero nor later in its lane.
-fn strays(s: &[u8], place: &[u16; 257], ends: &[usize; 4], i: usize) -> bool
+fn strays(s: &[u8], place: &[u16], ends: &[usize; 4], i: usize) -> bool
     requires { ⌜ (recordCount (now s) ≤ 256) × (badRecord (now s) ≡ 0) × (1 ≤ i) × (i ≤ recordCount (now s)) ⌝ }
     requires { ⌜ (chainTooLong (now s) ≡ 0) × ((order : List ℕ) × Ordered (now s) order (now place) (now ends)) ⌝ }
     ensures { λ r. ⌜ r ≡ unreachableTarget (now (s .entry)) i ⌝ }
@@ -63,7 +63,7 @@ fn strays(s: &[u8], place: &[u16; 257], ends: &[usize; 4], i: usize) -> bool
 }
 
 // The lowest SKIP whose target is neither zero nor later in its lane, or 0.
-pub fn bad_target(s: &[u8], place: &[u16; 257], ends: &[usize; 4]) -> usize
+pub fn bad_target(s: &[u8], place: &[u16], ends: &[usize; 4]) -> usize
     requires { ⌜ Fielded (now s) ⌝ }
     requires { ⌜ (chainTooLong (now s) ≡ 0) × ((order : List ℕ) × Ordered (now s) order (now place) (now ends)) ⌝ }
     ensures { λ r. ⌜ r ≡ badTarget (now (s .entry)) ⌝ }

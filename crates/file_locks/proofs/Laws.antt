@@ -1,4 +1,4 @@
--- Held: positions and operations; Locks: sets of locks as numbers; Sets: what SKIPs lead where; Pass: the loop; Order:
+-- Held: positions and operations; Locks: sets and ways as numbers; Sets: what SKIPs lead where; Pass: the loop; Order:
 -- the lanes in the order.
 pub mod Held
 pub mod Locks

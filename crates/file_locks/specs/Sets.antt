@@ -1,10 +1,10 @@
--- What the held-set check of a lane computes on its way: sets of locks as numbers, and what SKIPs lead to a position.
-use Prim.Native.Nat.{ℕ, _+_, _*_, _/_, _%_, _^_}
+-- What the held-set check of a lane computes on its way: sets of locks, and the ways to a position, as numbers.
+use Prim.Native.Nat.{ℕ, _+_, _-_, _*_, _/_, _%_, _^_}
 use mathlib.Core.List.{List, [], _∷_}
-use mathlib.Core.Bool.{Bool, false, not, cond, _&&_, _||_}
+use mathlib.Core.Bool.{Bool, not, cond, _||_}
 use mathlib.Core.Option.{Option, none, some}
-use lib.Bits.{bitOr, bitAnd, bitXor}
-use lib.Dec.{eqb, ltb}
+use lib.Bits.{bitAnd, bitXor}
+use lib.Dec.{eqb}
 use mir.Val.{boolByte}
 use Rattle.file_format.specs.declared.accepted.Op.{Op}
 use Rattle.file_format.specs.Held.{jumpFrom}
@@ -28,21 +28,31 @@ hasLock h l = eqb (h / 2 ^ l % 2) 1
 abbrev pub locksIn : ℕ → List Bool
 locksIn h = hasLock h 0 ∷ hasLock h 1 ∷ hasLock h 2 ∷ hasLock h 3 ∷ []
 
--- the set of one lock
-abbrev pub bitFor : ℕ → ℕ
-bitFor l = cond (ltb l 4) (1 * 2 ^ l % 256) 0
+-- two sets have a lock in common
+abbrev pub meets : ℕ → ℕ → Bool
+meets h g = not (eqb (bitAnd h g) 0)
 
--- The set h after one lock is taken or freed, or neither; 16 more where it is taken and was held, or freed and was not.
-abbrev pub stepNumber : ℕ → ℕ → Bool → Bool → ℕ
-stepNumber h bit takes frees =
-    let held : Bool = not (eqb (bitAnd h bit) 0) in
-    bitOr (bitXor h (bit * boolByte (takes || frees))) (boolByte ((takes && held) || (frees && not held)) * 2 ^ 4 % 256)
+-- The ways to a position as one number: bit l is up where some way holds lock l, bit 4 + l where some way does not.
+-- Ways to one position are joined by `bitOr`. These all hold the set h.
+abbrev pub ways : ℕ → ℕ
+ways h = h + 16 * (15 - h)
 
--- What SKIPs lead to a position: 0 for nothing, 16 and the number of the set, 255 for sets that differ. One SKIP more
--- comes with the set h.
-abbrev pub bring : ℕ → ℕ → ℕ
-bring led h = cond (eqb led 0) (16 + h) (cond (eqb led (16 + h)) led 255)
+-- some lock is held on one way and not on another
+abbrev pub differ : ℕ → Bool
+differ w = meets w (w / 2 ^ 4)
 
--- it is another set than the position's set h
-abbrev pub conflictsLed : ℕ → ℕ → Bool
-conflictsLed led h = cond (eqb led 0) false (not (eqb led (16 + h)))
+-- the set of the lock that an operation of this code and operand takes or frees; no lock for other codes
+abbrev pub lockBit : ℕ → ℕ → ℕ
+lockBit code b = boolByte (eqb code 5 || eqb code 6) * 2 ^ (b % 4) % 2 ^ 8
+
+-- the locks that the operation may not name: those held for a LOCK, those not held for an UNLOCK
+abbrev pub barred : ℕ → ℕ → ℕ
+barred w code = cond (eqb code 5) w (w / 2 ^ 4)
+
+-- the ways differ, or the operation breaks the rule
+abbrev pub wrongAt : ℕ → ℕ → ℕ → Bool
+wrongAt w code bit = differ w || meets (barred w code) bit
+
+-- the ways after an operation that takes or frees the lock of `bit`: its two bits change places
+abbrev pub afterRow : ℕ → ℕ → ℕ
+afterRow w bit = bitXor w (17 * bit)

@@ -20,7 +20,7 @@ recordRow s r q =
 -- record r lies in the file, and its target leads on in a lane of n records, the first of which stands at `begin`
 pub record RecordIn (s place : List ℕ) (begin n r : ℕ) : Type 0 where
   pub whole : start r + 12 ≤ length s
-  pub aimed : target s r ≤ 256
+  pub aimed : target s r < length place
   pub later : ¬ target s r ≡ 0 → begin + 1 ≤ getD place (target s r) 0
   pub landed : landingIn place begin n (target s r) < 256
 

@@ -14,8 +14,8 @@ use file_format::fields::wide_word;
 use sheet_rows::put::copy_eight;
 
 // The position in a lane of n records, the first at `begin` in the order, to which target x leads.
-fn landing(place: &[u16; 257], begin: usize, n: usize, x: usize) -> usize
-    requires { ⌜ (x ≤ 256) × (¬ x ≡ 0 → begin + 1 ≤ getD (now place) x 0) ⌝ }
+fn landing(place: &[u16], begin: usize, n: usize, x: usize) -> usize
+    requires { ⌜ (x < length (now place)) × (¬ x ≡ 0 → begin + 1 ≤ getD (now place) x 0) ⌝ }
     ensures { λ r. ⌜ r ≡ landingIn (now (place .entry)) begin n x ⌝ }
 {
     if x == 0 {
@@ -26,15 +26,7 @@ fn landing(place: &[u16; 257], begin: usize, n: usize, x: usize) -> usize
 }
 
 // The row of record r from `at` on: its first eight bytes, of a SKIP with the position that it leads to.
-fn put_record(
-    out: &mut [u8],
-    at: usize,
-    s: &[u8],
-    r: usize,
-    place: &[u16; 257],
-    begin: usize,
-    n: usize,
-)
+fn put_record(out: &mut [u8], at: usize, s: &[u8], r: usize, place: &[u16], begin: usize, n: usize)
     requires room { ⌜ at + 8 ≤ length (now out) ⌝ }
     requires known { ⌜ RecordIn (now s) (now place) begin n r ⌝ }
     ensures { λ q. ⌜ now (out .exit) ≡ sets (now (out .entry)) at
@@ -52,8 +44,8 @@ fn put_record(
 pub(crate) fn write_chain(
     out: &mut [u8],
     s: &[u8],
-    order: &[u16; 257],
-    place: &[u16; 257],
+    order: &[u16],
+    place: &[u16],
     begin: usize,
     end: usize,
 )

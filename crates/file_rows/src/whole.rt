@@ -18,7 +18,7 @@ use sheet_rows::read::byte_at;
 use sheet_rows::read::word_at;
 
 // Writes the four lanes behind the header.
-fn write_lanes(out: &mut [u8], s: &[u8], order: &[u16; 257], place: &[u16; 257], ends: &[usize; 4])
+fn write_lanes(out: &mut [u8], s: &[u8], order: &[u16], place: &[u16], ends: &[usize; 4])
     requires room { ⌜ 16 + 8 * recordCount (now s) ≤ length (now out) ⌝ }
     requires structure { ⌜ Structured (now s) ⌝ }
     requires order { ⌜ Ordered (now s) (now order) (now place) (now ends) ⌝ }
@@ -35,13 +35,7 @@ fn write_lanes(out: &mut [u8], s: &[u8], order: &[u16; 257], place: &[u16; 257],
 }
 
 // The chains at the front of `out`.
-pub fn write_chains(
-    out: &mut [u8],
-    s: &[u8],
-    order: &[u16; 257],
-    place: &[u16; 257],
-    ends: &[usize; 4],
-)
+pub fn write_chains(out: &mut [u8], s: &[u8], order: &[u16], place: &[u16], ends: &[usize; 4])
     requires room { ⌜ 16 + 8 * recordCount (now s) ≤ length (now out) ⌝ }
     requires structure { ⌜ Structured (now s) ⌝ }
     requires order { ⌜ Ordered (now s) (now order) (now place) (now ends) ⌝ }

@@ -17,7 +17,7 @@ use Rattle.file_format.specs.Linkage.{chain, walkOf, badLinkage, linkageFrom, c
 use Rattle.file_format.specs.Targets.{member, badTarget, unreachableTarget, position}
 use Rattle.file_format.specs.Accepted.{Program, opOf, opsFrom}
 use Rattle.file_format.specs.Held.{heldFrom, same, conflictBelow, faultAt, faultPosition, recordAt, lockFault}
-use Rattle.file_verdict.specs.Verdict.{structureThen, refusalOf, numberOf, recordOf}
+use Rattle.file_verdict.specs.Verdict.{fieldsThen, structureThen, refusalOf, numberOf, recordOf}
 use Rattle.file_verdict.specs.Verdict.{refused, accepted, verdictFrom}
 
 -- a header of one lane, with its counts of locations, locks and records, and the head of lane 0
@@ -96,8 +96,9 @@ table =
     ∷ []
 
 examples : map (λ e. refusalOf (e .0)) table ≡ map (λ e. e .1) table
-unfolding refusalOf structureThen headerRule headRule badRecord recordRule limitA limitB limitConstant limitTarget
-    lowest firstOf badLinkage linkageFrom chain member walkOf chainTooLong badTarget unreachableTarget lockFault
+unfolding refusalOf structureThen fieldsThen headerRule headRule badRecord recordRule limitA limitB limitConstant
+    limitTarget lowest firstOf badLinkage linkageFrom chain member walkOf chainTooLong badTarget unreachableTarget
+    lockFault
     position
     opOf opsFrom recordAt faultPosition faultAt conflictBelow heldFrom same header header2 entry skip sets table
 examples = refl

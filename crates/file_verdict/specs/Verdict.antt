@@ -21,17 +21,25 @@ use Rattle.file_format.specs.Held.{lockFault}
 abbrev pub unless : ℕ → (ℕ → Refusal) → Refusal → Refusal
 unless r refusal rest = cond (eqb r 0) rest (refusal r)
 
--- checks 1 to 7 of the paper's table in their order, and where none refuses, the rest
-unfoldable pub structureThen : List ℕ → Refusal → Refusal
-structureThen s rest =
+-- checks 1 to 4 of the paper's table in their order, and where none refuses, the rest
+unfoldable pub fieldsThen : List ℕ → Refusal → Refusal
+fieldsThen s rest =
     cond (ltb (length s) 16) TruncatedHeader
     (cond (not (headerRule s)) BadHeader
     (cond (not (eqb (length s) (16 + 12 * recordCount s))) BadLength
     (unless (badRecord s) BadRecord
-    (unless (badLinkage s) BadLinkage
+    rest)))
+
+-- checks 5 to 7, likewise
+abbrev pub linkageThen : List ℕ → Refusal → Refusal
+linkageThen s rest =
+    unless (badLinkage s) BadLinkage
     (unless (chainTooLong s) ChainTooLong
     (unless (badTarget s) BadTarget
-    rest))))))
+    rest))
+
+unfoldable pub structureThen : List ℕ → Refusal → Refusal
+structureThen s rest = fieldsThen s (linkageThen s rest)
 
 -- check 8, on lanes whose structure is sound
 unfoldable pub refusalOf : List ℕ → Refusal

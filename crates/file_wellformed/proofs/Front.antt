@@ -12,7 +12,7 @@ use borrow.Author.Tests.{le-ltb, ne-eqb}
 use Rattle.file_format.specs.Fields.{byte, recordCount}
 use Rattle.file_format.specs.Rules.{headRule, headerRule}
 use Rattle.file_format.proofs.Laws.Rules.{few-records}
-use Rattle.file_verdict.specs.Verdict.{refused, structureThen, refusalOf, verdict}
+use Rattle.file_verdict.specs.Verdict.{refused, fieldsThen, structureThen, refusalOf, verdict}
 
 -- k bytes of a file, the first of which is byte i
 abbrev bytes : List ℕ → ℕ → ℕ → List ℕ
@@ -31,7 +31,7 @@ module _ (n : ℕ) (s : List ℕ) where
 
 -- the verdict on a file that is longer than 3,088 bytes
 long-verdict : (s : List ℕ) → 3088 < length s → verdict s ≡ refused (cond (headerRule s) 3 2) 0
-unfolding refusalOf structureThen
+unfolding refusalOf structureThen fieldsThen
 long-verdict s h = go (headerRule s) refl
   where
     go : (b : Bool) → headerRule s ≡ b → verdict s ≡ refused (cond b 3 2) 0

@@ -11,7 +11,7 @@ use Rattle.file_format.specs.Linkage.{chain, walkOf, badLinkage, linkageFrom, c
 use Rattle.file_format.specs.Targets.{member, badTarget, unreachableTarget, position}
 use Rattle.file_format.specs.Accepted.{opOf, opsFrom}
 use Rattle.file_format.specs.Held.{heldFrom, same, conflictBelow, faultAt, faultPosition, recordAt, lockFault}
-use Rattle.file_verdict.specs.Verdict.{structureThen, refusalOf}
+use Rattle.file_verdict.specs.Verdict.{fieldsThen, structureThen, refusalOf}
 use Rattle.file_verdict.specs.Examples.{header, entry, sets}
 
 -- bytes, and the refusal that they get
@@ -22,8 +22,9 @@ table =
     ∷ []
 
 longest : map (λ e. refusalOf (e .0)) table ≡ map (λ e. e .1) table
-unfolding refusalOf structureThen headerRule headRule badRecord recordRule limitA limitB limitConstant limitTarget
-    lowest firstOf badLinkage linkageFrom chain member walkOf chainTooLong badTarget unreachableTarget lockFault
+unfolding refusalOf structureThen fieldsThen headerRule headRule badRecord recordRule limitA limitB limitConstant
+    limitTarget lowest firstOf badLinkage linkageFrom chain member walkOf chainTooLong badTarget unreachableTarget
+    lockFault
     position
     opOf opsFrom recordAt faultPosition faultAt conflictBelow heldFrom same header entry sets table
 longest = refl

@@ -19,7 +19,7 @@ use Rattle.file_format.specs.Linkage.{chain, Walked, walkOf, walkLane, linkageF
 use Rattle.file_format.specs.Targets.{badTarget}
 use Rattle.file_format.specs.Accepted.{recordsAt, programOf}
 use Rattle.file_format.specs.Held.{recordAt, lockFault}
-use Rattle.file_verdict.specs.Verdict.{unless, structureThen, refusalOf, numberOf, recordOf}
+use Rattle.file_verdict.specs.Verdict.{unless, fieldsThen, structureThen, refusalOf, numberOf, recordOf}
 use Rattle.file_format.proofs.Laws.Rules.{few-records, head-range}
 use Rattle.file_format.proofs.Bounded.{chain-range}
 
@@ -128,7 +128,7 @@ module _ (n : ℕ) where
 
   -- the checks in their order, where n is at least the count of a header that keeps its rule
   named : (s : List ℕ) → (headerRule s ≡ true → recordCount s ≤ n) → recordOf (refusalOf s) ≤ n
-  unfolding refusalOf structureThen badRecord badLinkage chainTooLong badTarget
+  unfolding refusalOf structureThen fieldsThen badRecord badLinkage chainTooLong badTarget
   named s most =
       refuse-if (ltb (length s) 16) TruncatedHeader _ (omega arith) (λ _.
       refuse-if (not (headerRule s)) BadHeader _ (omega arith) (λ bad.

@@ -10,7 +10,7 @@ use Rattle.file_format.specs.Linkage.{chain, walkOf, badLinkage, linkageFrom, c
 use Rattle.file_format.specs.Targets.{member, badTarget, unreachableTarget, position}
 use Rattle.file_format.specs.Accepted.{opOf, opsFrom}
 use Rattle.file_format.specs.Held.{heldFrom, same, conflictBelow, faultAt, faultPosition, recordAt, lockFault}
-use Rattle.file_verdict.specs.Verdict.{structureThen, refusalOf}
+use Rattle.file_verdict.specs.Verdict.{fieldsThen, structureThen, refusalOf}
 use Rattle.barrier_placement.specs.Place.{stands, due, dueAfter}
 use Rattle.sheet_format.specs.Bytes.{sheetBytes}
 use Rattle.sheet_format.specs.Read.{readSheet}
@@ -129,8 +129,9 @@ calls =
     ∷ []
 
 calls-hold : map (λ (e : Called × Called). e .0) calls ≡ map (λ (e : Called × Called). e .1) calls
-unfolding refusalOf structureThen headerRule headRule badRecord recordRule limitA limitB limitConstant limitTarget
-    lowest firstOf badLinkage linkageFrom chain member walkOf chainTooLong badTarget unreachableTarget lockFault
+unfolding refusalOf structureThen fieldsThen headerRule headRule badRecord recordRule limitA limitB limitConstant
+    limitTarget lowest firstOf badLinkage linkageFrom chain member walkOf chainTooLong badTarget unreachableTarget
+    lockFault
     position
     opOf opsFrom recordAt faultPosition faultAt conflictBelow heldFrom same stands due dueAfter sheetBytes readSheet
     movesIn inTurn entriesBytes stateLane headBytes recordOf kernel output calls

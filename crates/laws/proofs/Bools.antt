@@ -44,6 +44,10 @@ pub and-true : (a b : Bool) → (a && b) ≡ true → (a ≡ true) × (b ≡ tru
 and-true true b h = (refl, h)
 and-true false b h = absurd (false≢true h)
 
+-- a test that both values pass
+pub all-tests : (f : Bool → Bool) → (f true && f false) ≡ true → (b : Bool) → f b ≡ true
+all-tests f h = by-test (λ b. f b ≡ true) (and-true (f true) (f false) h .0) (and-true (f true) (f false) h .1)
+
 pub both-true : (a b : Bool) → a ≡ true → b ≡ true → (a && b) ≡ true
 both-true a b h k = rw (h, k)
 

@@ -1,15 +1,16 @@
 -- Laws of numbers: tests of them, what holds of every number below a bound, their bits.
-use Prim.Native.Nat.{ℕ, zero, suc, _+_, _-_, _*_, _/_, _%_, _^_, _≤_, _<_}
-use mathlib.Core.Path.{_≡_, refl, sym, ap, subst, _∙_}
-use mathlib.Core.Bool.{Bool, true, false}
+use Prim.Native.Nat.{ℕ, zero, suc, _+_, _-_, _*_, _/_, _%_, _^_, _≤_, _<_, max}
+use mathlib.Core.Path.{_≡_, refl, sym, ap, ap₂, subst, _∙_}
 use mathlib.Core.List.{List, [], _∷_}
 use mathlib.Core.Logic.{_⊎_, inl, inr}
-use native.Mathlib.Nat.{pow-suc, div-lt-iff-lt-mul}
+use native.Mathlib.Nat.{pow-suc, div-lt-iff-lt-mul, mod-lt}
 use native.Mathlib.Omega.{arith}
 use native.Mathlib.Decide.{decLe, decLt}
+use lib.Arith.{bin-ind}
+use lib.Bits.{bitOr, or-step, or-shr, or-mod}
 use lib.Count.{onesIn, ones, ones-step}
-use lib.Dec.{leb, eqb}
-use borrow.Author.Tests.{le-leb, lt-leb, eq-eqb, ne-eqb, eqb-true, eqb-false}
+use lib.Dec.{leb}
+use borrow.Author.Tests.{le-leb, lt-leb}
 
 pub lt-or-le : (a b : ℕ) → (a < b) ⊎ (b ≤ a)
 lt-or-le a b = go (decLt a b)
@@ -24,13 +25,6 @@ leb-sub a b n h = go (decLe a (b - n))
     go : Dec (a ≤ b - n) → leb a (b - n) ≡ leb (a + n) b
     go (yes l) = le-leb a (b - n) l ∙ sym (le-leb (a + n) b (omega arith))
     go (no l) = lt-leb a (b - n) (omega arith) ∙ sym (lt-leb (a + n) b (omega arith))
-
-pub eqb-add : (n a b : ℕ) → eqb (n + a) (n + b) ≡ eqb a b
-eqb-add n a b = go (eqb a b) refl
-  where
-    go : (t : Bool) → eqb a b ≡ t → eqb (n + a) (n + b) ≡ t
-    go true e = eq-eqb (n + a) (n + b) (ap (λ x. n + x) (eqb-true a b e))
-    go false e = ne-eqb (n + a) (n + b) (λ z. eqb-false a b e (omega arith))
 
 -- ## below a bound
 
@@ -85,3 +79,19 @@ pub ones-few : (n m : ℕ) → onesIn n m ≤ n
 unfolding onesIn
 ones-few zero m = omega arith
 ones-few (suc n) m = omega (arith, ones-few n (m / 2))
+
+or-odd : (a b : ℕ) → bitOr a b % 2 ≡ max (a % 2) (b % 2)
+or-odd a b =
+    or-mod a b 1 ∙ table-at bitOr max 2 2 refl (a % 2) (b % 2) (mod-lt a (omega arith)) (mod-lt b (omega arith))
+
+pub bitOr-assoc : (a b c : ℕ) → bitOr (bitOr a b) c ≡ bitOr a (bitOr b c)
+bitOr-assoc = bin-ind (λ a. (b c : ℕ) → bitOr (bitOr a b) c ≡ bitOr a (bitOr b c)) (λ b c. refl) step
+  where
+    step : (a : ℕ) → ((b c : ℕ) → bitOr (bitOr (a / 2) b) c ≡ bitOr (a / 2) (bitOr b c)) → (b c : ℕ)
+        → bitOr (bitOr a b) c ≡ bitOr a (bitOr b c)
+    step a ih b c =
+        let rest = ap (λ x. bitOr x (c / 2)) (or-shr a b 1) ∙ ih (b / 2) (c / 2)
+        ∙ ap (bitOr (a / 2)) (sym (or-shr b c 1)) in
+        let odd : max (bitOr a b % 2) (c % 2) ≡ max (a % 2) (bitOr b c % 2) =
+        omega (arith, or-odd a b, or-odd b c) in
+        or-step (bitOr a b) c ∙ ap₂ (λ x y. x * 2 + y) rest odd ∙ sym (or-step a (bitOr b c))

@@ -6,7 +6,7 @@ ghost use Rattle.machine_spec.specs.Run.{levelOf};
 use file_accept::output::chain_file;
 use machine_spec::Machine;
 use sheet_format::WriteResult;
-use sheet_level2::lower::lower2;
+use sheet_lower::lower::lower2;
 
 // The rows at the front of `rows`: the chains for the source machine, the level 2 sheet for the tso machine.
 pub fn program_of(machine: Machine, file: &[u8], rows: &mut [u8]) -> WriteResult

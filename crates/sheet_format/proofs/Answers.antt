@@ -76,27 +76,6 @@ module _ (bytes : Program → List ℕ) (s own : List ℕ) where
           (ap (λ (z : WriteResult × List ℕ). recordIn (z .0)) (sym x))
       go (accepted k) e x = absurd (never k e x)
 
-  pub refuses-any : {n r : ℕ} {after : List ℕ} → (n ≡ 9 → ⊥) → (Refuses n r, after) ≡ answerBy bytes (verdict s) own
-      → verdict s ≡ refused n r
-  refuses-any {n} {r} {after} other = refuses-but (λ k e. by k (ltb (length own) (length (bytes k))))
-    where
-      by : (k : Program) (b : Bool)
-          → _≡_ {A = WriteResult × List ℕ} (Refuses n r, after) (outcome k b) → ⊥
-      by k true x = other (ap (λ (z : WriteResult × List ℕ). numberIn (z .0)) x)
-      by k false x = apart (sym x)
-
-  -- a refusal leaves the buffer
-  pub refuses-left : {n r : ℕ} {after : List ℕ} → (Refuses n r, after) ≡ answerBy bytes (verdict s) own → after ≡ own
-  refuses-left {n} {r} {after} = go (verdict s)
-    where
-      by : (k : Program) (b : Bool) → _≡_ {A = WriteResult × List ℕ} (Refuses n r, after) (outcome k b) → after ≡ own
-      by k true x = ap (λ (z : WriteResult × List ℕ). z .1) x
-      by k false x = absurd (apart (sym x))
-
-      go : (v : Verdict) → (Refuses n r, after) ≡ answerBy bytes v own → after ≡ own
-      go (refused m q) x = ap (λ (z : WriteResult × List ℕ). z .1) x
-      go (accepted k) x = by k (ltb (length own) (length (bytes k))) x
-
 -- in a buffer that takes the bytes of every kernel
 module _
     (bytes : Program → List ℕ) (size : ℕ) (small : (k : Program) → Lawful k → length (bytes k) ≤ size)

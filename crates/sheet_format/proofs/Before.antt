@@ -81,7 +81,7 @@ from-before l s (o ∷ os) q (suc p) h =
     ∙ ap (λ n. chosen (λ b. keeps l (operationAt os p) b && stands s b n)) (shift p)
 
 -- nothing stands at the end of a chain, nor behind it
-stands-none : (s : Chain) (b : Barrier) (p : ℕ) → length s ≤ p → stands s b p ≡ false
+pub stands-none : (s : Chain) (b : Barrier) (p : ℕ) → length s ≤ p → stands s b p ≡ false
 unfolding stands
 stands-none s b p h = ap (λ x. standsAt x (due s b p)) (List·getD-eq-default s Other {n = p} h)
 

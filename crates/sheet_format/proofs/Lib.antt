@@ -7,7 +7,5 @@ pub mod Codes
 pub mod Before
 pub mod PlacedLanes
 pub mod Sizes
-pub mod Relowered
-pub mod RelowerBytes
 pub mod SmallBytes
 pub mod Answers

@@ -1,4 +1,4 @@
--- How long a sheet is: 16 bytes and 8 for each instruction; at most 2,064 bytes at level 0, 10,256 at level 1 and 4,112
+-- How long a sheet is: 16 bytes and 8 for each instruction; at most 2,064 bytes at level 0, 6,160 at level 1 and 4,112
 -- at level 2.
 use Prim.Native.Nat.{ℕ, _+_, _*_, _≤_}
 use native.Mathlib.Omega.{arith}

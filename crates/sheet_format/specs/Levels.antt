@@ -24,10 +24,11 @@ keeps Level2 o LS = false
 keeps Level2 o SS = false
 keeps Level2 o SL = true
 
--- how many instructions an operation makes at most, with its barriers
+-- How many instructions an operation makes at most, with its barriers. At level 1 two can stand before an access: one
+-- of LL and LS, and one of SS and SL, each of the access's kind; level 2 keeps at most one.
 abbrev pub widest : Level → ℕ
 widest Level0 = 1
-widest Level1 = 5
+widest Level1 = 3
 widest Level2 = 2
 
 -- the operations from position p of a chain on, each with the barriers before it that the level keeps

@@ -1,56 +1,52 @@
--- A lane's operations one after the other, and the same as the code writes them, from the lane's rows.
-use Prim.Native.Nat.{ℕ, suc, _+_, _*_, _≤_}
+-- A lane's operations one after the other as the code writes them, from the lane's rows and its plan.
+use Prim.Native.Nat.{ℕ, _+_, _*_, _≤_, _<_}
 use mathlib.Core.Path.{_≡_}
-use mathlib.Core.Bool.{Bool, cond}
-use mathlib.Core.List.{List, [], _∷_, _++_, map}
+use mathlib.Core.Bool.{Bool, false, _&&_, cond}
+use mathlib.Core.List.{List, [], _++_}
 use lib.Dec.{eqb}
 use lib.ListN.{length, getD, take, drop}
 use lib.Seq.{sets}
-use Rattle.file_format.specs.declared.accepted.Op.{Op}
-use Rattle.file_format.specs.Fields.{byte, word}
-use Rattle.barrier_placement.specs.declared.cookbook.Barrier.{Barrier}
+use Rattle.file_format.specs.Fields.{byte}
 use Rattle.barrier_placement.specs.Placed.{bit}
-use Rattle.barrier_placement.specs.Plan.{standing, beginning}
-use Rattle.barrier_placement.specs.Layout.{Placed}
-use Rattle.sheet_format.specs.Layout.{op, barrier, sheet}
-use Rattle.sheet_format.specs.declared.Level.the-variants.{Level1}
-use Rattle.sheet_format.specs.Bytes.{row, laneBytes}
+use Rattle.sheet_format.specs.declared.Level.{Level}
+use Rattle.sheet_format.specs.declared.Level.the-variants.{Level0, Level1, Level2}
+use Rattle.sheet_format.specs.Bytes.{quadBytes, row}
 use Rattle.sheet_format.specs.Put.{inTurn}
+use Rattle.barrier_pass.specs.Plan.{beginIn}
 
--- the operations of a chain, the first of which stands at position p, with the barriers that pre puts before each
-abbrev pub placedBy : (ℕ → List Barrier) → ℕ → List Op → List (Placed Op)
-placedBy pre p [] = []
-placedBy pre p (o ∷ os) = record { before = pre p; oper = o } ∷ placedBy pre (suc p) os
-
--- the bytes of an operation at level 1, with these barriers before it
-abbrev pub stepBytes : List Barrier → Op → List ℕ
-stepBytes bs o = laneBytes Level1 (map barrier bs ++ (op o ∷ []))
-
--- the bytes of a lane at level 1, with its barriers where the plan says
-abbrev pub laneWith : List ℕ → List Op → List ℕ
-laneWith plan ops = laneBytes Level1 (sheet (placedBy (standing plan) 0 ops))
-
--- ## from the lane's rows
+-- where operation p begins at a level, of its plan
+abbrev pub beginning : Level → List ℕ → ℕ → ℕ
+beginning l plan p = beginIn l (getD plan p 0) p
 
 -- the row of a barrier's code where the barrier stands
 abbrev pub rowIf : Bool → ℕ → List ℕ
 rowIf b code = cond b (row code 0 0 0) []
 
--- the rows of a set of barriers
-abbrev pub barrierRows : ℕ → List ℕ
-barrierRows x = rowIf (bit x 0) 11 ++ rowIf (bit x 1) 12 ++ rowIf (bit x 2) 13 ++ rowIf (bit x 3) 14
+-- the rows of a set of barriers at a level: none at level 0, all at level 1, MFENCE for SL at level 2
+abbrev pub barrierRows : Level → ℕ → List ℕ
+barrierRows Level0 x = []
+barrierRows Level1 x = (rowIf (bit x 0) 11 ++ rowIf (bit x 1) 12) ++ (rowIf (bit x 2) 13 ++ rowIf (bit x 3) 14)
+barrierRows Level2 x = rowIf (bit x 3) 15
+
+-- of LL and LS at most one is in a set, and of SS and SL
+abbrev pub Single : ℕ → Type 0
+Single x = ((bit x 0 && bit x 1) ≡ false) × ((bit x 2 && bit x 3) ≡ false)
+
+-- in the first n sets of a plan
+abbrev pub SingleTo : List ℕ → ℕ → Type 0
+SingleTo plan n = (p : ℕ) → p < n → Single (getD plan p 0)
 
 -- the row at the front; a SKIP's is aimed at where its target begins
-unfoldable pub ownRow : List ℕ → List ℕ → List ℕ
-ownRow plan s = cond (eqb (byte s 0) 7) (row 7 (byte s 1) (byte s 2) (beginning plan (word s 4))) (take 8 s)
+unfoldable pub ownRow : Level → List ℕ → List ℕ → List ℕ
+ownRow l plan s = cond (eqb (byte s 0) 7) (take 4 s ++ quadBytes (beginning l plan (byte s 4))) (take 8 s)
 
 -- row p behind the barriers that stand before it
-abbrev pub stepRows : List ℕ → List ℕ → ℕ → List ℕ
-stepRows plan rows p = barrierRows (getD plan p 0) ++ ownRow plan (drop (8 * p) rows)
+abbrev pub stepRows : Level → List ℕ → List ℕ → ℕ → List ℕ
+stepRows l plan rows p = barrierRows l (getD plan p 0) ++ ownRow l plan (drop (8 * p) rows)
 
 -- n rows
-abbrev pub laneRows : List ℕ → List ℕ → ℕ → List ℕ
-laneRows plan rows = inTurn (stepRows plan rows)
+abbrev pub laneRows : Level → List ℕ → List ℕ → ℕ → List ℕ
+laneRows l plan rows = inTurn (stepRows l plan rows)
 
 -- `after` is `before` with x from `at` on; from `end` on, the position behind x, up to eight bytes do not count
 pub record Begins (before : List ℕ) (at : ℕ) (x : List ℕ) (after : List ℕ) (end : ℕ) : Type 0 where

@@ -1,13 +1,16 @@
--- Each lane's rows in a buffer, their plans, and the bytes that the code makes of them.
+-- Each lane's rows in a buffer, their plans one behind the other in another, and the bytes that the code makes of them.
 use Prim.Native.Nat.{ℕ, zero, suc, _+_, _*_, _≤_, _<_}
+use mathlib.Core.Path.{_≡_}
+use mathlib.Core.Bool.{Bool}
 use mathlib.Core.List.{List}
 use lib.ListN.{length, getD, drop}
 use Rattle.file_format.specs.declared.accepted.Op.{Op}
 use Rattle.file_format.specs.Accepted.{isVolatile}
+use Rattle.sheet_format.specs.declared.Level.{Level}
 use Rattle.sheet_rows.specs.Rows.{partsIn}
 use Rattle.sheet_rows.specs.Lanes.{Holds}
-use Rattle.sheet_lanes.specs.Plans.{Planned}
-use Rattle.sheet_lanes.specs.Put.{laneRows}
+use Rattle.barrier_pass.specs.Plan.{planNumber}
+use Rattle.sheet_lanes.specs.Put.{laneRows, SingleTo}
 
 -- no lane has more than 64 rows, and each lies in the buffer
 pub record Short (rows : List ℕ) : Type 0 where
@@ -21,33 +24,31 @@ laneIn rows t = drop (getD (partsIn rows .from) t 0) rows
 abbrev pub countIn : List ℕ → ℕ → ℕ
 countIn rows t = getD (partsIn rows .count) t 0
 
--- the plan of the lane whose n rows are at the front; at most 64 operations make five instructions each
-pub record PlanFor (rows : List ℕ) (n mask : ℕ) (plan : List ℕ) (size : ℕ) : Type 0 where
-  pub planned : (ops : List Op) → Holds rows n ops → Planned (isVolatile mask) ops plan size
-  pub small : size ≤ 320
+-- a plan has the numbers of a lane's positions and of its end
+abbrev pub Planned : (ℕ → Bool) → List Op → List ℕ → Type 0
+Planned vol ops plan = (p : ℕ) → p ≤ length ops → getD plan p 0 ≡ planNumber vol ops p
 
--- the plan of lane t
-abbrev pub PlanIn : List ℕ → ℕ → ℕ → List ℕ → ℕ → Type 0
-PlanIn rows mask t = PlanFor (laneIn rows t) (countIn rows t) mask
+-- the lane whose n rows are at the front has this plan
+abbrev pub PlanFor : List ℕ → ℕ → ℕ → List ℕ → Type 0
+PlanFor rows n mask plan = (ops : List Op) → Holds rows n ops → Planned (isVolatile mask) ops plan
 
--- the plans of the four lanes, and how many instructions each makes
-pub record PlansIn (rows : List ℕ) (mask : ℕ) (a b c d sizes : List ℕ) : Type 0 where
-  pub first : PlanIn rows mask 0 a (getD sizes 0 0)
-  pub second : PlanIn rows mask 1 b (getD sizes 1 0)
-  pub third : PlanIn rows mask 2 c (getD sizes 2 0)
-  pub fourth : PlanIn rows mask 3 d (getD sizes 3 0)
+-- the plan of lane t stands behind those of the lanes before it, each of which has a number for each row and one more
+abbrev pub planFrom : List ℕ → ℕ → ℕ
+planFrom rows zero = 0
+planFrom rows (suc t) = planFrom rows t + countIn rows t + 1
 
--- lane t's bytes at level 1
-abbrev pub laneText : List ℕ → ℕ → List ℕ → List ℕ
-laneText rows t plan = laneRows plan (laneIn rows t) (countIn rows t)
+abbrev pub planIn : List ℕ → List ℕ → ℕ → List ℕ
+planIn rows plan t = drop (planFrom rows t) plan
 
--- four plans by lane
-abbrev pub each : List ℕ → List ℕ → List ℕ → List ℕ → ℕ → List ℕ
-each a b c d zero = a
-each a b c d (suc zero) = b
-each a b c d (suc (suc zero)) = c
-each a b c d (suc (suc (suc t))) = d
+-- the plans of the first n lanes, and the number that each has of its lane's end
+pub record PlansTo (rows : List ℕ) (mask : ℕ) (plan ends : List ℕ) (n : ℕ) : Type 0 where
+  pub planned : (t : ℕ) → t < n → PlanFor (laneIn rows t) (countIn rows t) mask (planIn rows plan t)
+  pub ended : (t : ℕ) → t < n → getD ends t 0 ≡ getD (planIn rows plan t) (countIn rows t) 0
 
--- the bytes of the four lanes
-abbrev pub lanesText : List ℕ → List ℕ → List ℕ → List ℕ → List ℕ → ℕ → List ℕ
-lanesText rows a b c d t = laneText rows t (each a b c d t)
+-- in the plans of the four lanes of LL and LS at most one stands, and of SS and SL
+abbrev pub SingleIn : List ℕ → List ℕ → Type 0
+SingleIn rows plan = (t : ℕ) → t < 4 → SingleTo (planIn rows plan t) (countIn rows t)
+
+-- lane t's bytes at a level
+abbrev pub laneText : Level → List ℕ → List ℕ → ℕ → List ℕ
+laneText l rows plan t = laneRows l (planIn rows plan t) (laneIn rows t) (countIn rows t)

@@ -1,6 +1,6 @@
-// The plans of the lanes of a level 1 sheet, and the lanes written by them.
+// The plans of the lanes of a sheet, and the lanes written by them, at each level.
 pub mod lane;
 pub mod plan;
-pub(crate) mod starts;
+pub mod starts;
 pub(crate) mod steps;
 pub mod whole;

@@ -1,52 +1,53 @@
-// What is known of a lane before it is written: its plan, and how many instructions it makes.
+// The plans of the lanes, before any of them is written.
 ghost use mathlib.Core.Path.{_≡_};
-ghost use Prim.Native.Nat.{_+_, _*_, _≤_, _<_};
-ghost use lib.ListN.{length, drop};
+ghost use Prim.Native.Nat.{ℕ, _+_, _*_, _≤_, _<_};
+ghost use lib.ListN.{length, getD, drop};
+ghost use Rattle.barrier_pass.specs.Known.{knownTable};
+ghost use Rattle.barrier_pass.specs.Plan.{Widths};
 ghost use Rattle.sheet_rows.specs.Rows.{partsIn};
-ghost use Rattle.sheet_lanes.specs.Rows.{Short, PlanFor, PlansIn};
+ghost use Rattle.sheet_lanes.specs.Rows.{Short, PlanFor, planFrom, PlansTo};
 use barrier_pass::place::place_lane;
+use barrier_pass::table::known_table;
+use barrier_pass::table::width_table;
 use sheet_rows::parts::Parts;
 
-// The plan of the lane whose n rows are given; how many instructions it makes, none where it has no rows.
-fn plan_of(rows: &[u8], n: usize, mask: u16, plan: &mut [u16]) -> usize
-    requires { ⌜ (n ≤ 64) × (8 * n ≤ length (now rows)) × (n < length (now plan)) ⌝ }
-    ensures { λ r. ⌜ PlanFor (now (rows .entry)) n mask (now (plan .exit)) r ⌝ }
-{
-    if n == 0 {
-        plan[0] = 0;
-        return 0;
-    }
-    place_lane(rows, n, mask, plan)
-}
-
-// The plan of the lane of n rows from a byte on.
-fn plan_at(rows: &[u8], first: usize, n: usize, mask: u16, plan: &mut [u16]) -> usize
-    requires { ⌜ (n ≤ 64) × (first + 8 * n ≤ length (now rows)) × (n < length (now plan)) ⌝ }
-    ensures { λ r. ⌜ PlanFor (drop first (now (rows .entry))) n mask (now (plan .exit)) r ⌝ }
-{
-    plan_of(&rows[first..], n, mask, plan)
-}
-
-// The plans of the four lanes; how many instructions each makes.
-pub fn plan_lanes(
+// Writes the plan of the lane of n rows that begin at byte `first`, from `place` of `plan` on; the number of its end.
+fn plan_at(
+    known: &[u32; 16],
+    widths: &[u32; 16],
     rows: &[u8],
-    parts: Parts,
+    first: usize,
+    n: usize,
     mask: u16,
-    a: &mut [u16],
-    b: &mut [u16],
-    c: &mut [u16],
-    d: &mut [u16],
-) -> [usize; 4]
-    requires { ⌜ Short (now rows) × (parts ≡ partsIn (now rows)) ⌝ }
-    requires { ⌜ (64 < length (now a)) × (64 < length (now b)) × (64 < length (now c)) × (64 < length (now d)) ⌝ }
-    ensures { λ r. ⌜ PlansIn (now (rows .entry)) mask (now (a .exit)) (now (b .exit)) (now (c .exit))
-        (now (d .exit)) r ⌝ }
+    plan: &mut [u32],
+    place: usize,
+) -> u32
+    requires tables { ⌜ (now known ≡ knownTable) × Widths (now widths) ⌝ }
+    requires room { ⌜ (n ≤ 64) × (first + 8 * n ≤ length (now rows)) × (place + n < length (now plan)) ⌝ }
+    ensures lane { λ r. ⌜ PlanFor (drop first (now (rows .entry))) n mask (drop place (now (plan .exit))) ⌝ }
+    ensures end { λ r. ⌜ r ≡ getD (drop place (now (plan .exit))) n 0 ⌝ }
+    ensures before { λ r. ⌜ ((i : ℕ) → i < place → getD (now (plan .exit)) i 0 ≡ getD (now (plan .entry)) i 0) ⌝ }
 {
+    place_lane(known, widths, &rows[first..], n, mask, &mut plan[place..])
+}
+
+// The plans of the four lanes one behind the other, each with one number more than the lane has rows; the number that
+// each has of its lane's end.
+pub fn plan_lanes(rows: &[u8], parts: Parts, mask: u16, plan: &mut [u32]) -> [u32; 4]
+    requires { ⌜ Short (now rows) × (parts ≡ partsIn (now rows)) × (planFrom (now rows) 4 ≤ length (now plan)) ⌝ }
+    ensures { λ r. ⌜ PlansTo (now (rows .entry)) mask (now (plan .exit)) r 4 ⌝ }
+{
+    let known = known_table();
+    let widths = width_table();
     let from = parts.from;
     let count = parts.count;
-    let first = plan_at(rows, from[0], count[0], mask, a);
-    let second = plan_at(rows, from[1], count[1], mask, b);
-    let third = plan_at(rows, from[2], count[2], mask, c);
-    let fourth = plan_at(rows, from[3], count[3], mask, d);
-    [first, second, third, fourth]
+    let mut ends = [0u32; 4];
+    let mut place = 0;
+    let mut t = 0;
+    while t < 4 {
+        ends[t] = plan_at(&known, &widths, rows, from[t], count[t], mask, plan, place);
+        place = place + count[t] + 1;
+        t += 1;
+    }
+    ends
 }

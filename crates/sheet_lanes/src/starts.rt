@@ -1,27 +1,42 @@
 // What a lane's plan says of a position.
 ghost use mathlib.Core.Path.{_≡_};
-ghost use Prim.Native.Nat.{_/_, _<_};
+ghost use Prim.Native.Nat.{_<_};
+ghost use lib.ListN.{getD};
 ghost use Rattle.barrier_placement.specs.Placed.{bit};
-ghost use Rattle.barrier_placement.specs.Plan.{beginning};
+ghost use Rattle.barrier_pass.specs.Plan.{beginIn};
+ghost use Rattle.sheet_lanes.specs.Put.{beginning};
+use sheet_format::Level;
+use sheet_rows::number::wide;
 
 // Bit k of a set of barriers.
-pub(crate) fn bit_at(set: u16, k: u16) -> bool
-    requires { ⌜ k < 16 ⌝ }
+pub(crate) fn bit_at(set: u32, k: u32) -> bool
+    requires { ⌜ k < 32 ⌝ }
     ensures { λ r. ⌜ r ≡ bit set k ⌝ }
 {
     (set >> k) % 2 == 1
 }
 
-// Where a position begins, of its number in the plan.
-fn begin_of(x: u16) -> u32
-    ensures { λ r. ⌜ r ≡ x / 16 ⌝ }
+// Where position p begins at a level, of its number in the plan.
+pub fn begin_in(level: Level, x: u32, p: usize) -> usize
+    ensures { λ r. ⌜ r ≡ beginIn level x p ⌝ }
 {
-    (x >> 4) as u32
+    match level {
+        Level::Level0 => p,
+        Level::Level1 => wide((x >> 4) % 512),
+        Level::Level2 => wide((x >> 13) % 256),
+    }
 }
 
-// The sheet position at which operation p begins, that is, its first barrier; 0 past the plan.
-pub(crate) fn start_of(plan: &[u16], p: usize) -> u32
-    ensures { λ r. ⌜ r ≡ beginning (now (plan .entry)) p ⌝ }
+// The number of position p; 0 past the plan.
+fn number_at(plan: &[u32], p: usize) -> u32
+    ensures { λ r. ⌜ r ≡ getD (now (plan .entry)) p 0 ⌝ }
 {
-    if p < plan.len() { begin_of(plan[p]) } else { 0 }
+    if p < plan.len() { plan[p] } else { 0 }
+}
+
+// Where operation p begins at a level, that is, its first barrier.
+pub(crate) fn beginning(level: Level, plan: &[u32], p: usize) -> usize
+    ensures { λ r. ⌜ r ≡ beginning level (now (plan .entry)) p ⌝ }
+{
+    begin_in(level, number_at(plan, p), p)
 }

@@ -1,46 +1,53 @@
-// The lanes of a level 1 sheet, written by their plans.
+// The lanes of a sheet, written by their plans.
 ghost use mathlib.Core.Path.{_≡_};
-ghost use Prim.Native.Nat.{_+_, _*_, _≤_, _<_};
+ghost use Prim.Native.Nat.{_+_, _*_, _≤_};
 ghost use lib.ListN.{length, drop};
 ghost use lib.Seq.{sets};
 ghost use Rattle.sheet_format.specs.Put.{Puts, inTurn};
 ghost use Rattle.sheet_rows.specs.Rows.{partsIn};
-ghost use Rattle.sheet_lanes.specs.Put.{laneRows};
-ghost use Rattle.sheet_lanes.specs.Rows.{Short, lanesText};
+ghost use Rattle.sheet_lanes.specs.Put.{laneRows, SingleTo};
+ghost use Rattle.sheet_lanes.specs.Rows.{Short, planFrom, SingleIn, laneText};
 use crate::lane::write_lane;
+use sheet_format::Level;
 use sheet_rows::parts::Parts;
 
-// Writes the lane of n rows from a byte on by its plan, from `at` on; the position behind it.
-fn put_lane(out: &mut [u8], at: usize, rows: &[u8], first: usize, n: usize, plan: &[u16]) -> usize
-    requires { ⌜ (first + 8 * n ≤ length (now rows)) × (n ≤ length (now plan)) ⌝ }
-    requires { ⌜ at + length (laneRows (now plan) (drop first (now rows)) n) ≤ length (now out) ⌝ }
-    ensures { λ r. ⌜ Puts (now (out .entry)) at (laneRows (now (plan .entry)) (drop first (now (rows .entry))) n)
-        (now (out .exit)) r ⌝ }
+// Writes the lane of n rows that begin at byte `first` by its plan, which begins at `place`, from `at` on; the position
+// behind it.
+fn put_lane(
+    level: Level,
+    out: &mut [u8],
+    at: usize,
+    rows: &[u8],
+    first: usize,
+    n: usize,
+    plan: &[u32],
+    place: usize,
+) -> usize
+    requires { ⌜ (first + 8 * n ≤ length (now rows)) × (place + n ≤ length (now plan)) ⌝ }
+    requires { ⌜ SingleTo (drop place (now plan)) n ⌝ }
+    requires { ⌜ at + length (laneRows level (drop place (now plan)) (drop first (now rows)) n) ≤ length (now out) ⌝ }
+    ensures { λ r. ⌜ Puts (now (out .entry)) at
+        (laneRows level (drop place (now (plan .entry))) (drop first (now (rows .entry))) n) (now (out .exit)) r ⌝ }
 {
-    at + write_lane(&mut out[at..], &rows[first..], n, plan)
+    at + write_lane(level, &mut out[at..], &rows[first..], n, &plan[place..])
 }
 
 // Writes the four lanes by their plans behind the header.
-pub fn write_lanes(
-    out: &mut [u8],
-    rows: &[u8],
-    parts: Parts,
-    a: &[u16],
-    b: &[u16],
-    c: &[u16],
-    d: &[u16],
-)
-    requires { ⌜ Short (now rows) × (parts ≡ partsIn (now rows)) ⌝ }
-    requires { ⌜ (64 < length (now a)) × (64 < length (now b)) × (64 < length (now c)) × (64 < length (now d)) ⌝ }
-    requires { ⌜ 16 + length (inTurn (lanesText (now rows) (now a) (now b) (now c) (now d)) 4) ≤ length (now out) ⌝ }
+pub fn write_lanes(level: Level, out: &mut [u8], rows: &[u8], parts: Parts, plan: &[u32])
+    requires { ⌜ Short (now rows) × (parts ≡ partsIn (now rows)) × (planFrom (now rows) 4 ≤ length (now plan)) ⌝ }
+    requires { ⌜ SingleIn (now rows) (now plan) ⌝ }
+    requires { ⌜ 16 + length (inTurn (laneText level (now rows) (now plan)) 4) ≤ length (now out) ⌝ }
     ensures { λ r. ⌜ now (out .exit) ≡ sets (now (out .entry)) 16
-        (inTurn (lanesText (now (rows .entry)) (now (a .entry)) (now (b .entry)) (now (c .entry))
-        (now (d .entry))) 4) ⌝ }
+        (inTurn (laneText level (now (rows .entry)) (now (plan .entry))) 4) ⌝ }
 {
     let from = parts.from;
     let count = parts.count;
-    let behind_first = put_lane(out, 16, rows, from[0], count[0], a);
-    let behind_second = put_lane(out, behind_first, rows, from[1], count[1], b);
-    let behind_third = put_lane(out, behind_second, rows, from[2], count[2], c);
-    put_lane(out, behind_third, rows, from[3], count[3], d);
+    let mut at = 16;
+    let mut place = 0;
+    let mut t = 0;
+    while t < 4 {
+        at = put_lane(level, out, at, rows, from[t], count[t], plan, place);
+        place = place + count[t] + 1;
+        t += 1;
+    }
 }

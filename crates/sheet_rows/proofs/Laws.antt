@@ -2,5 +2,4 @@
 pub mod Read
 pub mod Lanes
 pub mod Parts
-pub mod Filled
 pub mod Put

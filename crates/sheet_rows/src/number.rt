@@ -1,7 +1,6 @@
-// Numbers as bytes, tests as numbers, the smaller of two numbers, and whether eight bytes fit.
+// Numbers as bytes, the smaller of two numbers, and whether eight bytes fit.
 ghost use mathlib.Core.Path.{_≡_};
-ghost use mathlib.Core.Bool.{cond};
-ghost use Prim.Native.Nat.{min, _+_, _%_, _≤_};
+ghost use Prim.Native.Nat.{min, _+_, _%_};
 ghost use lib.Dec.{leb};
 
 // The lowest byte of a number.
@@ -9,13 +8,6 @@ pub fn low(n: usize) -> u8
     ensures { λ r. ⌜ r ≡ n % 256 ⌝ }
 {
     (n % 256) as u8
-}
-
-// 1 for a test that holds.
-pub fn one(b: bool) -> u32
-    ensures { λ r. ⌜ (r ≡ cond b 1 0) × (r ≤ 1) ⌝ }
-{
-    if b { 1 } else { 0 }
 }
 
 // A number of 32 bits, as wide as an index.

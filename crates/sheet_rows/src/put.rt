@@ -1,5 +1,5 @@
 // Writing bytes in place, numbers little-endian. Each `put_` that answers with a position needs room, and answers with
-// the position behind what it wrote; a half of a sheet's header and `put_row` write nothing where they do not fit.
+// the position behind what it wrote; a half of a sheet's header is not written where it does not fit.
 ghost use mathlib.Core.Path.{_≡_};
 ghost use mathlib.Core.List.{[], _∷_, _++_};
 ghost use Prim.Native.Nat.{_+_, _≤_};
@@ -8,7 +8,6 @@ ghost use lib.Seq.{sets};
 ghost use Rattle.sheet_format.specs.Bytes.{wordBytes, quadBytes, row};
 ghost use Rattle.sheet_format.specs.Put.{Puts, laid};
 ghost use Rattle.sheet_rows.specs.Eight.{eightIn};
-use crate::number::fits;
 use crate::number::low;
 
 pub fn put_four(out: &mut [u8], at: usize, a: u8, b: u8, c: u8, d: u8) -> usize
@@ -80,14 +79,5 @@ pub fn put_counts(out: &mut [u8], a: usize, b: usize, c: usize, d: usize)
     if 16 <= out.len() {
         let next = put_words(out, 8, a, b);
         put_words(out, next, c, d);
-    }
-}
-
-// An instruction, where it fits.
-pub fn put_row(out: &mut [u8], at: usize, o: u8, a: u8, b: u8, c: u32)
-    ensures { λ r. ⌜ now (out .exit) ≡ laid (now (out .entry)) at (row o a b c) ⌝ }
-{
-    if fits(out.len(), at) {
-        store_row(out, at, o, a, b, c);
     }
 }

@@ -3,7 +3,7 @@ ghost use mathlib.Core.Path.{_≡_};
 ghost use Rattle.sheet_format.specs.Bytes.{writeInto};
 ghost use Rattle.text_listing.specs.Listing.{printed};
 use sheet_format::WriteResult;
-use sheet_level2::lower::lower2;
+use sheet_lower::lower::lower2;
 use sheet_rows::read::word_at;
 use text_listing::refusal::list_refusal;
 use text_listing::whole::list_sheet;
@@ -12,7 +12,7 @@ use text_listing::whole::list_sheet;
 pub fn print_kernel(file: &[u8], out: &mut [u8]) -> WriteResult
     ensures { λ r. ⌜ (r, now (out .exit)) ≡ writeInto (printed (now (file .entry))) (now (out .entry)) ⌝ }
 {
-    let mut sheet = [0u8; 10256];
+    let mut sheet = [0u8; 4112];
     let answer = lower2(file, &mut sheet);
     match answer {
         WriteResult::Refuses(number, rec) => list_refusal(number as u32, rec as u32, out),

@@ -1,7 +1,7 @@
 -- A text by computation. The paper's own listing stands with its other examples.
 use mathlib.Core.Path.{_≡_, refl}
 use mathlib.Core.List.{[], _∷_}
-use Rattle.file_verdict.specs.Verdict.{structureThen, refusalOf}
+use Rattle.file_verdict.specs.Verdict.{fieldsThen, structureThen, refusalOf}
 use Rattle.text_put.specs.Decimal.{digits, decimal}
 use Rattle.text_listing.specs.Line.{refusalLine}
 use Rattle.text_listing.specs.Listing.{printed}
@@ -10,5 +10,5 @@ use Rattle.text_listing.specs.Listing.{printed}
 refused-holds : printed [] ≡
     114 ∷ 101 ∷ 102 ∷ 117 ∷ 115 ∷ 101 ∷ 100 ∷ 32 ∷ 49 ∷ 32 ∷ 114 ∷ 101 ∷ 99 ∷ 111 ∷ 114 ∷ 100 ∷ 32 ∷ 48 ∷ 10
     ∷ []
-unfolding refusalOf structureThen digits decimal refusalLine
+unfolding refusalOf structureThen fieldsThen digits decimal refusalLine
 refused-holds = refl

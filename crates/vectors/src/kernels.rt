@@ -6,8 +6,8 @@ use console::print::say;
 use console::print::say_number;
 use console::print::say_refusal;
 use sheet_format::WriteResult;
-use sheet_level1::lower::lower1;
-use sheet_level2::lower::lower2;
+use sheet_lower::lower::lower1;
+use sheet_lower::lower::lower2;
 
 pub(crate) fn tell_pairs(n: usize)
     requires { ⌜ n < 2 ^ 63 ⌝ }
@@ -41,7 +41,7 @@ pub(crate) fn say_argument(i: usize) {
 }
 
 fn tell_kernel(file: &[u8]) {
-    let mut sheet = [0u8; 10256];
+    let mut sheet = [0u8; 6160];
     let answer = lower1(file, &mut sheet);
     match answer {
         WriteResult::Wrote(size) => {
@@ -55,7 +55,7 @@ fn tell_kernel(file: &[u8]) {
 }
 
 fn tell_level2(file: &[u8]) {
-    let mut sheet = [0u8; 10256];
+    let mut sheet = [0u8; 4112];
     let answer = lower2(file, &mut sheet);
     match answer {
         WriteResult::Wrote(size) => {

@@ -21,7 +21,7 @@ pub code-small : (o : Option Barrier) → cellCode o < 16
 code-small none = omega arith
 code-small (some b) = ltb-true (codeOf b) 16 (barrier-at (λ a. ltb (codeOf a) 16) refl b)
 
-pub code-set : (o : Option Barrier) → 1 * 2 ^ cellCode o % 2 ^ 16 / 2 ^ 11 ≡ setOf o
+pub code-set : (o : Option Barrier) → 1 * 2 ^ cellCode o % 2 ^ 32 / 2 ^ 11 ≡ setOf o
 code-set none = refl
 code-set (some LL) = refl
 code-set (some LS) = refl

@@ -1,9 +1,9 @@
 -- The list of the barriers that a test picks holds each that it picks, no other, and none twice.
-use Prim.Native.Nat.{ℕ, zero, suc, _<_}
+use Prim.Native.Nat.{ℕ, zero, suc, _<_, _≤_}
 use native.Mathlib.Nat.{not-suc-le-zero, le-of-suc-le-suc}
 use native.Mathlib.Omega.{arith}
 use mathlib.Core.Path.{_≡_, refl, ap}
-use mathlib.Core.Bool.{Bool, true, false, false≢true}
+use mathlib.Core.Bool.{Bool, true, false, _&&_, true≢false, false≢true}
 use mathlib.Core.List.{List, []}
 use lib.ListN.{length, getD}
 use Rattle.barrier_placement.specs.Cookbook.{Barrier, LL, LS, SS, SL, codeOf}
@@ -32,6 +32,14 @@ keep-here false b l h = absurd (false≢true h)
 keep-there : (t : Bool) (a b : Barrier) (l : List Barrier) → Holds l b → Holds (keep t a l) b
 keep-there true a b l h = (suc (h .0), omega (arith, h .1), h .2)
 keep-there false a b l h = h
+
+-- of two that are not both picked one comes at most
+pub keep-one : (t u : Bool) (a b : Barrier) (l : List Barrier) → (t && u) ≡ false
+    → length (keep t a (keep u b l)) ≤ suc (length l)
+keep-one true true a b l h = absurd (true≢false h)
+keep-one true false a b l h = omega arith
+keep-one false true a b l h = omega arith
+keep-one false false a b l h = omega arith
 
 keep-each : (P : Barrier → Type 0) (t : Bool) (b : Barrier) (l : List Barrier) → (t ≡ true → P b) → Each P l
     → Each P (keep t b l)

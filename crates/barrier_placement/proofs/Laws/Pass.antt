@@ -121,64 +121,47 @@ module _ (s : Chain) (b : Barrier) where
           ∙ g .ahead x (omega arith) k d
           ∙ sym (jumped-by p x false d i k (there x false w))
 
-  -- what is known before position p: what is due, what jumps have brought, and in the plan what stands below p
-  pub record Reached (d : ℕ) (l plan : List ℕ) (p : ℕ) : Type 0 where
+  -- what is known before position p: what is due, and what jumps have brought
+  pub record Reached (d : ℕ) (l : List ℕ) (p : ℕ) : Type 0 where
     pub due-here : (c : Class) → dueIn d b c ≡ passed p c
     pub gathered : Gathered l p
-    pub planned : (j : ℕ) → j < p → bit (getD plan j 0) (bitOf b) ≡ stands s b j
 
-  pub reached-none : (plan : List ℕ) → Reached 0 (replicate 65 0) plan 0
-  reached-none plan = record {
-    due-here = λ c. bit-zero (4 * numberOf c + bitOf b);
-    gathered = gathered-none;
-    planned = λ j h. absurd (omega arith);
-  }
+  pub reached-none : Reached 0 (replicate 65 0) 0
+  reached-none = record { due-here = λ c. bit-zero (4 * numberOf c + bitOf b); gathered = gathered-none }
 
-  -- A turn of the pass, at a step that lands at t; l′ is the list of what jumps bring after it, and x what the plan
-  -- has of p.
-  pub turn : {d here next p t : ℕ} {l l′ plan : List ℕ} {stood : Bool} (new x : ℕ)
-      → Reached d l plan p → p < 64
-      → here ≡ bitOr d (getD l p 0)
-      → stood ≡ standsAt (at s p) (dueIn here b)
-      → bit x (bitOf b) ≡ stood
-      → p < length plan
-      → ((c : Class) → dueIn new b c ≡ raises b (at s p) c)
-      → ((c : Class) → dueIn next b c ≡ ((not stood && dueIn here b c) || dueIn new b c))
-      → t ≡ landing (at s p)
-      → ((p < t) × (l′ ≡ set l t (bitOr next (getD l t 0)))) ⊎ ((t ≤ p) × (l′ ≡ l))
-      → Reached next l′ (set plan p x) (p + 1)
-  unfolding stands
-  turn {d} {here} {next} {p} {t} {l} {l′} {plan} {stood} new x r h eh es ex room en el et w = record {
-    due-here = λ c. next-is c ∙ ap (λ (k : ℕ). passed k c) (sym (add-one p));
-    gathered = go w;
-    planned = λ j i. stands-at j i (eqb j p) refl;
-  }
-    where
-      here-is : (c : Class) → dueIn here b c ≡ due s b p c
-      here-is c =
-          ap (λ (n : ℕ). dueIn n b c) eh
-          ∙ bit-or d (getD l p 0) (4 * numberOf c + bitOf b)
-          ∙ ap₂ (λ (t u : Bool). t || u) (r .due-here c) (r .gathered .ahead p (omega arith) (omega arith) c)
-          ∙ sym (due-by p c)
+  module _ {d here p : ℕ} {l : List ℕ} (r : Reached d l p) (h : p < 64) (eh : here ≡ bitOr d (getD l p 0)) where
+    here-is : (c : Class) → dueIn here b c ≡ due s b p c
+    here-is c =
+        ap (λ (n : ℕ). dueIn n b c) eh
+        ∙ bit-or d (getD l p 0) (4 * numberOf c + bitOf b)
+        ∙ ap₂ (λ (t u : Bool). t || u) (r .due-here c) (r .gathered .ahead p (omega arith) (omega arith) c)
+        ∙ sym (due-by p c)
 
-      stood-is : stood ≡ standsAt (at s p) (due s b p)
-      stood-is = es ∙ ap (standsAt (at s p)) (fun-ext here-is)
+    -- what stands at p, of what is due there
+    pub stands-here : standsAt (at s p) (dueIn here b) ≡ stands s b p
+    unfolding stands
+    stands-here = ap (standsAt (at s p)) (fun-ext here-is)
 
-      stands-at : (j : ℕ) → j < p + 1 → (u : Bool) → eqb j p ≡ u
-          → bit (getD (set plan p x) j 0) (bitOf b) ≡ stands s b j
-      stands-at j i true e =
-          subst (λ (y : ℕ). bit (getD (set plan p x) y 0) (bitOf b) ≡ stands s b y) (sym (eqb-true j p e))
-          (ap (λ (y : ℕ). bit y (bitOf b)) (getD-set-same plan p x 0 room) ∙ ex ∙ stood-is)
-      stands-at j i false e =
-          let ne : ¬ j ≡ p = eqb-false j p e in
-          ap (λ (y : ℕ). bit y (bitOf b)) (getD-set-other plan p j x 0 ne) ∙ r .planned j (omega arith)
+    -- a turn of the pass, at a step that lands at t; l′ is the list of what jumps bring after it
+    pub turn : {next t : ℕ} {l′ : List ℕ} {stood : Bool} (new : ℕ)
+        → stood ≡ stands s b p
+        → ((c : Class) → dueIn new b c ≡ raises b (at s p) c)
+        → ((c : Class) → dueIn next b c ≡ ((not stood && dueIn here b c) || dueIn new b c))
+        → t ≡ landing (at s p)
+        → ((p < t) × (l′ ≡ set l t (bitOr next (getD l t 0)))) ⊎ ((t ≤ p) × (l′ ≡ l))
+        → Reached next l′ (p + 1)
+    unfolding stands
+    turn {next} {t} {l′} {stood} new es en el et w = record {
+      due-here = λ c. next-is c ∙ ap (λ (k : ℕ). passed k c) (sym (add-one p));
+      gathered = go w;
+    }
+      where
+        next-is : (c : Class) → dueIn next b c ≡ left p c
+        next-is c = el c ∙ (λ i. (not (es i) && here-is c i) || en c i)
 
-      next-is : (c : Class) → dueIn next b c ≡ left p c
-      next-is c = el c ∙ (λ i. (not (stood-is i) && here-is c i) || en c i)
-
-      go : ((p < t) × (l′ ≡ set l t (bitOr next (getD l t 0)))) ⊎ ((t ≤ p) × (l′ ≡ l)) → Gathered l′ (p + 1)
-      go (inl (k, f)) =
-          rw f (gathered-push (bitOr next (getD l t 0)) (r .gathered) (sym et) k (λ c.
-          bit-or next (getD l t 0) (4 * numberOf c + bitOf b)
-          ∙ ap (λ (u : Bool). u || dueIn (getD l t 0) b c) (next-is c)))
-      go (inr (k, f)) = rw f (gathered-on (r .gathered) (omega (arith, et)))
+        go : ((p < t) × (l′ ≡ set l t (bitOr next (getD l t 0)))) ⊎ ((t ≤ p) × (l′ ≡ l)) → Gathered l′ (p + 1)
+        go (inl (k, f)) =
+            rw f (gathered-push (bitOr next (getD l t 0)) (r .gathered) (sym et) k (λ c.
+            bit-or next (getD l t 0) (4 * numberOf c + bitOf b)
+            ∙ ap (λ (u : Bool). u || dueIn (getD l t 0) b c) (next-is c)))
+        go (inr (k, f)) = rw f (gathered-on (r .gathered) (omega (arith, et)))

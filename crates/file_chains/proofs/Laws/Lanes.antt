@@ -1,7 +1,7 @@
 -- Laws of the walk along the lanes: their chains stand in the order one behind the other.
 use Prim.Native.Nat.{ℕ, zero, suc, _+_, _-_, _≤_, _<_, min}
 use mathlib.Core.Path.{_≡_, refl, sym, ap, _∙_}
-use mathlib.Core.Bool.{false, not}
+use mathlib.Core.Bool.{Bool, false, not}
 use mathlib.Core.List.{List, _++_, append-assoc}
 use native.Mathlib.Omega.{arith}
 use native.Mathlib.Numerals.{add-one}
@@ -15,7 +15,7 @@ use Rattle.file_format.specs.Linkage.{chain, linkageFrom, badLinkage}
 use Rattle.file_format.proofs.Laws.Linkage.{linkage-on, linkage-end}
 use Rattle.file_chains.specs.Ordered.{beginOf, recordsIn, Ordered}
 use Rattle.file_chains.specs.Walks.{met, fronts, Filling, LaneWalked}
-use Rattle.file_chains.proofs.Laws.Tally.{tally-none, up-at, none-down, all-up, met-down, met-given}
+use Rattle.file_chains.proofs.Laws.Tally.{tally-none, up-at, none-down, all-up, met-none, met-given}
 use Rattle.file_chains.proofs.Laws.Walks.{filling-count}
 
 -- t lanes were walked, and left k records in the order
@@ -28,27 +28,36 @@ pub record Linking (s order place ends : List ℕ) (k t : ℕ) : Type 0 where
   pub end-at : (u : ℕ) → u < t → getD ends u 0 ≡ length (fronts s (suc u))
   pub answer : linkageFrom s (met place) t (4 - t) ≡ badLinkage s
 
-pub linking-start : (s : List ℕ) → recordCount s ≤ 256
-    → Linking s (replicate 257 0) (replicate 257 0) (replicate 4 0) 0 0
+pub linking-start : (s order place : List ℕ) → recordCount s ≤ 256 → recordCount s ≤ length order
+    → recordCount s < length place → place ≡ replicate (length place) 0
+    → Linking s order place (replicate 4 0) 0 0
 unfolding fronts badLinkage
-linking-start s few =
+linking-start s order place few room room′ blank =
     record {
       filling = record {
-        order-room = refl;
-        place-room = refl;
-        counted = tally-none (met (replicate 257 0)) 1 (recordCount s)
-            (λ j. met-down (replicate 257 0) j (getD-replicate-all {A = ℕ} (λ n. n ≡ 0) 257 0 0 refl refl j));
+        order-room = room;
+        place-room = room′;
+        counted = tally-none (met place) 1 (recordCount s) (λ j. ap (λ l. getD l j false) down
+            ∙ getD-replicate-all {A = Bool} (λ b. b ≡ false) 257 false false refl refl j);
         named = λ j h. absurd (omega arith);
         placed = λ j h. absurd (omega arith);
-        every = λ i up. absurd (omega (arith, getD-replicate-all {A = ℕ} (λ n. n ≡ 0) 257 0 0 refl refl i));
+        every = λ i up. absurd (omega (arith, none i));
       };
       few = few;
       four = refl;
       upto = omega arith;
       front = refl;
       end-at = λ u h. absurd (omega arith);
-      answer = refl;
+      answer = ap (λ l. linkageFrom s l 0 4) down;
     }
+  where
+    none : (i : ℕ) → getD place i 0 ≡ 0
+    none i =
+        ap (λ l. getD l i 0) blank
+        ∙ getD-replicate-all {A = ℕ} (λ n. n ≡ 0) (length place) 0 0 refl refl i
+
+    down : met place ≡ replicate 257 false
+    down = met-none place none
 
 module _ {s order place ends : List ℕ} {k t : ℕ} (l : Linking s order place ends k t) where
   -- lane t was walked
@@ -152,7 +161,8 @@ module _ {s order place ends : List ℕ} {k t : ℕ} (l : Linking s order place 
   every-of : (i : ℕ) → 1 ≤ i → i ≤ recordCount s
       → (1 ≤ getD place i 0) × (getD place i 0 ≤ recordCount s) × (getD order (getD place i 0 - 1) 0 ≡ i)
   every-of i lo hi =
-      let up : 1 ≤ getD place i 0 = met-given place i (up-at (met place) (recordCount s) none i lo (omega arith)) in
+      let up : 1 ≤ getD place i 0 =
+      met-given place i (omega (arith, l .few)) (up-at (met place) (recordCount s) none i lo (omega arith)) in
       let at = l .filling .every i up in
       (up, omega (arith, at .0, whole), at .1)
 

@@ -30,16 +30,6 @@ unfolding unreachableTarget
 reached-by s r fine some = not-false (member (target s r) (chain s 64 (next s r))) (rw some at fine)
 
 module _ {s order place ends : List ℕ} (o : Ordered s order place ends) where
-  -- the order has room for the records
-  pub records-fit : recordCount s ≤ 257
-  records-fit = go (decLe (recordCount s) 257)
-    where
-      go : Dec (recordCount s ≤ 257) → recordCount s ≤ 257
-      go (yes l) = l
-      go (no l) =
-          let past = List·getD-eq-default order 0 {n = 257} (omega (arith, o .order-room)) in
-          absurd (omega (arith, o .named 257 (omega arith) .0))
-
   -- no lane ends behind the last record
   pub end-inside : (t : ℕ) → t < 4 → getD ends t 0 ≤ recordCount s
   end-inside zero h =
@@ -49,12 +39,13 @@ module _ {s order place ends : List ℕ} (o : Ordered s order place ends) where
   end-inside (suc (suc (suc zero))) h = omega (arith, o .all)
   end-inside (suc (suc (suc (suc t)))) h = absurd (omega arith)
 
-  pub end-fits : (t : ℕ) → getD ends t 0 ≤ 257
+  -- and the order has room for it
+  pub end-fits : (t : ℕ) → getD ends t 0 ≤ length order
   end-fits t = go (decLe 4 t)
     where
-      go : Dec (4 ≤ t) → getD ends t 0 ≤ 257
+      go : Dec (4 ≤ t) → getD ends t 0 ≤ length order
       go (yes l) = omega (arith, List·getD-eq-default ends 0 {n = t} (omega (arith, o .four)))
-      go (no l) = omega (arith, end-inside t (omega arith), records-fit)
+      go (no l) = omega (arith, end-inside t (omega arith), o .order-room)
 
   module _ (t : ℕ) (below : t < 4) where
     pub lane-length : length (recordsIn order ends t) ≡ countOf ends t
@@ -66,7 +57,6 @@ module _ {s order place ends : List ℕ} (o : Ordered s order place ends) where
           o .order-room,
           o .rising t below,
           end-inside t below,
-          records-fit,
         )
 
     -- record p of the lane stands p places behind its first

@@ -2,17 +2,18 @@
 use Prim.Native.Nat.{ℕ, zero, suc, _+_, _≤_, _<_}
 use mathlib.Core.Path.{_≡_, refl, sym, ap, _∙_}
 use mathlib.Core.Bool.{Bool, true, false, not}
-use mathlib.Core.List.{List}
+use mathlib.Core.List.{List, [], _∷_, _++_, map}
 use native.Mathlib.Omega.{arith}
 use native.Mathlib.Decide.{decLe}
 use borrow.Author.Tests.{eq-eqb, ne-eqb, eqb-false, not-true, not-false}
 use lib.Dec.{eqb}
-use lib.ListN.{length, getD, set, List·getD-map}
-use lib.Seq.{getD-set-same, getD-set-other}
-use Rattle.laws.proofs.Lists.{map-set}
+use lib.ListN.{length, getD, take, set, replicate, length-append, length-take, length-map, length-replicate}
+use lib.ListN.{getD-replicate, List·getD-map}
+use lib.Seq.{getD-set-same, getD-set-other, getD-take, set-append-left, take-set-lt, ext-getD}
+use Rattle.laws.proofs.Lists.{map-set, getD-replicate-all}
 use Rattle.file_format.specs.Search.{lowest}
 use Rattle.file_format.proofs.Laws.Search.{nothing-found}
-use Rattle.file_chains.specs.Walks.{given, met, bit, tally}
+use Rattle.file_chains.specs.Walks.{given, padded, met, bit, tally}
 
 pub tally-le : (flags : List Bool) (i k : ℕ) → tally flags i k ≤ k
 unfolding tally
@@ -94,25 +95,59 @@ module _ (flags : List Bool) (r : ℕ) (room : r < length flags) (down : getD fl
           ap bit (getD-set-other flags r i true false (λ e. omega arith)) in
           omega (arith, ih (omega arith) (omega arith))
 
+-- ## the flags of a walk
+
+pub met-length : (place : List ℕ) → length (met place) ≡ 257
+unfolding met
+met-length place =
+    length-map (padded place) given
+    ∙ omega (
+      arith,
+      length-take 257 (place ++ replicate 257 0),
+      length-append place (replicate 257 0),
+      length-replicate {A = ℕ} 257 0,
+    )
+
+padded-at : (place : List ℕ) (n i : ℕ) → getD (place ++ replicate n 0) i 0 ≡ getD place i 0
+padded-at [] n i = getD-replicate-all {A = ℕ} (λ x. x ≡ 0) n 0 0 refl refl i
+padded-at (x ∷ place) n zero = refl
+padded-at (x ∷ place) n (suc i) = padded-at place n i
+
 -- the flag of a record is up exactly where the record has a place
-met-at : (place : List ℕ) (i : ℕ) → getD (met place) i false ≡ given (getD place i 0)
-met-at place i = List·getD-map given place i 0
+module _ (place : List ℕ) (i : ℕ) (below : i < 257) where
+  met-at : getD (met place) i false ≡ given (getD place i 0)
+  unfolding met
+  met-at =
+      List·getD-map given (padded place) i 0
+      ∙ ap given (getD-take 257 (place ++ replicate 257 0) i 0 below ∙ padded-at place 257 i)
 
-pub met-up : (place : List ℕ) (i : ℕ) → (getD place i 0 ≡ 0 → ⊥) → getD (met place) i false ≡ true
-met-up place i h = met-at place i ∙ ap not (ne-eqb (getD place i 0) 0 h)
+  pub met-up : (getD place i 0 ≡ 0 → ⊥) → getD (met place) i false ≡ true
+  met-up h = met-at ∙ ap not (ne-eqb (getD place i 0) 0 h)
 
-pub met-down : (place : List ℕ) (i : ℕ) → getD place i 0 ≡ 0 → getD (met place) i false ≡ false
-met-down place i h = met-at place i ∙ ap not (eq-eqb (getD place i 0) 0 h)
+  pub met-down : getD place i 0 ≡ 0 → getD (met place) i false ≡ false
+  met-down h = met-at ∙ ap not (eq-eqb (getD place i 0) 0 h)
 
-pub met-given : (place : List ℕ) (i : ℕ) → getD (met place) i false ≡ true → 1 ≤ getD place i 0
-met-given place i h = go (decLe 1 (getD place i 0))
-  where
-    go : Dec (1 ≤ getD place i 0) → 1 ≤ getD place i 0
-    go (yes l) = l
-    go (no l) =
-        let some = not-true (eqb (getD place i 0) 0) (sym (met-at place i) ∙ h) in
-        absurd (eqb-false (getD place i 0) 0 some (omega arith))
+  pub met-given : getD (met place) i false ≡ true → 1 ≤ getD place i 0
+  met-given h = go (decLe 1 (getD place i 0))
+    where
+      go : Dec (1 ≤ getD place i 0) → 1 ≤ getD place i 0
+      go (yes l) = l
+      go (no l) =
+          let some = not-true (eqb (getD place i 0) 0) (sym met-at ∙ h) in
+          absurd (eqb-false (getD place i 0) 0 some (omega arith))
 
-pub met-set : (place : List ℕ) (r v : ℕ) → 1 ≤ v → met (set place r v) ≡ set (met place) r true
-met-set place r v h =
-    map-set given place r v ∙ ap (set (met place) r) (ap not (ne-eqb v 0 (λ e. omega arith)))
+  -- one record more
+  pub met-set : (v : ℕ) → i < length place → 1 ≤ v → met (set place i v) ≡ set (met place) i true
+  unfolding met
+  met-set v room h =
+      ap (λ l. map given (take 257 l)) (sym (set-append-left place (replicate 257 0) i v room))
+      ∙ ap (map given) (take-set-lt 257 (place ++ replicate 257 0) i v below)
+      ∙ map-set given (padded place) i v
+      ∙ ap (set (map given (padded place)) i) (ap not (ne-eqb v 0 (λ e. omega arith)))
+
+-- where no record has a place
+pub met-none : (place : List ℕ) → ((i : ℕ) → getD place i 0 ≡ 0) → met place ≡ replicate 257 false
+met-none place none =
+    ext-getD false (met place) (replicate 257 false) (met-length place ∙ sym (length-replicate {A = Bool} 257 false))
+    (λ i h. let below : i < 257 = omega (arith, met-length place) in
+    met-down place i below (none i) ∙ sym (getD-replicate {A = Bool} 257 i false false below))

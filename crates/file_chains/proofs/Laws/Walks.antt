@@ -5,15 +5,15 @@ use mathlib.Core.List.{List, [], _∷_, _++_, append-nil}
 use native.Mathlib.Omega.{arith}
 use native.Mathlib.Numerals.{add-one}
 use native.Mathlib.Decide.{decLe, ℕ-discrete}
-use lib.ListN.{getD, take, set, length-set, length-map}
+use lib.ListN.{length, getD, take, set, length-set}
 use lib.Seq.{getD-set-same, getD-set-other, take-suc-set, append-snoc}
 use Rattle.file_format.specs.Fields.{recordCount, next}
 use Rattle.file_format.specs.Rules.{badRecord}
 use Rattle.file_format.specs.Linkage.{chain, walkOf}
 use Rattle.file_format.proofs.Laws.Rules.{next-small}
 use Rattle.file_format.proofs.Laws.Linkage.{walkOf-here, walkOf-on, walk-stop, walk-on}
-use Rattle.file_chains.specs.Walks.{given, met, tally, Filling, LaneWalked}
-use Rattle.file_chains.proofs.Laws.Tally.{tally-le, tally-up, met-up, met-down, met-set}
+use Rattle.file_chains.specs.Walks.{met, tally, Filling, LaneWalked}
+use Rattle.file_chains.proofs.Laws.Tally.{tally-le, tally-up, met-length, met-up, met-down, met-set}
 
 module _ (s order place : List ℕ) (n : ℕ) (f : Filling s order place n) where
   -- the order has at most the file's records
@@ -24,8 +24,9 @@ module _ (s order place : List ℕ) (n : ℕ) (f : Filling s order place n) wher
   module _ (r : ℕ) (few : recordCount s ≤ 256) (lo : 1 ≤ r) (hi : r ≤ recordCount s) (none : getD place r 0 ≡ 0) where
     counted-on : tally (met (set place r (n + 1))) 1 (recordCount s) ≡ n + 1
     counted-on =
-        ap (λ l. tally l 1 (recordCount s)) (met-set place r (n + 1) (omega arith))
-        ∙ tally-up (met place) r (omega (arith, length-map place given, f .place-room)) (met-down place r none)
+        let below : r < 257 = omega arith in
+        ap (λ l. tally l 1 (recordCount s)) (met-set place r below (n + 1) (omega (arith, f .place-room)) (omega arith))
+        ∙ tally-up (met place) r (omega (arith, met-length place)) (met-down place r below none)
         1 (recordCount s) lo (omega arith)
         ∙ ap suc (f .counted) ∙ sym (add-one n)
 
@@ -77,8 +78,8 @@ module _ (s order place : List ℕ) (n : ℕ) (f : Filling s order place n) wher
     pub filling-on : Filling s (set order n r) (set place r (n + 1)) (n + 1)
     filling-on =
         record {
-          order-room = length-set order n r ∙ f .order-room;
-          place-room = length-set place r (n + 1) ∙ f .place-room;
+          order-room = omega (arith, length-set order n r, f .order-room);
+          place-room = omega (arith, length-set place r (n + 1), f .place-room);
           counted = counted-on;
           named = named-on;
           placed = placed-on;
@@ -92,6 +93,8 @@ pub record Walking (s : List ℕ) (h k : ℕ) (order₀ place₀ order place : L
   pub few : recordCount s ≤ 256
   pub keeps : badRecord s ≡ 0
   pub filling : Filling s order place n
+  pub order-kept : length order ≡ length order₀
+  pub place-kept : length place ≡ length place₀
   pub more : k ≤ n
   pub rest : walkOf (met place) (chain s (257 - (n - k)) r) ≡ walkOf (met place₀) (chain s 257 h)
   pub records : take n order ++ chain s (257 - (n - k)) r ≡ take k order₀ ++ chain s 257 h
@@ -105,6 +108,8 @@ walking-start s h k order place hi few keeps f =
       few = few;
       keeps = keeps;
       filling = f;
+      order-kept = refl;
+      place-kept = refl;
       more = omega arith;
       rest = rw whole refl;
       records = rw whole refl;
@@ -129,17 +134,15 @@ module _ {s : List ℕ} {h k : ℕ} {order₀ place₀ order place : List ℕ} {
     pub walking-twice : (getD place r 0 ≡ 0 → ⊥) → LaneWalked s h k order₀ place₀ r n order place
     walking-twice given =
         record {
-          flags = sym (walkOf-here (met place) r _ (met-up place r given))
+          flags = sym (walkOf-here (met place) r _ (met-up place r (omega (arith, w .small, w .few)) given))
               ∙ walk-on (walkOf (met place)) s (257 - (n - k)) r (omega (arith, walking-count)) some refl (w .rest);
           filling = w .filling;
           behind = λ e. absurd (some e);
         }
 
     module _ (none : getD place r 0 ≡ 0) where
-      pub walking-room : n < 256
-      walking-room =
-          omega
-          (arith, w .few, filling-less s order place n (w .filling) r (w .few) (omega arith) (w .small) none)
+      pub walking-room : n < recordCount s
+      walking-room = filling-less s order place n (w .filling) r (w .few) (omega arith) (w .small) none
 
       pub walking-on : {r′ : ℕ} → r′ ≡ next s r
           → Walking s h k order₀ place₀ (set order n r) (set place r (n + 1)) r′ (n + 1)
@@ -147,6 +150,8 @@ module _ {s : List ℕ} {h k : ℕ} {order₀ place₀ order place : List ℕ} {
           let fuel : 0 < 257 - (n - k) = omega (arith, walking-count) in
           let less : 257 - (n + 1 - k) ≡ 257 - (n - k) - 1 = omega (arith, w .more, walking-count) in
           let lo : 1 ≤ r = omega arith in
+          let below : r < 257 = omega (arith, w .small, w .few) in
+          let flag = met-set place r below (n + 1) (omega (arith, w .filling .place-room, w .small)) (omega arith) in
           let one : n + 1 ≡ suc n = omega arith in
           let longer : take (n + 1) (set order n r) ≡ take n order ++ (r ∷ []) =
           ap (λ m. take m (set order n r)) one
@@ -156,10 +161,12 @@ module _ {s : List ℕ} {h k : ℕ} {order₀ place₀ order place : List ℕ} {
             few = w .few;
             keeps = w .keeps;
             filling = filling-on s order place n (w .filling) r (w .few) lo (w .small) none;
+            order-kept = length-set order n r ∙ w .order-kept;
+            place-kept = length-set place r (n + 1) ∙ w .place-kept;
             more = omega (arith, w .more);
             rest = ap (λ m. walkOf (met (set place r (n + 1))) (chain s m r′)) less
-                ∙ ap (λ l. walkOf l (chain s (257 - (n - k) - 1) r′)) (met-set place r (n + 1) (omega arith))
-                ∙ sym (walkOf-on (met place) r _ (met-down place r none))
+                ∙ ap (λ l. walkOf l (chain s (257 - (n - k) - 1) r′)) flag
+                ∙ sym (walkOf-on (met place) r _ (met-down place r below none))
                 ∙ walk-on (walkOf (met place)) s (257 - (n - k)) r fuel some e (w .rest);
             records = ap (λ m. take (n + 1) (set order n r) ++ chain s m r′) less
                 ∙ ap (λ l. l ++ chain s (257 - (n - k) - 1) r′) longer

@@ -1,12 +1,12 @@
 -- Laws of one operation of a lane: its row's fields, its effect on the held set, where it leads, and the record that a
 -- fault names.
-use Prim.Native.Nat.{ℕ, zero, suc, _+_, _-_, _*_, _≤_, _<_, min}
-use mathlib.Core.Path.{_≡_, refl, ap, sym, subst, _∙_}
+use Prim.Native.Nat.{ℕ, zero, suc, _+_, _-_, _*_, _/_, _^_, _≤_, _<_, min}
+use mathlib.Core.Path.{_≡_, refl, ap, sym, _∙_}
 use mathlib.Core.List.{List, [], _∷_}
 use mathlib.Core.Bool.{Bool, false, cond}
 use mathlib.Core.Option.{some}
 use native.Mathlib.Omega.{arith}
-use borrow.Author.Tests.{le-ltb}
+use lib.Bits.{bitXor}
 use lib.Dec.{eqb}
 use lib.ListN.{length, getD, take, drop, length-take, length-drop}
 use lib.Seq.{getD-drop, getD-take}
@@ -17,9 +17,10 @@ use Rattle.file_format.specs.Stored.{noOp}
 use Rattle.sheet_rows.specs.Rows.{rowIn}
 use Rattle.sheet_rows.specs.Lanes.{fieldsOf}
 use Rattle.sheet_rows.proofs.Laws.Lanes.{held-fields}
-use Rattle.file_locks.specs.Sets.{bitFor, stepNumber, jumpOr, noJump, locksIn}
-use Rattle.file_locks.specs.Lanes.{LaneIn, Stepped}
-use Rattle.file_locks.proofs.Laws.Locks.{step-other, take-wrong, take-next, free-wrong, free-next}
+use Rattle.file_locks.specs.Sets.{jumpOr, noJump, locksIn, meets, ways, lockBit, barred}
+use Rattle.file_locks.specs.Lanes.{Named, LaneIn}
+use Rattle.file_locks.proofs.Laws.Locks.{other-wrong, other-next}
+use Rattle.file_locks.proofs.Laws.Locks.{lock-wrong, lock-next, unlock-wrong, unlock-next}
 
 -- ## the fields of row p
 
@@ -57,24 +58,28 @@ jump-by (Lock b) = refl
 jump-by (Unlock b) = refl
 jump-by (Skip a q) = refl
 
--- ## the set after an operation
+-- whether an operation breaks the rule, and the set after it, from its code and its operand b
+module _ (h : ℕ) (few : h < 16) where
+  pub row-wrong : (o : Op) → Named o
+      → meets (barred (ways h) (fieldsOf o .code)) (lockBit (fieldsOf o .code) (fieldsOf o .b))
+      ≡ misuse (locksIn h) (some o)
+  row-wrong (Set a c) near = other-wrong (ways h / 2 ^ 4) 0
+  row-wrong (Add a b) near = other-wrong (ways h / 2 ^ 4) b
+  row-wrong (Load a b) near = other-wrong (ways h / 2 ^ 4) b
+  row-wrong (Store a b) near = other-wrong (ways h / 2 ^ 4) b
+  row-wrong (Lock b) near = lock-wrong h b few (near (omega arith))
+  row-wrong (Unlock b) near = unlock-wrong h b few (near (omega arith))
+  row-wrong (Skip a q) near = other-wrong (ways h / 2 ^ 4) 0
 
-same-set : (h l : ℕ) (o : Op) → h < 16 → misuse (locksIn h) (some o) ≡ false → after (locksIn h) o ≡ locksIn h
-    → Stepped h o (stepNumber h (bitFor l) false false)
-same-set h l o small right same =
-    subst (Stepped h o) (sym (step-other h small l))
-    (record { wrong = le-ltb 15 h (omega arith) ∙ sym right; next = λ _. sym same })
-
--- from its code and its operand b
-pub row-stepped : (h : ℕ) (o : Op) → h < 16
-    → Stepped h o (stepNumber h (bitFor (fieldsOf o .b)) (eqb (fieldsOf o .code) 5) (eqb (fieldsOf o .code) 6))
-row-stepped h (Set a c) small = same-set h 0 (Set a c) small refl refl
-row-stepped h (Add a b) small = same-set h b (Add a b) small refl refl
-row-stepped h (Load a b) small = same-set h b (Load a b) small refl refl
-row-stepped h (Store a b) small = same-set h b (Store a b) small refl refl
-row-stepped h (Lock b) small = record { wrong = take-wrong h small b; next = take-next h small b }
-row-stepped h (Unlock b) small = record { wrong = free-wrong h small b; next = free-next h small b }
-row-stepped h (Skip a q) small = same-set h 0 (Skip a q) small refl refl
+  pub row-next : (o : Op) → Named o → misuse (locksIn h) (some o) ≡ false
+      → locksIn (bitXor h (lockBit (fieldsOf o .code) (fieldsOf o .b))) ≡ after (locksIn h) o
+  row-next (Set a c) near right = ap locksIn (other-next h 0)
+  row-next (Add a b) near right = ap locksIn (other-next h b)
+  row-next (Load a b) near right = ap locksIn (other-next h b)
+  row-next (Store a b) near right = ap locksIn (other-next h b)
+  row-next (Lock b) near right = lock-next h b few (near (omega arith)) right
+  row-next (Unlock b) near right = unlock-next h b few (near (omega arith)) right
+  row-next (Skip a q) near right = ap locksIn (other-next h 0)
 
 -- the set after one operation more
 heldFrom-suc : (h : List Bool) (ops : List Op) (p : ℕ) → p < length ops

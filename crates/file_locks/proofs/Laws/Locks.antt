@@ -1,133 +1,134 @@
--- Laws of sets of locks as numbers below 16, and of what SKIPs lead to a position.
-use Prim.Native.Nat.{ℕ, _+_, _≤_, _<_}
-use mathlib.Core.Path.{_≡_, refl, ap, sym, subst, _∙_}
-use mathlib.Core.Bool.{Bool, true, false, not, cond}
-use mathlib.Core.List.{List, []}
+-- Laws of sets of locks as numbers below 16, and of the ways to a position as numbers below 256, most of them by a
+-- table of all.
+use Prim.Native.Nat.{ℕ, _*_, _%_, _^_, _≤_, _<_}
+use mathlib.Core.Path.{_≡_, refl, ap, sym, _∙_}
+use mathlib.Core.Bool.{Bool, true, false, not, cond, _||_}
+use mathlib.Core.List.{[]}
+use native.Mathlib.Nat.{mod-lt}
 use native.Mathlib.Omega.{arith}
-use native.Mathlib.Decide.{decLt}
-use borrow.Author.Tests.{ltb-true, lt-ltb, le-ltb, ne-eqb, eqb-true, eqb-false}
+use borrow.Author.Tests.{ltb-true, ne-eqb, eqb-true, eqb-false}
+use lib.Bits.{bitOr, bitXor, and-zero-r, xor-zero-r, or-lt, or-add-and, and-le-l, and-le-r}
 use lib.Dec.{eqb, ltb}
-use lib.ListN.{getD, set, List·getD-eq-default}
-use lib.Seq.{set-out}
+use lib.ListN.{getD, set}
+use mir.Val.{boolByte}
 use Rattle.laws.proofs.Bools.{by-test}
-use Rattle.laws.proofs.Numbers.{table-at, values-at, eqb-add}
+use Rattle.laws.proofs.Numbers.{table-at, values-at, bitOr-assoc}
 use Rattle.file_format.specs.Held.{same}
-use Rattle.file_locks.specs.Sets.{bitFor, stepNumber, locksIn, bring, conflictsLed}
+use Rattle.file_locks.specs.Sets.{locksIn, meets, ways, differ, lockBit, barred, wrongAt, afterRow}
 
--- Facts on sets and locks that one table of all of them has. Equal sets have equal numbers.
+-- equal sets have equal numbers
 pub locks-same : (h g : ℕ) → h < 16 → g < 16 → same (locksIn h) (locksIn g) ≡ eqb h g
 unfolding same
 locks-same = table-at (λ h g. same (locksIn h) (locksIn g)) eqb 16 16 refl
 
--- the set of a number that no lock has, and that a set of one lock is small
-bit-far : (l : ℕ) → 4 ≤ l → bitFor l ≡ 0
-bit-far l far = rw (le-ltb l 4 far)
-
-pub bit-small : (l : ℕ) → bitFor l < 16
-bit-small l = go (decLt l 4)
+-- one of two sets has a lock where their union has
+pub some-or : (h g : ℕ) → not (eqb (bitOr h g) 0) ≡ not (eqb h 0) || not (eqb g 0)
+some-or h g = go (eqb h 0) refl (eqb g 0) refl
   where
-    go : Dec (l < 4) → bitFor l < 16
-    go (yes near) =
-        ltb-true _ _ (values-at (λ n. ltb (bitFor n) 16) (λ n. true) 4 l refl near)
-    go (no n) = omega (arith, bit-far l (omega arith))
+    most : (h ≤ bitOr h g) × (g ≤ bitOr h g)
+    most = (omega (arith, or-add-and h g, and-le-r h g), omega (arith, or-add-and h g, and-le-l h g))
 
--- ## the set after an operation, by a table of all sets and locks
+    go : (a : Bool) → eqb h 0 ≡ a → (b : Bool) → eqb g 0 ≡ b → not (eqb (bitOr h g) 0) ≡ not a || not b
+    go true ea b eb = ap (λ x. not (eqb (bitOr x g) 0)) (eqb-true h 0 ea) ∙ ap not eb
+    go false ea b eb = ap not (ne-eqb (bitOr h g) 0 (λ e. eqb-false h 0 ea (omega (arith, most .0))))
 
-abbrev take1 : ℕ → ℕ → ℕ
-take1 h l = stepNumber h (bitFor l) true false
+-- ## the ways to a position
 
-abbrev free1 : ℕ → ℕ → ℕ
-free1 h l = stepNumber h (bitFor l) false true
+pub ways-small : (h : ℕ) → h < 16 → ways h < 256
+ways-small h few = omega arith
 
--- nothing is known of a set where the rule is broken
-abbrev known : ℕ → List Bool → List Bool
-known g x = cond (ltb 15 g) [] x
+-- ways that differ still do where others join them
+differ-more : (w g : ℕ) → w < 256 → g < 16 → differ w ≡ true → differ (bitOr w (ways g)) ≡ true
+differ-more w g small few d =
+    let cell = table-at (λ (x y : ℕ). cond (differ x) (differ (bitOr x (ways y))) true) (λ x y. true) 256 16 refl
+    w g small few in
+    ap (λ b. cond b (differ (bitOr w (ways g))) true) (sym d) ∙ cell
 
-is-known : (g : ℕ) (x y : List Bool) → known g x ≡ known g y → g < 16 → x ≡ y
-is-known g x y e small = subst (λ (b : Bool). cond b [] x ≡ cond b [] y) (le-ltb 15 g (omega arith)) e
+module _ (h led : ℕ) (few : h < 16) (small : led < 256) where
+  abbrev here : ℕ
+  here = bitOr (ways h) led
 
-module _ (h : ℕ) (small : h < 16) where
-  set-far : (b : Bool) → stepNumber h 0 b false ≡ h
-  set-far true = values-at (λ g. stepNumber g 0 true false) (λ g. g) 16 h refl small
-  set-far false = values-at (λ g. stepNumber g 0 false false) (λ g. g) 16 h refl small
+  -- ways that do not differ are those of their set
+  pub agree-same : differ here ≡ false → here ≡ ways h
+  agree-same d =
+      let cell = table-at (λ (x y : ℕ). cond (differ (bitOr (ways x) y)) (ways x) (bitOr (ways x) y)) (λ x y. ways x)
+      16 256 refl h led few small in
+      ap (λ b. cond b (ways h) here) (sym d) ∙ cell
 
-  free-far : stepNumber h 0 false true ≡ 16 + h
-  free-far = values-at (λ g. stepNumber g 0 false true) (λ g. 16 + g) 16 h refl small
-
-  pub step-other : (l : ℕ) → stepNumber h (bitFor l) false false ≡ h
-  step-other l = go (decLt l 4)
+  -- at a row, and at the end
+  pub wrong-is : (code bit : ℕ) {m : Bool} → meets (barred (ways h) code) bit ≡ m
+      → wrongAt here code bit ≡ cond (differ here) true m
+  wrong-is code bit {m} e = go (differ here) refl
     where
-      go : Dec (l < 4) → stepNumber h (bitFor l) false false ≡ h
-      go (yes near) =
-          table-at (λ (g m : ℕ). stepNumber g (bitFor m) false false) (λ g m. g) 16 4 refl h l small near
-      go (no n) = ap (λ (b : ℕ). stepNumber h b false false) (bit-far l (omega arith)) ∙ set-far false
+      go : (d : Bool) → differ here ≡ d → d || meets (barred here code) bit ≡ cond d true m
+      go true d = refl
+      go false d = ap (λ w. meets (barred w code) bit) (agree-same d) ∙ e
 
-  pub take-wrong : (l : ℕ) → ltb 15 (take1 h l) ≡ getD (locksIn h) l false
-  take-wrong l = go (decLt l 4)
+  pub wrong-end : not (eqb (here % 16) 0) ≡ cond (differ here) true (not (eqb h 0))
+  wrong-end =
+      table-at (λ (x y : ℕ). not (eqb (bitOr (ways x) y % 16) 0))
+      (λ x y. cond (differ (bitOr (ways x) y)) true (not (eqb x 0))) 16 256 refl h led few small
+
+  -- one SKIP more leads there, with the set g
+  pub led-more : (g : ℕ) → g < 16
+      → differ (bitOr (ways h) (bitOr led (ways g))) ≡ cond (not (eqb g h)) true (differ here)
+  led-more g fewer = ap differ (sym (bitOr-assoc (ways h) led (ways g))) ∙ go (differ here) refl
     where
-      go : Dec (l < 4) → ltb 15 (take1 h l) ≡ getD (locksIn h) l false
-      go (yes near) =
-          table-at (λ (g m : ℕ). ltb 15 (take1 g m)) (λ g m. getD (locksIn g) m false) 16 4 refl h l small near
-      go (no n) =
-          let far : 4 ≤ l = omega arith in
-          ap (λ (b : ℕ). ltb 15 (stepNumber h b true false)) (bit-far l far)
-          ∙ ap (ltb 15) (set-far true)
-          ∙ le-ltb 15 h (omega arith)
-          ∙ sym (List·getD-eq-default (locksIn h) false far)
+      go : (d : Bool) → differ here ≡ d → differ (bitOr here (ways g)) ≡ cond (not (eqb g h)) true d
+      go true d =
+          differ-more here g (or-lt 8 (ways h) led (ways-small h few) small) fewer d
+          ∙ by-test (λ b. true ≡ cond (not b) true true) refl refl (eqb g h)
+      go false d =
+          ap (λ w. differ (bitOr w (ways g))) (agree-same d)
+          ∙ table-at (λ (x y : ℕ). differ (bitOr (ways x) (ways y))) (λ x y. cond (not (eqb y x)) true false) 16 16 refl
+          h g few fewer
 
-  pub take-next : (l : ℕ) → take1 h l < 16 → locksIn (take1 h l) ≡ set (locksIn h) l true
-  take-next l below = go (decLt l 4)
-    where
-      go : Dec (l < 4) → locksIn (take1 h l) ≡ set (locksIn h) l true
-      go (yes near) =
-          is-known (take1 h l) _ _ (table-at (λ (g m : ℕ). known (take1 g m) (locksIn (take1 g m)))
-          (λ g m. known (take1 g m) (set (locksIn g) m true)) 16 4 refl h l small near) below
-      go (no n) =
-          ap (λ (b : ℕ). locksIn (stepNumber h b true false)) (bit-far l (omega arith))
-          ∙ ap locksIn (set-far true)
-          ∙ sym (set-out (locksIn h) l true (omega arith))
+pub led-none : (h : ℕ) → h < 16 → differ (bitOr (ways h) 0) ≡ false
+led-none h few = values-at (λ x. differ (bitOr (ways x) 0)) (λ x. false) 16 h refl few
 
-  pub free-wrong : (l : ℕ) → ltb 15 (free1 h l) ≡ not (getD (locksIn h) l false)
-  free-wrong l = go (decLt l 4)
-    where
-      go : Dec (l < 4) → ltb 15 (free1 h l) ≡ not (getD (locksIn h) l false)
-      go (yes near) =
-          table-at (λ (g m : ℕ). ltb 15 (free1 g m)) (λ g m. not (getD (locksIn g) m false)) 16 4 refl h l small near
-      go (no n) =
-          let far : 4 ≤ l = omega arith in
-          ap (λ (b : ℕ). ltb 15 (stepNumber h b false true)) (bit-far l far)
-          ∙ ap (ltb 15) free-far
-          ∙ lt-ltb 15 (16 + h) (omega arith)
-          ∙ ap not (sym (List·getD-eq-default (locksIn h) false far))
+-- ## one operation
 
-  pub free-next : (l : ℕ) → free1 h l < 16 → locksIn (free1 h l) ≡ set (locksIn h) l false
-  free-next l below = go (decLt l 4)
-    where
-      go : Dec (l < 4) → locksIn (free1 h l) ≡ set (locksIn h) l false
-      go (yes near) =
-          is-known (free1 h l) _ _ (table-at (λ (g m : ℕ). known (free1 g m) (locksIn (free1 g m)))
-          (λ g m. known (free1 g m) (set (locksIn g) m false)) 16 4 refl h l small near) below
-      go (no n) =
-          absurd
-          (omega (arith, ap (λ (b : ℕ). stepNumber h b false true) (bit-far l (omega arith)) ∙ free-far))
+-- an operation that is no LOCK and no UNLOCK names no lock
+none-named : (b : ℕ) → boolByte false * 2 ^ (b % 4) % 2 ^ 8 ≡ 0
+none-named b = omega arith
 
--- what SKIPs led, and one SKIP more with the set g, at a position with the set h
-module _ (led g h : ℕ) (small : h < 16) where
-  pub led-more : conflictsLed (bring led g) h ≡ cond (not (eqb g h)) true (conflictsLed led h)
-  led-more = go (eqb led 0) refl (eqb led (16 + g)) refl
-    where
-      differ : (b : Bool) → eqb g h ≡ b → eqb led (16 + g) ≡ false → true ≡ cond (not b) true (not (eqb led (16 + h)))
-      differ true e other =
-          rw (ne-eqb led (16 + h) (λ z. eqb-false led (16 + g) other (z ∙ ap (λ x. 16 + x) (sym (eqb-true g h e)))))
-      differ false e other = refl
+pub bit-small : (code b : ℕ) → lockBit code b < 16
+bit-small code b =
+    by-test (λ t. boolByte t * 2 ^ (b % 4) % 2 ^ 8 < 16)
+    (ltb-true _ _ (values-at (λ l. ltb (1 * 2 ^ l % 2 ^ 8) 16) (λ l. true) 4 (b % 4) refl (mod-lt b (omega arith))))
+    (omega (arith, none-named b)) (eqb code 5 || eqb code 6)
 
-      go : (a : Bool) → eqb led 0 ≡ a → (b : Bool) → eqb led (16 + g) ≡ b
-          → conflictsLed (bring led g) h ≡ cond (not (eqb g h)) true (conflictsLed led h)
-      go true empty b eb =
-          rw (empty, ne-eqb (16 + g) 0 (λ e. omega arith), eqb-add 16 g h)
-          (by-test (λ b. not b ≡ cond (not b) true false) refl refl (eqb g h))
-      go false full true alike =
-          rw (full, alike, full, ap (λ x. eqb x (16 + h)) (eqb-true led (16 + g) alike) ∙ eqb-add 16 g h)
-          (by-test (λ b. not b ≡ cond (not b) true (not b)) refl refl (eqb g h))
-      go false full false other =
-          rw (full, other, ne-eqb 255 (16 + h) (λ e. omega arith)) (differ (eqb g h) refl other)
+pub after-ways : (h bit : ℕ) → h < 16 → bit < 16 → afterRow (ways h) bit ≡ ways (bitXor h bit)
+after-ways = table-at (λ (x y : ℕ). afterRow (ways x) y) (λ x y. ways (bitXor x y)) 16 16 refl
+
+pub other-wrong : (w b : ℕ) → meets w (boolByte false * 2 ^ (b % 4) % 2 ^ 8) ≡ false
+other-wrong w b = ap (meets w) (none-named b) ∙ ap (λ x. not (eqb x 0)) (and-zero-r w)
+
+pub other-next : (h b : ℕ) → bitXor h (boolByte false * 2 ^ (b % 4) % 2 ^ 8) ≡ h
+other-next h b = ap (bitXor h) (none-named b) ∙ xor-zero-r h
+
+pub skip-after : (w b : ℕ) → afterRow w (lockBit 7 b) ≡ w
+skip-after w b = ap (afterRow w) (none-named b) ∙ xor-zero-r w
+
+module _ (h l : ℕ) (few : h < 16) (near : l < 4) where
+  pub lock-wrong : meets (ways h) (lockBit 5 l) ≡ getD (locksIn h) l false
+  lock-wrong =
+      table-at (λ (x y : ℕ). meets (ways x) (lockBit 5 y)) (λ x y. getD (locksIn x) y false) 16 4 refl h l few near
+
+  pub unlock-wrong : meets (barred (ways h) 6) (lockBit 6 l) ≡ not (getD (locksIn h) l false)
+  unlock-wrong =
+      table-at (λ (x y : ℕ). meets (barred (ways x) 6) (lockBit 6 y)) (λ x y. not (getD (locksIn x) y false)) 16 4 refl
+      h l few near
+
+  pub lock-next : getD (locksIn h) l false ≡ false → locksIn (bitXor h (lockBit 5 l)) ≡ set (locksIn h) l true
+  lock-next right =
+      let cell = table-at (λ (x y : ℕ). cond (getD (locksIn x) y false) [] (locksIn (bitXor x (lockBit 5 y))))
+      (λ x y. cond (getD (locksIn x) y false) [] (set (locksIn x) y true)) 16 4 refl h l few near in
+      rw right at cell
+
+  pub unlock-next : not (getD (locksIn h) l false) ≡ false
+      → locksIn (bitXor h (lockBit 6 l)) ≡ set (locksIn h) l false
+  unlock-next right =
+      let cell = table-at (λ (x y : ℕ). cond (not (getD (locksIn x) y false)) [] (locksIn (bitXor x (lockBit 6 y))))
+      (λ x y. cond (not (getD (locksIn x) y false)) [] (set (locksIn x) y false)) 16 4 refl h l few near in
+      rw right at cell

@@ -16,7 +16,7 @@ use Rattle.file_format.specs.Structured.{Structured}
 use Rattle.file_format.specs.Stored.{noOp}
 use Rattle.file_format.proofs.Bounded.{lane-bounded}
 use Rattle.file_format.proofs.Laws.Lanes.{lane-records as own-lane, lane-ops}
-use Rattle.file_format.proofs.Laws.Rules.{few-records, head-range}
+use Rattle.file_format.proofs.Laws.Rules.{few-locks, few-records, head-range}
 use Rattle.file_format.proofs.Laws.Stored.{opsFrom-length}
 use Rattle.file_chains.specs.Ordered.{beginOf, countOf, recordsIn, Ordered}
 use Rattle.file_chains.proofs.Laws.Places.{end-inside, lane-length, lane-records}
@@ -25,7 +25,7 @@ use Rattle.sheet_format.specs.Bytes.{over, sheetBytes}
 use Rattle.sheet_rows.specs.Lanes.{fieldsOf}
 use Rattle.file_rows.proofs.Laws.Holds.{many, before, many-small, lane-holds}
 use Rattle.file_locks.specs.Sets.{noJump, jumpOr}
-use Rattle.file_locks.specs.Lanes.{LaneIn}
+use Rattle.file_locks.specs.Lanes.{Named, LaneIn}
 
 -- the fault of lane t
 abbrev pub fault : List ℕ → ℕ → ℕ
@@ -37,16 +37,16 @@ FaultIn rows order from end r =
     (ops : List Op) → LaneIn (drop (16 + 8 * from) rows) (end - from) ops
     → r ≡ laneFault (take (end - from) (drop from order)) ops
 
--- a bounded SKIP goes on, at most to the end
-leads : (ls ks n p : ℕ) (o : Op) → n ≤ 64 → p < n → Bounded ls ks n p o
-    → (p < jumpOr noJump (some o)) × (fieldsOf o .code ≡ 7 → fieldsOf o .word ≤ n)
-leads ls ks n p (Set a c) h l b = (omega arith, λ e. absurd (omega arith))
-leads ls ks n p (Add a x) h l b = (omega arith, λ e. omega arith)
-leads ls ks n p (Load a x) h l b = (omega arith, λ e. omega arith)
-leads ls ks n p (Store a x) h l b = (omega arith, λ e. omega arith)
-leads ls ks n p (Lock x) h l b = (omega arith, λ e. omega arith)
-leads ls ks n p (Unlock x) h l b = (omega arith, λ e. omega arith)
-leads ls ks n p (Skip a q) h l b = (b .1, λ e. b .2)
+-- a bounded SKIP goes on, at most to the end, and a bounded LOCK or UNLOCK names one of the four locks
+leads : (ls ks n p : ℕ) (o : Op) → n ≤ 64 → ks ≤ 4 → p < n → Bounded ls ks n p o
+    → (p < jumpOr noJump (some o)) × (fieldsOf o .code ≡ 7 → fieldsOf o .word ≤ n) × Named o
+leads ls ks n p (Set a c) h k l b = (omega arith, λ e. absurd (omega arith), λ e. omega arith)
+leads ls ks n p (Add a x) h k l b = (omega arith, λ e. omega arith, λ e. omega arith)
+leads ls ks n p (Load a x) h k l b = (omega arith, λ e. omega arith, λ e. omega arith)
+leads ls ks n p (Store a x) h k l b = (omega arith, λ e. omega arith, λ e. omega arith)
+leads ls ks n p (Lock x) h k l b = (omega arith, λ e. omega arith, λ e. omega arith)
+leads ls ks n p (Unlock x) h k l b = (omega arith, λ e. omega arith, λ e. omega arith)
+leads ls ks n p (Skip a q) h k l b = (b .1, λ e. b .2, λ e. omega arith)
 
 -- a buffer that begins with other bytes is no shorter than it was
 rows-room : (rows own bytes : List ℕ) → rows ≡ over bytes own → length own ≤ length rows
@@ -78,15 +78,18 @@ module _ (s order place ends : List ℕ) (st : Structured s) (ordered : Ordered 
         held = lane-holds s (st .fields .header) rows own front (st .fields .records) t below;
         onward = λ p l. led p l .0;
         within = λ p l. led p l .1;
+        named = λ p l. led p l .2;
       }
         where
           led : (p : ℕ) → p < many s t
               → (p < jumpOr noJump (some (getD (opsAt s (head s t)) p noOp)))
               × (fieldsOf (getD (opsAt s (head s t)) p noOp) .code ≡ 7
               → fieldsOf (getD (opsAt s (head s t)) p noOp) .word ≤ many s t)
+              × Named (getD (opsAt s (head s t)) p noOp)
           led p l =
               let len = opsFrom-length s 0 (recordsAt s (head s t)) in
-              leads (locations s) (locks s) (many s t) p (getD (opsAt s (head s t)) p noOp) (many-small s t) l
+              leads (locations s) (locks s) (many s t) p (getD (opsAt s (head s t)) p noOp) (many-small s t)
+              (few-locks s (st .fields .header)) l
               (rw len
               (lane-bounded s (st .fields .records) (head s t) (head-range s (st .fields .header) t below) p noOp
               (omega (arith, len))))
@@ -94,14 +97,14 @@ module _ (s order place ends : List ℕ) (st : Structured s) (ordered : Ordered 
       -- lane t of the order fits the check
       pub lane-fits : {from : ℕ} → from ≡ beginOf ends t
           → (from ≤ end t) × (end t ≤ 256) × (end t - from ≤ 64) × (16 + 8 * end t ≤ length rows)
-          × (length order ≡ 257)
+          × (end t ≤ length order)
       lane-fits ef =
           let inside = end-inside ordered t below in (
             omega (arith, ordered .rising t below),
             omega (arith, inside, few-records s (st .fields .header)),
             omega (arith, count-is t below, many-small s t),
             omega (arith, inside, rows-room rows own (sheetBytes Level0 (programOf s)) front, room),
-            ordered .order-room,
+            omega (arith, inside, ordered .order-room),
           )
 
       -- what is found in lane t of the order is the fault of lane t

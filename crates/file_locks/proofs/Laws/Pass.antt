@@ -1,29 +1,36 @@
 -- Laws of the pass over a lane's rows: what it knows before row p, and how it goes on from there.
-use Prim.Native.Nat.{ℕ, _+_, _-_, _*_, _≤_, _<_}
-use mathlib.Core.Path.{_≡_, refl, sym, ap, _∙_}
-use mathlib.Core.Bool.{Bool, true, false, not, cond}
+use Prim.Native.Nat.{ℕ, _+_, _-_, _*_, _%_, _≤_, _<_}
+use mathlib.Core.Path.{_≡_, refl, sym, ap, ap₂, _∙_}
+use mathlib.Core.Bool.{Bool, true, false, not}
 use mathlib.Core.List.{List}
+use mathlib.Core.Option.{some}
 use native.Mathlib.Omega.{arith}
 use borrow.Author.Tests.{eq-eqb, ne-eqb}
-use lib.Dec.{eqb, ltb}
+use lib.Bits.{bitOr, bitXor, xor-lt}
+use lib.Dec.{eqb}
 use lib.ListN.{length, getD, set, replicate}
+use Rattle.laws.proofs.Bools.{or-false}
 use Rattle.file_format.specs.declared.accepted.Op.{Op}
-use Rattle.file_format.specs.Held.{held, heldFrom, faultAt, faultPosition}
+use Rattle.file_format.specs.Held.{held, heldFrom, misuse, faultAt, faultPosition}
 use Rattle.file_format.specs.Search.{lowest}
 use Rattle.file_format.specs.Stored.{noOp}
 use Rattle.file_format.proofs.Laws.Search.{search-start, search-on, search-found, search-none}
 use Rattle.sheet_rows.specs.Lanes.{fieldsOf}
-use Rattle.file_locks.specs.Sets.{locksIn, bring, conflictsLed}
-use Rattle.file_locks.specs.Lanes.{LaneIn, Stepped}
-use Rattle.file_locks.proofs.Laws.Held.{row-code, row-b, row-target, jump-by, held-on}
+use Rattle.file_locks.specs.Sets.{locksIn, meets, ways, differ, lockBit, barred, wrongAt, afterRow}
+use Rattle.file_locks.specs.Lanes.{LaneIn}
+use Rattle.file_locks.proofs.Laws.Locks.{agree-same, after-ways, bit-small, skip-after}
+use Rattle.file_locks.proofs.Laws.Held.{row-code, row-b, row-target, jump-by, row-wrong, row-next, held-on}
 use Rattle.file_locks.proofs.Laws.Sets.{LedTo, led-start, led-past, led-put, fault-inside, fault-end}
 
 -- the rule is broken at a position counted from 1
 abbrev broken : List Op → ℕ → Bool
 broken ops j = faultAt ops (j - 1)
 
--- before row p: the held set, what SKIPs led where, and the first fault is at p or behind
-pub record Passed (ops : List Op) (n p h : ℕ) (led : List ℕ) : Type 0 where
+-- before row p: the ways there all hold the position's set, what SKIPs led where, and the first fault is at p or behind
+pub record Passed (ops : List Op) (n p w : ℕ) (led : List ℕ) : Type 0 where
+  pub h : ℕ
+  pub few : h < 16
+  pub ways-of : w ≡ ways h
   pub set-is : locksIn h ≡ held ops p
   pub led-to : LedTo ops p led
   pub rest : lowest (broken ops) (p + 1) (n + 1 + 1 - (p + 1)) ≡ faultPosition ops
@@ -32,84 +39,120 @@ module _ {rows : List ℕ} {n : ℕ} {ops : List Op} (lane : LaneIn rows n ops) 
   many : length ops ≡ n
   many = lane .held .count
 
-  pub pass-start : Passed ops n 0 0 (replicate 65 0)
+  pub pass-start : Passed ops n 0 240 (replicate 65 0)
   unfolding faultPosition heldFrom
   pass-start = record {
+    h = 0;
+    few = omega arith;
+    ways-of = refl;
     set-is = refl;
     led-to = led-start ops (omega (arith, many));
     rest = rw many (search-start (broken ops) 1 (n + 1));
   }
 
-  module _ (p h : ℕ) (led : List ℕ) (small : h < 16) (at : Passed ops n p h led) where
-    -- at row p, with what its code and operand make of the set
+  module _ (p w : ℕ) (led : List ℕ) (at : Passed ops n p w led) where
+    -- at row p, with the lock that it names
     module _
-        (below : p < n) {g : ℕ} {a t : Bool}
-        (step : (o : Op) → getD rows (8 * p) 0 ≡ fieldsOf o .code → getD rows (8 * p + 2) 0 ≡ fieldsOf o .b
-        → Stepped h o g)
-        (ea : a ≡ conflictsLed (getD led p 0) h) (et : t ≡ cond a true (ltb 15 g))
+        (below : p < n) {bit : ℕ} {t : Bool}
+        (eb : bit ≡ lockBit (getD rows (8 * p) 0) (getD rows (8 * p + 2) 0))
+        (et : t ≡ wrongAt (bitOr w (getD led p 0)) (getD rows (8 * p) 0) bit)
       where
         abbrev o : Op
         o = getD ops p noOp
 
+        abbrev code : ℕ
+        code = fieldsOf o .code
+
+        abbrev own : ℕ
+        own = lockBit code (fieldsOf o .b)
+
+        abbrev here : ℕ
+        here = bitOr (ways (at .h)) (getD led p 0)
+
         inside : p < length ops
         inside = omega (arith, many)
 
-        stepped : Stepped h o g
-        stepped = step o (row-code lane p below) (row-b lane p below)
+        names : bit ≡ own
+        names = eb ∙ ap₂ lockBit (row-code lane p below) (row-b lane p below)
+
+        tests : t ≡ wrongAt here code own
+        tests = et ∙ (λ i. wrongAt (bitOr (at .ways-of i) (getD led p 0)) (row-code lane p below i) (names i))
+
+        wrong : meets (barred (ways (at .h)) code) own ≡ misuse (locksIn (at .h)) (some o)
+        wrong = row-wrong (at .h) (at .few) o (lane .named p inside)
 
         tested : {v : Bool} → t ≡ v → faultAt ops (p + 1 - 1) ≡ v
-        tested =
-            fault-inside ops (lane .onward) p h led (at .led-to) small (at .set-is) inside ea (stepped .wrong) et
+        tested e =
+            fault-inside ops (lane .onward) p (at .h) led (at .led-to) (at .few) (at .set-is) code own inside wrong
+            ∙ sym tests ∙ e
 
         pub pass-found : t ≡ true → p + 1 ≡ faultPosition ops
         pass-found e = search-found (broken ops) (p + 1) (n + 1 + 1) (omega arith) (tested e) (at .rest)
 
-        pub pass-on : {led′ : List ℕ} → t ≡ false → g < 16 → LedTo ops (p + 1) led′ → Passed ops n (p + 1) g led′
-        pass-on e few to = record {
-          set-is = held-on ops p inside (at .set-is) (stepped .next few);
-          led-to = to;
-          rest = search-on (broken ops) (p + 1) (n + 1 + 1) (omega arith) (tested e) (at .rest);
-        }
+        -- the ways agree, and the rule is kept; the ways v after the row
+        module _ (e : t ≡ false) {v : ℕ} (ev : v ≡ afterRow (bitOr w (getD led p 0)) bit) where
+          kept : (differ here ≡ false) × (meets (barred here code) own ≡ false)
+          kept = or-false _ _ (sym tests ∙ e)
 
-    -- what row p leads where
-    module _ (below : p < n) where
-      pub lead-skip : getD rows (8 * p) 0 ≡ 7 → {led′ : List ℕ}
-          → led′ ≡ set led (getD rows (8 * p + 4) 0) (bring (getD led (getD rows (8 * p + 4) 0) 0) h)
-          → LedTo ops (p + 1) led′
-      lead-skip e is =
-          let code = sym e ∙ row-code lane p below in
-          let word = row-target lane p below short code in
-          let near = lane .within p (omega (arith, many)) (sym code) in
-          let jump = rw (eq-eqb (fieldsOf (getD ops p noOp) .code) 7 (sym code)) at (jump-by (getD ops p noOp)) in
-          rw is
-          (led-put ops p led (at .led-to) (omega (arith, many)) (word ∙ jump)
-          (omega (arith, near, many)) (omega (arith, many)) small (at .set-is) refl)
+          agreed : here ≡ ways (at .h)
+          agreed = agree-same (at .h) (getD led p 0) (at .few) (at .led-to .bytes p) (kept .0)
 
-      pub lead-none : ¬ getD rows (8 * p) 0 ≡ 7 → {led′ : List ℕ} → led′ ≡ led → LedTo ops (p + 1) led′
-      lead-none n7 is =
-          let other = ne-eqb (fieldsOf (getD ops p noOp) .code) 7 (λ e. n7 (row-code lane p below ∙ e)) in
-          rw is
-          (led-past ops p led (at .led-to) (omega (arith, many)) (rw other at (jump-by (getD ops p noOp)))
-          (omega (arith, many)))
+          joined : bitOr w (getD led p 0) ≡ ways (at .h)
+          joined = ap (λ x. bitOr x (getD led p 0)) (at .ways-of) ∙ agreed
+
+          right : misuse (locksIn (at .h)) (some o) ≡ false
+          right = sym wrong ∙ ap (λ x. meets (barred x code) own) (sym agreed) ∙ kept .1
+
+          pub pass-on : {led′ : List ℕ} → LedTo ops (p + 1) led′ → Passed ops n (p + 1) v led′
+          pass-on to =
+              let small = bit-small code (fieldsOf o .b) in record {
+                h = bitXor (at .h) own;
+                few = xor-lt 4 (at .h) own (at .few) small;
+                ways-of = ev ∙ (λ i. afterRow (joined i) (names i)) ∙ after-ways (at .h) own (at .few) small;
+                set-is = held-on ops p inside (at .set-is)
+                    (row-next (at .h) (at .few) o (lane .named p inside) right);
+                led-to = to;
+                rest = search-on (broken ops) (p + 1) (n + 1 + 1) (omega arith) (tested e) (at .rest);
+              }
+
+          -- what row p leads where
+          pub lead-skip : getD rows (8 * p) 0 ≡ 7 → {led′ : List ℕ}
+              → led′ ≡ set led (getD rows (8 * p + 4) 0) (bitOr (getD led (getD rows (8 * p + 4) 0) 0) v)
+              → LedTo ops (p + 1) led′
+          lead-skip e7 is =
+              let is-7 : 7 ≡ code = sym e7 ∙ row-code lane p below in
+              let word = row-target lane p below short is-7 in
+              let near = lane .within p inside (sym is-7) in
+              let jump = rw (eq-eqb code 7 (sym is-7)) at (jump-by o) in
+              let same = ev ∙ (λ i. afterRow (joined i) ((eb ∙ ap (λ x. lockBit x (getD rows (8 * p + 2) 0)) e7) i))
+              ∙ skip-after (ways (at .h)) (getD rows (8 * p + 2) 0) in
+              rw is
+              (led-put ops p led (at .led-to) inside (word ∙ jump) (omega (arith, near, many)) (omega (arith, many))
+              (at .few) (at .set-is) (ap (bitOr (getD led (getD rows (8 * p + 4) 0) 0)) same))
+
+    pub lead-none : p < n → ¬ getD rows (8 * p) 0 ≡ 7 → {led′ : List ℕ} → led′ ≡ led → LedTo ops (p + 1) led′
+    lead-none below n7 is =
+        let other = ne-eqb (fieldsOf (getD ops p noOp) .code) 7 (λ e. n7 (row-code lane p below ∙ e)) in
+        rw is
+        (led-past ops p led (at .led-to) (omega (arith, many)) (rw other at (jump-by (getD ops p noOp)))
+        (omega (arith, many)))
 
     -- at the end
-    module _
-        (last : n ≤ p) (most : p ≤ n) {a t : Bool} (ea : a ≡ conflictsLed (getD led n 0) h)
-        (et : t ≡ cond a true (not (eqb h 0)))
-      where
-        end : p ≡ n
-        end = omega arith
+    module _ (last : n ≤ p) (most : p ≤ n) where
+      end : p ≡ n
+      end = omega arith
 
-        tested-end : {v : Bool} → t ≡ v → faultAt ops (p + 1 - 1) ≡ v
-        tested-end =
-            fault-end ops (lane .onward) p h led (at .led-to) small (at .set-is) (end ∙ sym many)
-            (ea ∙ ap (λ x. conflictsLed (getD led x 0) h) (sym end)) et
+      tested-end : {v : Bool} → not (eqb (bitOr w (getD led n 0) % 16) 0) ≡ v → faultAt ops (p + 1 - 1) ≡ v
+      tested-end e =
+          fault-end ops (lane .onward) p (at .h) led (at .led-to) (at .few) (at .set-is) (end ∙ sym many)
+          ∙ (λ i. not (eqb (bitOr (sym (at .ways-of) i) (getD led (end i) 0) % 16) 0)) ∙ e
 
-        pub end-found : t ≡ true → n + 1 ≡ faultPosition ops
-        end-found e =
-            rw (← end) (search-found (broken ops) (p + 1) (n + 1 + 1) (omega arith) (tested-end e) (at .rest))
+      pub end-found : ¬ bitOr w (getD led n 0) % 16 ≡ 0 → n + 1 ≡ faultPosition ops
+      end-found e =
+          rw (← end) (search-found (broken ops) (p + 1) (n + 1 + 1) (omega arith)
+          (tested-end (ap not (ne-eqb _ 0 e))) (at .rest))
 
-        pub end-none : t ≡ false → 0 ≡ faultPosition ops
-        end-none e =
-            search-none (broken ops) (p + 1 + 1) (n + 1 + 1) (omega arith)
-            (search-on (broken ops) (p + 1) (n + 1 + 1) (omega arith) (tested-end e) (at .rest))
+      pub end-none : bitOr w (getD led n 0) % 16 ≡ 0 → 0 ≡ faultPosition ops
+      end-none e =
+          search-none (broken ops) (p + 1 + 1) (n + 1 + 1) (omega arith)
+          (search-on (broken ops) (p + 1) (n + 1 + 1) (omega arith) (tested-end (ap not (eq-eqb _ 0 e))) (at .rest))

@@ -1,22 +1,23 @@
 -- Laws of the loop that checks a lane's held sets.
-use Prim.Native.Nat.{ℕ, zero, suc, _+_, _-_, _≤_, _<_}
-use mathlib.Core.Path.{_≡_, refl, ap, sym, _∙_}
+use Prim.Native.Nat.{ℕ, zero, suc, _+_, _-_, _%_, _≤_, _<_}
+use mathlib.Core.Path.{_≡_, refl, ap, sym, subst, _∙_}
 use mathlib.Core.List.{List}
 use mathlib.Core.Bool.{Bool, true, false, not, cond}
 use mathlib.Core.Option.{Option, none, some}
 use native.Mathlib.Omega.{arith}
 use native.Mathlib.Decide.{decLe}
 use borrow.Author.Tests.{eq-eqb, ne-eqb, eqb-true, eqb-false}
+use lib.Bits.{bitOr, or-lt}
 use lib.Dec.{eqb}
 use lib.ListN.{length, getD, getElem?, set, replicate, length-set, getD-replicate}
 use lib.Seq.{getD-set-same, getD-set-other}
-use Rattle.laws.proofs.Lists.{at-some, at-beyond}
+use Rattle.laws.proofs.Lists.{at-some, at-beyond, getD-replicate-all, set-all}
 use Rattle.file_format.specs.declared.accepted.Op.{Op}
 use Rattle.file_format.specs.Held.{same, held, jumpFrom, conflictsBy, conflictBelow, conflict, misuse, faultAt}
 use Rattle.file_format.specs.Stored.{noOp}
-use Rattle.file_locks.specs.Sets.{orElse, noJump, jumpOr, locksIn, bring, conflictsLed}
+use Rattle.file_locks.specs.Sets.{orElse, noJump, jumpOr, locksIn, meets, ways, differ, barred, wrongAt}
 use Rattle.file_locks.specs.Lanes.{Onward}
-use Rattle.file_locks.proofs.Laws.Locks.{locks-same, led-more}
+use Rattle.file_locks.proofs.Laws.Locks.{locks-same, ways-small, led-more, led-none, wrong-is, wrong-end}
 
 -- a jump that leads elsewhere than to x, and one that leads to q
 conflicts-other : (j : Option ℕ) (x : ℕ) (h g : List Bool) → (x ≡ orElse noJump j → ⊥) → conflictsBy j x h g ≡ false
@@ -66,13 +67,18 @@ conflict-known ops on (suc n) p small h = go (decLe p n) (conflict-known ops on 
 -- The loop, after n operations: with the set of a position, what SKIPs led there says whether they part from it.
 pub record LedTo (ops : List Op) (n : ℕ) (led : List ℕ) : Type 0 where
   pub room : length led ≡ 65
+  pub bytes : (x : ℕ) → getD led x 0 < 256
   pub each : (x h : ℕ) → x ≤ length ops → h < 16 → locksIn h ≡ held ops x
-      → conflictsLed (getD led x 0) h ≡ conflictBelow ops n x
+      → differ (bitOr (ways h) (getD led x 0)) ≡ conflictBelow ops n x
 
 pub led-start : (ops : List Op) → length ops ≤ 64 → LedTo ops 0 (replicate 65 0)
 unfolding conflictBelow
-led-start ops short =
-    record { room = refl; each = λ x h l small e. rw (getD-replicate {A = ℕ} 65 x 0 0 (omega arith)) }
+led-start ops short = record {
+  room = refl;
+  bytes = getD-replicate-all (λ x. x < 256) 65 0 0 (omega arith) (omega arith);
+  each = λ x h l few e. ap (λ y. differ (bitOr (ways h) y)) (getD-replicate {A = ℕ} 65 x 0 0 (omega arith))
+      ∙ led-none h few;
+}
 
 module _ (ops : List Op) (p : ℕ) (led : List ℕ) (at : LedTo ops p led) (inside : p < length ops)
     {q : ℕ} (leads : q ≡ jumpOr noJump (some (getD ops p noOp))) where
@@ -83,53 +89,62 @@ module _ (ops : List Op) (p : ℕ) (led : List ℕ) (at : LedTo ops p led) (insi
   away x n = rw one (conflict-away ops p x inside (λ e. n (e ∙ sym leads)))
 
   pub led-past : length ops < q → LedTo ops (p + 1) led
-  led-past far =
-      record { room = at .room; each = λ x h l small e. at .each x h l small e ∙ sym (away x (λ z. omega arith)) }
+  led-past far = record {
+    room = at .room;
+    bytes = at .bytes;
+    each = λ x h l few e. at .each x h l few e ∙ sym (away x (λ z. omega arith));
+  }
 
   pub led-put : {g v : ℕ} → q ≤ length ops → length ops ≤ 64 → g < 16 → locksIn g ≡ held ops p
-      → v ≡ bring (getD led q 0) g → LedTo ops (p + 1) (set led q v)
-  led-put {g} {v} near short little eg ev =
-      record { room = length-set led q v ∙ at .room; each = λ x h l small e. go x h l small e (eqb x q) refl }
+      → v ≡ bitOr (getD led q 0) (ways g) → LedTo ops (p + 1) (set led q v)
+  led-put {g} {v} near short fewer eg ev = record {
+    room = length-set led q v ∙ at .room;
+    bytes = set-all (λ i x. x < 256) 0 led q v (at .bytes)
+        (subst (λ x. x < 256) (sym ev) (or-lt 8 (getD led q 0) (ways g) (at .bytes q) (ways-small g fewer)));
+    each = λ x h l few e. go x h l few e (eqb x q) refl;
+  }
     where
       go : (x h : ℕ) → x ≤ length ops → h < 16 → locksIn h ≡ held ops x → (b : Bool) → eqb x q ≡ b
-          → conflictsLed (getD (set led q v) x 0) h ≡ conflictBelow ops (p + 1) x
-      go x h l small e false b =
+          → differ (bitOr (ways h) (getD (set led q v) x 0)) ≡ conflictBelow ops (p + 1) x
+      go x h l few e false b =
           let n = eqb-false x q b in
-          rw (getD-set-other led q x v 0 n) (at .each x h l small e ∙ sym (away x n))
-      go x h l small e true b =
+          ap (λ y. differ (bitOr (ways h) y)) (getD-set-other led q x v 0 n)
+          ∙ at .each x h l few e ∙ sym (away x n)
+      go x h l few e true b =
           let here = eqb-true x q b in
           let there : locksIn h ≡ held ops q = e ∙ ap (held ops) here in
           let alike : same (held ops p) (held ops q) ≡ eqb g h =
-          (λ i. same (sym eg i) (sym there i)) ∙ locks-same g h little small in
-          rw (
-            here,
-            getD-set-same led q v 0 (omega (arith, at .room)),
-            ev,
-            led-more (getD led q 0) g h small,
-            at .each q h near small there,
-            one,
-            conflict-here ops p q inside leads (omega arith),
-            alike,
-          )
+          (λ i. same (sym eg i) (sym there i)) ∙ locks-same g h fewer few in
+          ap (λ y. differ (bitOr (ways h) y))
+          (ap (λ y. getD (set led q v) y 0) here ∙ getD-set-same led q v 0 (omega (arith, at .room)) ∙ ev)
+          ∙ led-more h (getD led q 0) few (at .bytes q) g fewer
+          ∙ ap (cond (not (eqb g h)) true) (at .each q h near few there)
+          ∙ sym (rw (here, one, conflict-here ops p q inside leads (omega arith), alike))
 
 -- what the loop knows at a position, and at the end
-module _ (ops : List Op) (on : Onward ops) (p h : ℕ) (led : List ℕ) (at : LedTo ops p led) (small : h < 16)
+module _ (ops : List Op) (on : Onward ops) (p h : ℕ) (led : List ℕ) (at : LedTo ops p led) (few : h < 16)
     (set-is : locksIn h ≡ held ops p) where
-  known : p ≤ length ops → conflictsLed (getD led p 0) h ≡ conflict ops p
-  known l = at .each p h l small set-is ∙ sym (conflict-known ops on (length ops) p (omega arith) l)
+  abbrev here : ℕ
+  here = bitOr (ways h) (getD led p 0)
 
-  -- the rule is broken at the position, as the tests a and b found
-  pub fault-inside : {a b t v : Bool} → p < length ops → a ≡ conflictsLed (getD led p 0) h
-      → b ≡ misuse (locksIn h) (some (getD ops p noOp)) → t ≡ cond a true b → t ≡ v → faultAt ops (p + 1 - 1) ≡ v
-  unfolding faultAt
-  fault-inside inside ea eb et ev =
-      let back : p + 1 - 1 ≡ p = omega arith in
-      rw (back, at-some ops p noOp inside, ← set-is, ← known (omega arith), ← ea, ← eb, ← et) ev
+  known : p ≤ length ops → differ here ≡ conflict ops p
+  known l = at .each p h l few set-is ∙ sym (conflict-known ops on (length ops) p (omega arith) l)
 
-  pub fault-end : {a t v : Bool} → p ≡ length ops → a ≡ conflictsLed (getD led p 0) h → t ≡ cond a true (not (eqb h 0))
-      → t ≡ v → faultAt ops (p + 1 - 1) ≡ v
+  back : p + 1 - 1 ≡ p
+  back = omega arith
+
+  -- the rule is broken at the position, as the test found
+  pub fault-inside : (code bit : ℕ) → p < length ops
+      → meets (barred (ways h) code) bit ≡ misuse (locksIn h) (some (getD ops p noOp))
+      → faultAt ops (p + 1 - 1) ≡ wrongAt here code bit
   unfolding faultAt
-  fault-end e ea et ev =
-      let back : p + 1 - 1 ≡ p = omega arith in
+  fault-inside code bit inside e =
+      rw (back, at-some ops p noOp inside, ← set-is, ← known (omega arith))
+      (sym (wrong-is h (getD led p 0) few (at .bytes p) code bit e))
+
+  pub fault-end : p ≡ length ops → faultAt ops (p + 1 - 1) ≡ not (eqb (here % 16) 0)
+  unfolding faultAt
+  fault-end e =
       let last : getElem? ops p ≡ none = at-beyond ops p (omega arith) in
-      rw (back, last, ← set-is, locks-same h 0 small (omega arith), ← known (omega arith), ← ea, ← et) ev
+      rw (back, last, ← set-is, locks-same h 0 few (omega arith), ← known (omega arith))
+      (sym (wrong-end h (getD led p 0) few (at .bytes p)))

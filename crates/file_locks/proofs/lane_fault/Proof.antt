@@ -12,13 +12,13 @@ use Rattle.file_locks.proofs.lane_fault.Tie as tie
 
 returns : tie.Need-returns
 returns c =
-    let s = c .before .before in
+    let s = c .before .before .before in
     λ ops lane. record-none (s .args .order .now) (s .args .from) (s .args .end - s .args .from) (faultPosition ops) 0
     (omega (arith, s .pre)) (omega (arith, c .if1 .taken)) refl
 
 fault-position-requires : tie.Need-fault-position-requires
 fault-position-requires c κs =
-    let s = c .before .before .before in (
+    let s = c .before .before .before .before in (
       omega (arith, s .pre),
       omega (arith, s .pre, part-length (s .args .rows .now) (16 + 8 * s .args .from) (omega (arith, s .pre))),
     )
@@ -29,7 +29,7 @@ least-requires c κs = search needs
 returns-2 : tie.Need-returns-2
 returns-2 c =
     let w = c .before .before in
-    let s = w .before .before .before .before in
+    let s = w .before .before .before .before .before in
     let a = s .args in
     λ ops lane.
     let from = 16 + 8 * a .from in
@@ -44,7 +44,7 @@ wide-word-requires c κs = search needs
 returns-3 : tie.Need-returns-3
 returns-3 c =
     let w = c .before .before .before .before in
-    let s = w .before .before .before .before in
+    let s = w .before .before .before .before .before in
     let a = s .args in
     λ ops lane.
     let from = 16 + 8 * a .from in

@@ -1,25 +1,17 @@
 -- `file_locks::lead` meets its contract.
-use lib.ListN.{getD, set}
+use lib.Bits.{bitOr}
+use lib.ListN.{getD}
 use lib.Seq.{set-out}
-use mathlib.Core.Path.{sym, ap}
-use Rattle.file_locks.specs.Sets.{bring}
+use mathlib.Core.Path.{sym}
 use borrow.Author.Needs.{needs}
 use Rattle.file_locks.proofs.lead.Statement.{statement}
 use Rattle.file_locks.proofs.lead.Tie as tie
 
-brings-requires : tie.Need-brings-requires
-brings-requires c κs = search needs
-
-returns : tie.Need-returns
-returns c =
-    let a = c .before .before .before .before .args in
-    ap (set (a .led .now) (a .q)) (c .brings .ensures)
-
 returns-2 : tie.Need-returns-2
 returns-2 c =
-    let a = c .before .before .args in
-    sym (set-out (a .led .now) (a .q) (bring (getD (a .led .now) (a .q) 0) (a .h)) (c .if1 .left))
+    let a = c .before .args in
+    sym (set-out (a .led .now) (a .q) (bitOr (getD (a .led .now) (a .q) 0) (a .w)) (c .if1 .left))
 
 pub lead-spec : {M : Type 1} → statement M
 lead-spec =
-    tie.close (tie.spec (λ c. search needs) brings-requires (λ c. search needs) (λ c. search needs) returns returns-2)
+    tie.close (tie.spec (λ c. search needs) (λ c. search needs) (λ c. search needs) (λ c. search needs) returns-2)

@@ -20,19 +20,19 @@ abbrev μ-loop : tie.MeasureT-loop
 μ-loop s rows order ends from₀ t₀ from t = 4 - t
 
 loop-holds : tie.Need-loop-holds Inv-loop μ-loop
-loop-holds c = (refl, fault-first (c .before .before .args .s .now))
+loop-holds c = (refl, fault-first (c .before .before .before .args .s .now))
 
 lane-fault-requires : tie.Need-lane-fault-requires Inv-loop μ-loop
 lane-fault-requires c κs =
     let w = c .before in
-    let p = w .before .before .before .before .pre in
+    let p = w .before .before .before .before .before .pre in
     lane-fits _ _ _ _ (p .0) (p .1 .0 .1) _ _ (p .1 .1 .1) (p .1 .1 .2) _ (w .loop-test .taken)
     (w .before .loop .inv .0)
 
 returns : tie.Need-returns Inv-loop μ-loop
 returns c =
     let w = c .before .before .before in
-    let p = w .before .before .before .before .pre in
+    let p = w .before .before .before .before .before .pre in
     let l = w .before .loop in
     first-found _ _ _ (w .loop-test .taken)
     (fault-is _ _ _ _ (p .0) (p .1 .0 .1) _ _ (p .1 .1 .1) (p .1 .1 .2) _ (w .loop-test .taken) (l .inv .0)
@@ -48,7 +48,7 @@ loop-less c = omega arith
 loop-again : tie.Need-loop-again Inv-loop μ-loop
 loop-again c =
     let w = c .before .before .before in
-    let start = w .before .before .before .before in
+    let start = w .before .before .before .before .before in
     let p = start .pre in
     let l = w .before .loop in
     let next : l .t + 1 ≡ suc (l .t) = omega arith in (

@@ -77,7 +77,7 @@ module _ {s order place ends : List ℕ} (st : Structured s) (o : Ordered s orde
       lane-record : RecordIn s place begin n r
       lane-record = record {
         whole = omega (arith, numbered .1, st .fields .sized);
-        aimed = omega (arith, target-small s (st .fields .records) r (numbered .0) (numbered .1), few);
+        aimed = omega (arith, target-small s (st .fields .records) r (numbered .0) (numbered .1), o .place-room);
         later =
             λ some. let on : p + 1 ≤ getD place (target s r) 0 - 1 - begin =
             rw (ne-eqb (target s r) 0 some) at (subst (λ x. p + 1 ≤ x) lands (omega arith)) in
@@ -106,6 +106,9 @@ module _ {s order place : List ℕ} {begin end : ℕ} (l : LaneIn s order place 
 
   pub in-file : end ≤ 256
   in-file = omega (arith, l .to, end-inside (l .ordered) (l .lane) (l .below), few (l .structured) (l .ordered))
+
+  pub in-room : end ≤ length order
+  in-room = omega (arith, l .to, end-inside (l .ordered) (l .lane) (l .below), l .ordered .order-room)
 
   pub counted-in : length (take (end - begin) (drop begin order)) ≡ end - begin
   counted-in =

@@ -19,7 +19,7 @@ use Rattle.file_format.specs.Targets.{badTarget}
 use Rattle.file_format.specs.Structured.{Structured}
 use Rattle.file_format.specs.Accepted.{Program, programOf}
 use Rattle.file_format.specs.Held.{lockFault}
-use Rattle.file_verdict.specs.Verdict.{unless, structureThen, refusalOf, numberOf, accepted}
+use Rattle.file_verdict.specs.Verdict.{unless, fieldsThen, structureThen, refusalOf, numberOf, accepted}
 use Rattle.file_verdict.specs.Verdict.{verdict, verdictFrom}
 
 -- a check hands everything on, or refuses whatever comes after it
@@ -43,7 +43,7 @@ check-then f g (inl p) (inr q) = inr (q .0, q .1, λ a. p (g a) ∙ q .2 a)
 check-then f g (inr p) q = inr (p .0, p .1, λ a. p .2 (g a))
 
 structure-check : (s : List ℕ) → Check (structureThen s)
-unfolding structureThen
+unfolding structureThen fieldsThen
 structure-check s =
     check-then (cond (ltb (length s) 16) TruncatedHeader) _ (check-if (ltb (length s) 16) TruncatedHeader (omega arith))
     (check-then (cond (not (headerRule s)) BadHeader) _ (check-if (not (headerRule s)) BadHeader (omega arith))
@@ -68,7 +68,7 @@ past-record x f rest h e = go (eqb x 0) refl e
     go false t e = absurd (omega (arith, ap numberOf e))
 
 pub structured : (s : List ℕ) → structureThen s Accepted ≡ Accepted → Structured s
-unfolding structureThen
+unfolding structureThen fieldsThen
 structured s e =
     let e1 = past (ltb (length s) 16) TruncatedHeader _ (omega arith) e in
     let e2 = past (not (headerRule s)) BadHeader _ (omega arith) (e1 .1) in

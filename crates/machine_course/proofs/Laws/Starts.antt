@@ -10,7 +10,7 @@ use lib.ListN.{length, getD, set}
 use Rattle.file_format.specs.Fields.{laneCount, locations, locks}
 use Rattle.file_format.specs.Rules.{headerRule}
 use Rattle.file_format.proofs.Laws.Rules.{four-lanes, few-locations, few-locks}
-use Rattle.file_verdict.specs.Verdict.{refused, verdict, refusalOf, structureThen}
+use Rattle.file_verdict.specs.Verdict.{refused, verdict, refusalOf, fieldsThen, structureThen}
 use Rattle.machine_state.specs.States.{Blocks}
 use Rattle.machine_start.proofs.Laws.Start.{zeroed, zeroed-sized, zeroed-state}
 use Rattle.machine_course.specs.Stands.{Started, RefusedStart}
@@ -45,7 +45,7 @@ all-blocks (x ∷ y ∷ z ∷ u ∷ v ∷ w ∷ s) b h = absurd (omega arith)
 -- ## a file that is refused for another reason than its header has a valid one
 
 short-verdict : (s : List ℕ) → headerRule s ≡ false → (n r : ℕ) → verdict s ≡ refused n r → n < 3
-unfolding refusalOf structureThen
+unfolding refusalOf structureThen fieldsThen
 short-verdict s h n r e = go (ltb (length s) 16) refl
   where
     go : (b : Bool) → ltb (length s) 16 ≡ b → n < 3

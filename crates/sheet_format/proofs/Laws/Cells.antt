@@ -9,11 +9,12 @@ use mathlib.Core.Option.{some}
 use lib.ListN.{length, getElem?}
 use Rattle.file_format.specs.declared.accepted.Op.{Op}
 use Rattle.barrier_placement.specs.declared.cookbook.Barrier.{Barrier}
-use Rattle.barrier_placement.specs.declared.cookbook.Barrier.the-variants.{LL, LS, SS, SL}
+use Rattle.barrier_placement.specs.declared.cookbook.Barrier.the-variants.{SL}
 use Rattle.barrier_placement.specs.Chain.{Chain}
 use Rattle.barrier_placement.specs.Steps.{steps}
 use Rattle.barrier_placement.specs.Place.{stands, keep, chosen}
 use Rattle.barrier_placement.specs.Layout.{Placed, start}
+use Rattle.barrier_placement.proofs.Laws.Kinds.{before-few}
 use Rattle.barrier_placement.proofs.Laws.Layout.{layout-end}
 use Rattle.sheet_format.specs.Layout.{Instr, op, barrier, aim, cells, sheet}
 use Rattle.sheet_format.specs.declared.Level.{Level}
@@ -29,27 +30,19 @@ keep-length : (t : Bool) (b : Barrier) (bs : List Barrier) → length (keep t b 
 keep-length true b bs = omega arith
 keep-length false b bs = omega arith
 
--- at most four barriers stand before an operation
-chosen-length : (f : Barrier → Bool) → length (chosen f) ≤ 4
-chosen-length f =
-    let l : List Barrier = keep (f SL) SL [] in
-    let s : List Barrier = keep (f SS) SS l in
-    let m : List Barrier = keep (f LS) LS s in
-    omega
-    (arith, keep-length (f LL) LL m, keep-length (f LS) LS s, keep-length (f SS) SS l, keep-length (f SL) SL [])
-
 each-bar : (P : Instr → Type 0) → ((b : Barrier) → P (barrier b)) → (bs : List Barrier) (is : List Instr)
     → Each P is → Each P (map barrier bs ++ is)
 each-bar P h [] is w = w
 each-bar P h (b ∷ bs) is w = (h b, each-bar P h bs is w)
 
 -- with the barriers that its level keeps, an operation makes at most so many instructions as the level says
-kept-few : (l : Level) (o : Op) (f : Barrier → Bool) → suc (length (chosen (λ b. keeps l o b && f b))) ≤ widest l
-kept-few Level0 o f = omega arith
-kept-few Level1 o f = omega (arith, chosen-length f)
-kept-few Level2 o f = omega (arith, keep-length (f SL) SL [])
+kept-few : (l : Level) (o : Op) (s : Chain) (p : ℕ)
+    → suc (length (chosen (λ b. keeps l o b && stands s b p))) ≤ widest l
+kept-few Level0 o s p = omega arith
+kept-few Level1 o s p = omega (arith, before-few s p)
+kept-few Level2 o s p = omega (arith, keep-length (stands s SL p) SL [])
 
-pub widest-few : (l : Level) → widest l ≤ 5
+pub widest-few : (l : Level) → widest l ≤ 3
 widest-few Level0 = omega arith
 widest-few Level1 = omega arith
 widest-few Level2 = omega arith
@@ -59,7 +52,7 @@ module _ (l : Level) (s : Chain) where
   start-small [] p i = omega arith
   start-small (o ∷ os) p zero = omega arith
   start-small (o ∷ os) p (suc i) =
-      omega (arith, suc-mul (length os) (widest l), start-small os (suc p) i, kept-few l o (λ b. stands s b p))
+      omega (arith, suc-mul (length os) (widest l), start-small os (suc p) i, kept-few l o s p)
 
   module _ (r : ℕ → ℕ) where
     -- what holds of every barrier and of every operation of the chain, newly aimed, holds of each instruction

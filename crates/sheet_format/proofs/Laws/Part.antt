@@ -1,11 +1,11 @@
 -- Laws of a part `&l[i..]`, `&mut l[i..]` or `&mut l[i..e]` of a buffer.
-use Prim.Native.Nat.{ℕ, _+_, _-_, _≤_}
+use Prim.Native.Nat.{ℕ, _+_, _-_, _≤_, _<_}
 use mathlib.Core.Path.{_≡_, sym, ap, _∙_}
 use mathlib.Core.List.{List, [], _++_, append-assoc, append-nil}
 use native.Mathlib.Omega.{arith}
-use lib.ListN.{length, take, drop}
-use lib.Seq.{sets-eq, drop-drop, drop-length}
-use borrow.Rule.Slice.PartMut.{putMid, postOf, post-is}
+use lib.ListN.{length, getD, take, drop}
+use lib.Seq.{sets-eq, drop-drop, drop-length, drop-append-seam, getD-take, length-take-le}
+use borrow.Rule.Slice.PartMut.{putMid, postOf, post-is, take-put}
 use Rattle.laws.proofs.Parts.{part-length, take-rest}
 use Rattle.sheet_format.specs.Bytes.{over}
 use Rattle.sheet_format.specs.Put.{Puts}
@@ -26,13 +26,17 @@ part-back l xs i {ys} h p =
       behind = omega (arith, p .behind);
     }
 
--- a part `&mut l[i..e]` that comes back filled
-pub part-filled : (l xs : List ℕ) (i e : ℕ) {ys : List ℕ} → i + length xs ≡ e → e ≤ length l → ys ≡ xs
-    → Puts l i xs (putMid i (e - i) l ys) e
-part-filled l xs i e {ys} whole h filled = record {
-  bytes =
-      ap (λ z. take i l ++ (z ++ postOf i (e - i) l)) filled
-      ∙ ap (λ z. take i l ++ (xs ++ z)) (post-is i e l (omega arith) ∙ ap (λ n. drop n l) (sym whole))
-      ∙ sym (append-assoc (take i l) xs (drop (i + length xs) l)) ∙ sym (sets-eq xs l i (omega arith));
-  behind = sym whole;
-}
+-- a part `&mut l[i..]` that comes back as ys: it stands from i on, and before i nothing changed
+module _ (l ys : List ℕ) (i : ℕ) (h : i ≤ length l) where
+  pub part-behind : drop i (putMid i (length l - i) l ys) ≡ ys
+  part-behind =
+      let none : postOf i (length l - i) l ≡ [] = post-is i (length l) l (omega arith) ∙ drop-length l in
+      let size : i ≡ length (take i l) = sym (length-take-le i l h) in
+      ap (λ n. drop n (take i l ++ (ys ++ postOf i (length l - i) l))) size
+      ∙ drop-append-seam (take i l) (ys ++ postOf i (length l - i) l)
+      ∙ ap (λ z. ys ++ z) none ∙ append-nil ys
+
+  pub part-before : (j : ℕ) → j < i → getD (putMid i (length l - i) l ys) j 0 ≡ getD l j 0
+  part-before j lt =
+      sym (getD-take i (putMid i (length l - i) l ys) j 0 lt)
+      ∙ ap (λ z. getD z j 0) (take-put i (length l - i) l ys h) ∙ getD-take i l j 0 lt

@@ -1,5 +1,5 @@
 -- Laws of rows that are written whole, and count only where they stand.
-use Prim.Native.Nat.{ℕ, _+_, _*_, _≤_}
+use Prim.Native.Nat.{ℕ, _+_, _*_}
 use mathlib.Core.Path.{_≡_, refl, sym, ap, ap₂, subst, _∙_}
 use mathlib.Core.Bool.{Bool, true, false}
 use mathlib.Core.List.{List, [], _++_, append-nil}
@@ -9,21 +9,12 @@ use lib.Seq.{sets, length-sets}
 use mir.Val.{boolByte}
 use Rattle.laws.proofs.Parts.{sets-over, sets-on}
 use Rattle.sheet_format.specs.Bytes.{row}
-use Rattle.sheet_format.specs.Put.{Puts, laid}
-use Rattle.sheet_format.proofs.Laws.Put.{laid-fits}
+use Rattle.sheet_format.specs.Put.{Puts}
 use Rattle.sheet_lanes.specs.Put.{rowIf, Begins}
 
 pub row-size : (b : Bool) (code at : ℕ) → at + 8 * boolByte b ≡ at + length (rowIf b code)
 row-size true code at = refl
 row-size false code at = refl
-
--- bytes laid over those that were written there before
-pub laid-over : (l : List ℕ) (i : ℕ) (x y : List ℕ) {m n : List ℕ} → length x ≤ length y → i + length y ≤ length l
-    → m ≡ sets l i x → n ≡ laid m i y → n ≡ sets l i y
-laid-over l i x y {m} h room e p =
-    p ∙ laid-fits m i y (omega (arith, room, ap length e ∙ length-sets l i x))
-    ∙ ap (λ z. sets z i y) e
-    ∙ sets-over l i x y h
 
 pub begins-none : {l : List ℕ} {i : ℕ} → Begins l i [] l i
 begins-none {l} {i} = record { rest = []; short = omega arith; bytes = refl; behind = omega arith }

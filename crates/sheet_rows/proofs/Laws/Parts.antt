@@ -68,16 +68,3 @@ lane-rows s t h =
     lane-in (counts s) (drop 16 s) t
     ∙ ap₂ readRows (sym (many s t h))
     (drop-drop (8 * before (counts s) t) 16 s ∙ ap (λ k. drop k s) (sym (begins s t h)))
-
-lanes-count : (ns s : List ℕ) → length (readLanes ns s) ≡ length ns
-lanes-count [] s = refl
-lanes-count (n ∷ ns) s = ap suc (lanes-count ns (pastRows n s))
-
-pub sheet-few : (s : List ℕ) → length (readSheet s) ≤ 4
-unfolding readSheet
-sheet-few s =
-    omega (
-      arith,
-      lanes-count (counts s) (drop 16 s),
-      length-take (getD s 0 0) (word s 8 ∷ word s 10 ∷ word s 12 ∷ word s 14 ∷ []),
-    )

@@ -15,7 +15,7 @@ use Rattle.text_listing.specs.Line.{refusalLine}
 use Rattle.text_listing.specs.Listing.{printed, printedBy, sheetText}
 use Rattle.text_listing.proofs.SheetListing.{accepted-text}
 
-module _ (s own : List ℕ) (big : 10256 ≤ length own) where
+module _ (s own : List ℕ) (big : 4112 ≤ length own) where
   pub refusal-printed : {n r : ℕ} {after : List ℕ} → (Refuses n r, after) ≡ lower2 s own → refusalLine n r ≡ printed s
   refusal-printed p = ap printedBy (sym (refuses-as Level2 s own (omega arith) p))
 

@@ -2,7 +2,7 @@
 use native.Mathlib.Omega.{arith}
 use mathlib.Core.Path.{refl, sym}
 use borrow.Author.Tests.{le-leb, lt-leb, eq-eqb, ne-eqb}
-use Rattle.barrier_pass.proofs.Laws.Classes.{landing-by}
+use Rattle.barrier_pass.proofs.Laws.Known.{landing-by}
 use Rattle.barrier_pass.proofs.steps.landing_of.Statement.{statement}
 use Rattle.barrier_pass.proofs.steps.landing_of.Tie as tie
 

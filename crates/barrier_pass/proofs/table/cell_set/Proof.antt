@@ -1,4 +1,5 @@
 -- `barrier_pass::table::cell_set` meets its contract.
+use native.Mathlib.Omega.{arith}
 use mathlib.Core.Path.{refl}
 use Rattle.barrier_placement.specs.Cookbook.{cell}
 use Rattle.barrier_placement.proofs.Laws.Bytes.{code-small, code-set, set-small}
@@ -10,7 +11,8 @@ cell-requires : tie.Need-cell-requires
 cell-requires c κs = search needs
 
 shl-result : tie.Need-shl-result
-shl-result c = rw (c .cell .ensures) (code-small (cell (c .before .args .c) (c .before .args .d)))
+shl-result c =
+    omega (arith, c .cell .ensures, code-small (cell (c .before .args .c) (c .before .args .d)))
 
 returns : tie.Need-returns
 returns c =

@@ -30,7 +30,7 @@ returns : tie.Need-returns Inv-loop μ-loop
 returns c =
     let a = c .before .before in
     search-found _ _ _ (a .loop-test .taken)
-    (ap not (met-down (a .before .before .args .place .now) (a .before .loop .i) (c .if1 .taken)))
+    (ap not (met-down (a .before .before .args .place .now) (a .before .loop .i) (omega arith) (c .if1 .taken)))
     (a .before .loop .inv .1)
 
 add-i : tie.Need-add-i Inv-loop μ-loop
@@ -44,7 +44,7 @@ loop-again c =
     let a = c .before .before in (
       omega arith,
       search-on _ _ _ (a .loop-test .taken)
-          (ap not (met-up (a .before .before .args .place .now) (a .before .loop .i) (c .if1 .left)))
+          (ap not (met-up (a .before .before .args .place .now) (a .before .loop .i) (omega arith) (c .if1 .left)))
           (a .before .loop .inv .1),
     )
 

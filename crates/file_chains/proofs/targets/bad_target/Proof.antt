@@ -34,7 +34,7 @@ loop-holds c = (
 
 strays-requires : tie.Need-strays-requires Inv-loop μ-loop
 strays-requires c κs =
-    let p = c .before .before .before .before .pre in
+    let p = c .before .before .before .before .before .pre in
     ((few-records _ (p .0 .header), p .0 .records, c .before .loop .inv .1, omega arith), p .1)
 
 returns : tie.Need-returns Inv-loop μ-loop

@@ -22,15 +22,20 @@ returns c = rw (eq-eqb _ _ (sym (c .before .word-at .ensures .0) ∙ c .if1 .tak
 wide-word-requires : tie.Need-wide-word-requires
 wide-word-requires c κs = search needs
 
-element-copy-out-wide-word-2 : tie.Need-element-copy-out-wide-word-2
-element-copy-out-wide-word-2 c =
-    let w = c .before .before .before in
-    let s = w .before .before in
+shared-slice-read-wide-word-2 : tie.Need-shared-slice-read-wide-word-2
+shared-slice-read-wide-word-2 c =
+    let w = c .before .before .before .before in
+    let s = w .before .before .before in
     let small = target-small (s .args .s .now) (s .pre .0 .1) (s .args .i) (s .pre .0 .2) (s .pre .0 .3) in
-    omega (arith, w .word-at .ensures .0)
+    omega (arith, w .word-at .ensures .0, s .pre .1 .1 .1 .place-room)
 
 wide-word-requires-2 : tie.Need-wide-word-requires-2
 wide-word-requires-2 c κs = search needs
+
+shared-slice-read-wide-word : tie.Need-shared-slice-read-wide-word
+shared-slice-read-wide-word c =
+    let s = c .before .before .before .before .before in
+    omega (arith, s .pre .1 .1 .1 .place-room, s .pre .0 .3)
 
 reaches-requires : tie.Need-reaches-requires
 reaches-requires c κs = search needs
@@ -39,7 +44,7 @@ returns-2 : tie.Need-returns-2
 returns-2 c =
     let first = c .before .before .before in
     let test = first .before .before in
-    let s = test .before .before .before in
+    let s = test .before .before .before .before in
     let a = s .args in
     let is = test .before .word-at .ensures .0 in
     let small = target-small (a .s .now) (s .pre .0 .1) (a .i) (s .pre .0 .2) (s .pre .0 .3) in
@@ -54,5 +59,5 @@ pub strays-spec : {M : Type 1} → statement M
 strays-spec =
     tie.close
     (tie.spec (λ c. search needs) (λ c. search needs) (λ c. search needs) word-at-requires returns (λ c. search needs)
-    (λ c. search needs) wide-word-requires (λ c. search needs) element-copy-out-wide-word-2 wide-word-requires-2
-    reaches-requires returns-2)
+    shared-slice-read-wide-word wide-word-requires (λ c. search needs) shared-slice-read-wide-word-2
+    wide-word-requires-2 reaches-requires returns-2)

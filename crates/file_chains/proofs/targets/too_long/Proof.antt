@@ -1,7 +1,7 @@
 -- `file_chains::targets::too_long` meets its contract.
 use Prim.Native.Nat.{_+_, _-_, _≤_}
 use borrow.Author.Needs.{needs}
-use lib.ListN.{getD}
+use lib.ListN.{length, getD}
 use mathlib.Core.Path.{_≡_, _∙_, refl, sym, ap}
 use native.Mathlib.Numerals.{add-one}
 use native.Mathlib.Omega.{arith}
@@ -16,7 +16,7 @@ use Rattle.file_chains.proofs.targets.too_long.Tie as tie
 
 abbrev Inv-loop : tie.InvT-loop
 Inv-loop s order ends from₀ t₀ from t =
-    (from ≤ 257)
+    (from ≤ length order)
     × (from ≡ beginOf ends t)
     × (firstOf (λ n. getD (chain s 65 (head s n)) 64 0) t (4 - t) ≡ chainTooLong s)
 
@@ -36,10 +36,10 @@ add-wide-word c = omega arith
 mul-wide-word : tie.Need-mul-wide-word Inv-loop μ-loop
 mul-wide-word c = omega arith
 
-element-copy-out-wide-word : tie.Need-element-copy-out-wide-word Inv-loop μ-loop
-element-copy-out-wide-word c =
-    let test = c .before .before in
-    omega (arith, end-fits (test .before .before .before .pre .1) (test .before .loop .t))
+shared-slice-read-wide-word : tie.Need-shared-slice-read-wide-word Inv-loop μ-loop
+shared-slice-read-wide-word c =
+    let test = c .before .before .before in
+    omega (arith, end-fits (test .before .before .before .before .pre .1) (test .before .loop .t))
 
 wide-word-requires : tie.Need-wide-word-requires Inv-loop μ-loop
 wide-word-requires c κs = search needs
@@ -48,7 +48,7 @@ returns : tie.Need-returns Inv-loop μ-loop
 returns c =
     let test = c .before .before .before .before in
     let l = test .before .loop in
-    let start = test .before .before .before in
+    let start = test .before .before .before .before in
     let a = start .args in
     let over = one-over (start .pre .1) (l .t) (test .loop-test .taken) (omega arith) in
     let value : c .wide-word .result ≡ getD (a .order .now) (beginOf (a .ends .now) (l .t) + 64) 0 =
@@ -62,7 +62,7 @@ loop-again : tie.Need-loop-again Inv-loop μ-loop
 loop-again c =
     let test = c .before .before in
     let l = test .before .loop in
-    let start = test .before .before .before in (
+    let start = test .before .before .before .before in (
       end-fits (start .pre .1) (l .t),
       sym (ap (beginOf (start .args .ends .now)) (add-one (l .t))),
       first-on _ _ _ (test .loop-test .taken)
@@ -76,4 +76,4 @@ pub too-long-spec : {M : Type 1} → statement M
 too-long-spec =
     tie.close
     (tie.spec Inv-loop μ-loop loop-holds (λ c. search needs) (λ c. search needs) add-if1 add-wide-word mul-wide-word
-    element-copy-out-wide-word wide-word-requires returns (λ c. search needs) loop-less loop-again returns-2)
+    shared-slice-read-wide-word wide-word-requires returns (λ c. search needs) loop-less loop-again returns-2)

@@ -13,12 +13,12 @@ wide-word-requires c κs = search needs
 sub-result : tie.Need-sub-result
 sub-result c =
     let i = c .before .before in
-    omega (arith, i .before .pre .1 (i .if1 .left), c .wide-word .ensures .0)
+    omega (arith, i .before .before .pre .1 (i .if1 .left), c .wide-word .ensures .0)
 
 sub-result-2 : tie.Need-sub-result-2
 sub-result-2 c =
     let i = c .before .before in
-    omega (arith, i .before .pre .1 (i .if1 .left), c .wide-word .ensures .0)
+    omega (arith, i .before .before .pre .1 (i .if1 .left), c .wide-word .ensures .0)
 
 returns : tie.Need-returns
 returns c = rw (eq-eqb _ _ (c .if1 .taken)) refl
@@ -26,7 +26,7 @@ returns c = rw (eq-eqb _ _ (c .if1 .taken)) refl
 returns-2 : tie.Need-returns-2
 returns-2 c =
     let i = c .before .before in
-    rw (ne-eqb _ _ (i .if1 .left)) (ap (λ x. x - 1 - i .before .args .begin) (c .wide-word .ensures .0))
+    rw (ne-eqb _ _ (i .if1 .left)) (ap (λ x. x - 1 - i .before .before .args .begin) (c .wide-word .ensures .0))
 
 pub landing-spec : {M : Type 1} → statement M
 landing-spec =

@@ -12,7 +12,7 @@ use Rattle.sheet_format.proofs.Laws.Put.{puts-none, puts-as, puts-end, puts-len
 use Rattle.sheet_rows.specs.Lanes.{opRows}
 use Rattle.file_rows.specs.Records.{recordRow, RecordIn}
 use Rattle.file_rows.proofs.Laws.Lane.{row-put, rows-all}
-use Rattle.file_rows.proofs.Laws.Records.{in-order, in-file, counted-in, record-in, row-in}
+use Rattle.file_rows.proofs.Laws.Records.{in-order, in-file, in-room, counted-in, record-in, row-in}
 use borrow.Author.Needs.{needs}
 use Rattle.file_rows.proofs.chain.write_chain.Statement.{statement}
 use Rattle.file_rows.proofs.chain.write_chain.Tie as tie
@@ -26,25 +26,27 @@ abbrev μ-loop : tie.MeasureT-loop
 μ-loop out₀ s order place begin end n p₀ out p = n - p
 
 sub-n : tie.Need-sub-n Inv-loop μ-loop
-sub-n c = in-order (c .before .before .pre .1)
+sub-n c = in-order (c .before .before .before .before .pre .1)
 
 loop-holds : tie.Need-loop-holds Inv-loop μ-loop
 loop-holds c = (omega arith, puts-end puts-none (omega arith))
 
 add-j : tie.Need-add-j Inv-loop μ-loop
-add-j c = omega (arith, in-file (c .before .before .before .before .pre .1))
+add-j c = omega (arith, in-file (c .before .before .before .before .before .before .pre .1))
 
 mul-put-record : tie.Need-mul-put-record Inv-loop μ-loop
-mul-put-record c = omega (arith, in-file (c .before .before .before .before .before .pre .1))
+mul-put-record c = omega (arith, in-file (c .before .before .before .before .before .before .before .pre .1))
 
 add-put-record : tie.Need-add-put-record Inv-loop μ-loop
-add-put-record c = omega (arith, in-file (c .before .before .before .before .before .pre .1))
+add-put-record c = omega (arith, in-file (c .before .before .before .before .before .before .before .pre .1))
 
 mul-wide-word : tie.Need-mul-wide-word Inv-loop μ-loop
-mul-wide-word c = omega (arith, in-file (c .before .before .before .before .before .pre .1))
+mul-wide-word c = omega (arith, in-file (c .before .before .before .before .before .before .before .pre .1))
 
-element-copy-out-wide-word : tie.Need-element-copy-out-wide-word Inv-loop μ-loop
-element-copy-out-wide-word c = omega (arith, in-file (c .before .before .before .before .before .pre .1))
+shared-slice-read-wide-word : tie.Need-shared-slice-read-wide-word Inv-loop μ-loop
+shared-slice-read-wide-word c =
+    let a = c .before .before .before .before .before .before .before .before in
+    omega (arith, in-room (a .pre .1))
 
 wide-word-requires : tie.Need-wide-word-requires Inv-loop μ-loop
 wide-word-requires c κs = search needs
@@ -52,7 +54,7 @@ wide-word-requires c κs = search needs
 put-record-requires : tie.Need-put-record-requires Inv-loop μ-loop
 put-record-requires c κs =
     let l = c .before .before .before .before .loop in
-    let a = c .before .before .before .before .before .before .before in
+    let a = c .before .before .before .before .before .before .before .before .before in
     let below : l .p < a .args .end - a .args .begin = c .before .before .before .loop-test .taken in (
       omega (arith, puts-length (l .inv .1), a .pre .0),
       subst (RecordIn (a .args .s .now) (a .args .place .now) (a .args .begin) (a .args .end - a .args .begin))
@@ -62,7 +64,7 @@ put-record-requires c κs =
 add-p : tie.Need-add-p Inv-loop μ-loop
 add-p c =
     let test = c .before .before .before .before .before .before in
-    omega (arith, in-file (test .before .before .before .before .pre .1))
+    omega (arith, in-file (test .before .before .before .before .before .before .pre .1))
 
 loop-less : tie.Need-loop-less Inv-loop μ-loop
 loop-less c = omega (arith, c .before .before .before .before .before .before .loop-test .taken)
@@ -72,7 +74,7 @@ loop-again c =
     let w = c .before .before .before in
     let test = w .before .before .before in
     let l = test .before .loop in
-    let bytes = test .before .before in
+    let bytes = test .before .before .before .before in
     let a = bytes .before .before in
     let s = a .args .s .now in
     let begin = a .args .begin in
@@ -96,7 +98,7 @@ same-length c = puts-length (c .before .loop .inv .1)
 returns : tie.Need-returns Inv-loop μ-loop
 returns c =
     let l = c .before .loop in
-    let a = c .before .before .before .before in
+    let a = c .before .before .before .before .before .before in
     let s = a .args .s .now in
     let n = a .args .end - a .args .begin in
     let records = take n (drop (a .args .begin) (a .args .order .now)) in
@@ -118,7 +120,7 @@ write-chain-spec =
     mul-put-record
     add-put-record
     mul-wide-word
-    element-copy-out-wide-word
+    shared-slice-read-wide-word
     wide-word-requires
     put-record-requires
     add-p

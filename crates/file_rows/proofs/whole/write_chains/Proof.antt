@@ -24,17 +24,20 @@ put-first-requires c κs = search needs
 sub-put-counts : tie.Need-sub-put-counts
 sub-put-counts c =
     let c8 = c .before .before .before .before .before .before .before .before in
-    omega (arith, c8 .before .before .before .before .before .before .before .pre .1 .1 .rising 1 (omega arith))
+    let a = c8 .before .before .before .before .before .before .before .before .before in
+    omega (arith, a .pre .1 .1 .rising 1 (omega arith))
 
 sub-put-counts-2 : tie.Need-sub-put-counts-2
 sub-put-counts-2 c =
     let c8 = c .before .before .before .before .before .before .before .before in
-    omega (arith, c8 .before .before .before .before .before .before .before .pre .1 .1 .rising 2 (omega arith))
+    let a = c8 .before .before .before .before .before .before .before .before .before in
+    omega (arith, a .pre .1 .1 .rising 2 (omega arith))
 
 sub-put-counts-3 : tie.Need-sub-put-counts-3
 sub-put-counts-3 c =
     let c8 = c .before .before .before .before .before .before .before .before in
-    omega (arith, c8 .before .before .before .before .before .before .before .pre .1 .1 .rising 3 (omega arith))
+    let a = c8 .before .before .before .before .before .before .before .before .before in
+    omega (arith, a .pre .1 .1 .rising 3 (omega arith))
 
 put-counts-requires : tie.Need-put-counts-requires
 put-counts-requires c κs = search needs
@@ -43,7 +46,7 @@ write-lanes-requires : tie.Need-write-lanes-requires
 write-lanes-requires c κs =
     let counts = c .before .before .before in
     let first = counts .before .before .before .before .before .before .before .before in
-    let a = first .before .before .before .before .before .before .before .before in (
+    let a = first .before .before .before .before .before .before .before .before .before .before in (
       omega (
         arith,
         laid-length _ _ _ (first .put-first .ensures),
@@ -59,7 +62,7 @@ returns c =
     let counts = lanes .before .before .before .before in
     let first = counts .before .before .before .before .before .before .before .before in
     let at = first .before .before .before in
-    let a = at .before .before .before .before .before in
+    let a = at .before .before .before .before .before .before .before in
     chains-from (a .pre .1 .0) (a .pre .1 .1) (at .byte-at .ensures) (first .before .before .byte-at2 .ensures)
     (first .before .byte-at3 .ensures) (at .before .before .word-at .ensures .0) (a .args .out .now) (a .pre .0)
     (first .put-first .ensures) (counts .put-counts .ensures) (lanes .write-lanes .ensures)

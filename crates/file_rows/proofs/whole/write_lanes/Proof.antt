@@ -31,7 +31,7 @@ write-chain-requires : tie.Need-write-chain-requires Inv-loop μ-loop
 write-chain-requires c κs =
     let test = c .before .before in
     let l = test .before .loop in
-    let a = test .before .before .before .before in
+    let a = test .before .before .before .before .before .before in
     let lane : LaneIn (a .args .s .now) (a .args .order .now) (a .args .place .now) (l .begin)
     (getD (a .args .ends .now) (l .t) 0) = record {
       lane = l .t;
@@ -55,7 +55,7 @@ loop-again : tie.Need-loop-again Inv-loop μ-loop
 loop-again c =
     let test = c .before .before .before .before .before in
     let l = test .before .loop in
-    let a = test .before .before .before .before in
+    let a = test .before .before .before .before .before .before in
     let s = a .args .s .now in
     let ends = a .args .ends .now in
     let lane : LaneIn s (a .args .order .now) (a .args .place .now) (l .begin) (getD ends (l .t) 0) = record {
@@ -79,7 +79,7 @@ same-length c = puts-length (c .before .loop .inv .2)
 
 returns : tie.Need-returns Inv-loop μ-loop
 returns c =
-    let a = c .before .before .before .before in
+    let a = c .before .before .before .before .before .before in
     let l = c .before .loop in
     let last : l .t ≡ 4 = omega (arith, c .loop-test .left) in
     l .inv .2 .bytes ∙ ap (λ n. sets (a .args .out .now) 16 (inTurn (chainAt (a .args .s .now)) n)) last

@@ -12,11 +12,11 @@ use Rattle.sheet_lanes.proofs.lane.write_lane.Statement.{statement}
 use Rattle.sheet_lanes.proofs.lane.write_lane.Tie as tie
 
 abbrev Inv-loop : tie.InvT-loop
-Inv-loop out₀ rows n plan at₀ p₀ out at p =
-    (p ≤ n) × Puts out₀ 0 (laneRows plan rows p) out at
+Inv-loop level part₀ rows n plan at₀ p₀ part at p =
+    (p ≤ n) × Puts part₀ 0 (laneRows level plan rows p) part at
 
 abbrev μ-loop : tie.MeasureT-loop
-μ-loop out₀ rows n plan at₀ p₀ out at p = n - p
+μ-loop level part₀ rows n plan at₀ p₀ part at p = n - p
 
 loop-holds : tie.Need-loop-holds Inv-loop μ-loop
 loop-holds c = (omega arith, turn-none _)
@@ -25,9 +25,11 @@ put-step-requires : tie.Need-put-step-requires Inv-loop μ-loop
 put-step-requires c κs =
     let l = c .before .before .loop in
     let a = c .before .before .before .before .before .before in
-    let text = stepRows (a .args .plan .now) (a .args .rows .now) in
-    let room : 0 + length (inTurn text (a .args .n)) ≤ length (a .args .out .now) = omega (arith, a .pre .1) in
-    ((omega arith, omega (arith, a .pre .0 .1)), turn-fits text (a .args .n) (l .p) room (omega arith) (l .inv .1) .1)
+    let text = stepRows (a .args .level) (a .args .plan .now) (a .args .rows .now) in
+    let room : 0 + length (inTurn text (a .args .n)) ≤ length (a .args .part .now) = omega (arith, a .pre .1) in (
+      (omega arith, omega (arith, a .pre .0 .1), a .pre .0 .2 (l .p) (omega arith)),
+      turn-fits text (a .args .n) (l .p) room (omega arith) (l .inv .1) .1,
+    )
 
 loop-less : tie.Need-loop-less Inv-loop μ-loop
 loop-less c = omega arith
@@ -36,7 +38,7 @@ loop-again : tie.Need-loop-again Inv-loop μ-loop
 loop-again c =
     let l = c .before .before .before .before .before .loop in
     let a = c .before .before .before .before .before .before .before .before .before .args in
-    let text = stepRows (a .plan .now) (a .rows .now) in
+    let text = stepRows (a .level) (a .plan .now) (a .rows .now) in
     (omega arith, turn-on text (l .p) (l .inv .1) (c .before .before .put-step .ensures))
 
 same-length : tie.Need-same-length Inv-loop μ-loop
@@ -47,7 +49,7 @@ returns c =
     let l = c .before .loop in
     let a = c .before .before .before .before .before .args in
     let last : l .p ≡ a .n = omega arith in
-    puts-as (ap (laneRows (a .plan .now) (a .rows .now)) last) (l .inv .1)
+    puts-as (ap (laneRows (a .level) (a .plan .now) (a .rows .now)) last) (l .inv .1)
 
 pub write-lane-spec : {M : Type 1} → statement M
 write-lane-spec =

@@ -10,14 +10,14 @@ use Rattle.sheet_lanes.proofs.steps.put_step.Tie as tie
 put-barriers-requires : tie.Need-put-barriers-requires
 put-barriers-requires c κs =
     let s = c .before .before .before .before .before in
-    let size = step-length (s .args .plan .now) (s .args .rows .now) (s .args .p) (s .pre .0 .0) in
-    omega (arith, size, s .pre .1)
+    let size = step-length (s .args .level) (s .args .plan .now) (s .args .rows .now) (s .args .p) (s .pre .0 .0) in
+    (s .pre .0 .2, omega (arith, size, s .pre .1))
 
 put-own-requires : tie.Need-put-own-requires
 put-own-requires c κs =
     let f = c .before .before .before in
     let s = f .before .before .before .before .before .before in
-    let size = step-length (s .args .plan .now) (s .args .rows .now) (s .args .p) (s .pre .0 .0) in
+    let size = step-length (s .args .level) (s .args .plan .now) (s .args .rows .now) (s .args .p) (s .pre .0 .0) in
     let put = f .put-barriers .ensures in
     (omega (arith, size, s .pre .1, put .behind, begins-length put), s .pre .0 .0)
 
@@ -25,14 +25,14 @@ add-result : tie.Need-add-result
 add-result c =
     let f = c .before .before .before .before .before .before in
     let s = f .before .before .before .before .before .before in
-    let size = step-length (s .args .plan .now) (s .args .rows .now) (s .args .p) (s .pre .0 .0) in
+    let size = step-length (s .args .level) (s .args .plan .now) (s .args .rows .now) (s .args .p) (s .pre .0 .0) in
     omega (arith, size, s .pre .1, s .good, f .put-barriers .ensures .behind)
 
 returns : tie.Need-returns
 returns c =
     let f = c .before .before .before .before .before .before in
     let s = f .before .before .before .before .before .before in
-    let eight = own-length (s .args .rows .now) (s .args .plan .now) (8 * s .args .p) (s .pre .0 .0) in
+    let eight = own-length (s .args .level) (s .args .plan .now) (s .args .rows .now) (8 * s .args .p) (s .pre .0 .0) in
     begins-last (f .put-barriers .ensures) _ eight (c .before .before .put-own .ensures)
 
 pub put-step-spec : {M : Type 1} → statement M

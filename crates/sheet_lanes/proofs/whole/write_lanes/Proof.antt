@@ -1,110 +1,104 @@
--- `sheet_lanes::whole::write_lanes` meets its contract. What is written is the lanes one behind the other.
-use mathlib.Core.Path.{ap}
+-- `sheet_lanes::whole::write_lanes` meets its contract. What is written is the lanes passed, one behind the other.
+use Prim.Native.Nat.{_*_, _≤_, _-_}
+use mathlib.Core.Path.{_≡_, refl, sym, ap, subst, _∙_}
 use native.Mathlib.Omega.{arith}
-use lib.ListN.{length}
-use Rattle.sheet_format.proofs.Laws.Put.{puts-as}
+use lib.ListN.{length, getD, drop}
+use Rattle.sheet_format.specs.Put.{Puts, inTurn}
+use Rattle.sheet_format.proofs.Laws.Put.{puts-as, puts-length}
 use Rattle.sheet_format.proofs.Laws.Turn.{turn-none, turn-on, turn-fits}
-use Rattle.sheet_lanes.specs.Rows.{lanesText}
-use Rattle.sheet_lanes.proofs.Laws.Rows.{part-few, part-inside, part-text}
+use Rattle.sheet_lanes.specs.Put.{laneRows, SingleTo}
+use Rattle.sheet_lanes.specs.Rows.{planFrom, planIn, laneText}
+use Rattle.sheet_lanes.proofs.Laws.Rows.{part-few, part-inside, part-count, part-text}
+use Rattle.sheet_lanes.proofs.Laws.Rows.{plan-next, plan-room}
 use borrow.Author.Needs.{needs}
 use Rattle.sheet_lanes.proofs.whole.write_lanes.Statement.{statement}
 use Rattle.sheet_lanes.proofs.whole.write_lanes.Tie as tie
 
-put-lane-requires : tie.Need-put-lane-requires
+abbrev Inv-loop : tie.InvT-loop
+Inv-loop level out₀ rows plan from count at₀ place₀ t₀ out at place t =
+    (t ≤ 4) × (place ≡ planFrom rows t) × Puts out₀ 16 (inTurn (laneText level rows plan) t) out at
+    × (place ≤ 65 * t)
+
+abbrev μ-loop : tie.MeasureT-loop
+μ-loop level out₀ rows plan from count at₀ place₀ t₀ out at place t = 4 - t
+
+loop-holds : tie.Need-loop-holds Inv-loop μ-loop
+loop-holds c = (omega arith, refl, turn-none _, omega arith)
+
+put-lane-requires : tie.Need-put-lane-requires Inv-loop μ-loop
 put-lane-requires c κs =
-    let s = c .before .before .before .before .before .before .before .before .before in
+    let l = c .before .before .loop in
+    let s = c .before .before .before .before .before .before .before .before in
     let g = s .args in
-    let text = lanesText (g .rows .now) (g .a .now) (g .b .now) (g .c .now) (g .d .now) in
-    let is = part-text (g .rows .now) (s .pre .0 .0) (s .pre .0 .1) in
-    let t0 = turn-none text {buffer = g .out .now} {i = 16} in
-    let size = ap length (is 0 (omega arith) (g .a .now)) in (
+    let rows = g .rows .now in
+    let plan = g .plan .now in
+    let ok = s .pre .0 in
+    let many = part-count rows (ok .0) (ok .1) (l .t) (omega arith) in
+    let there : planIn rows plan (l .t) ≡ drop (l .place) plan = ap (λ n. drop n plan) (sym (l .inv .1)) in
+    let count = getD (g .parts .count) (l .t) 0 in
+    let size = ap length (ap (λ x. laneRows (g .level) x (drop (getD (g .parts .from) (l .t) 0) rows) count) (sym there)
+    ∙ part-text rows (ok .0) (ok .1) (l .t) (omega arith) (g .level) plan) in
+    let fits = turn-fits (laneText (g .level) rows plan) 4 (l .t) (s .pre .1 .1) (omega arith) (l .inv .2) in (
       (
-        part-inside (g .rows .now) (s .pre .0 .0) (s .pre .0 .1) 0 (omega arith),
-        omega (arith, part-few (g .rows .now) (s .pre .0 .0) (s .pre .0 .1) 0 (omega arith), s .pre .1 .0 .0),
+        part-inside rows (ok .0) (ok .1) (l .t) (omega arith),
+        omega (arith, plan-room rows (l .t) (omega arith) (ok .2), l .inv .1, many),
       ),
-      omega (arith, size, turn-fits text 4 0 (s .pre .1 .1) (omega arith) t0 .1),
+      (
+        subst (λ x. SingleTo x count) there (λ p h. s .pre .1 .0 (l .t) (omega arith) p (omega (arith, many))),
+        omega (arith, size, fits .1),
+      ),
     )
 
-put-lane-requires-2 : tie.Need-put-lane-requires-2
-put-lane-requires-2 c κs =
-    let s = c .before .before .before .before .before .before .before .before .before .before .before .before
-    .before in
+add-place : tie.Need-add-place Inv-loop μ-loop
+add-place c =
+    let f = c .before .before in
+    let l = f .before .before .before .loop in
+    let s = f .before .before .before .before .before .before .before .before .before in
+    omega (arith, l .inv .3, part-few (s .args .rows .now) (s .pre .0 .0) (s .pre .0 .1) (l .t) (omega arith))
+
+add-place-2 : tie.Need-add-place-2 Inv-loop μ-loop
+add-place-2 c =
+    let f = c .before .before in
+    let l = f .before .before .before .loop in
+    let s = f .before .before .before .before .before .before .before .before .before in
+    omega (arith, l .inv .3, part-few (s .args .rows .now) (s .pre .0 .0) (s .pre .0 .1) (l .t) (omega arith))
+
+loop-less : tie.Need-loop-less Inv-loop μ-loop
+loop-less c = omega arith
+
+loop-again : tie.Need-loop-again Inv-loop μ-loop
+loop-again c =
+    let f = c .before .before in
+    let l = f .before .before .before .loop in
+    let s = f .before .before .before .before .before .before .before .before .before in
     let g = s .args in
-    let text = lanesText (g .rows .now) (g .a .now) (g .b .now) (g .c .now) (g .d .now) in
-    let is = part-text (g .rows .now) (s .pre .0 .0) (s .pre .0 .1) in
-    let t0 = turn-none text {buffer = g .out .now} {i = 16} in
-    let t1 = turn-on text 0 t0 (puts-as (is 0 (omega arith) (g .a .now)) (c .before .before .before .put-lane
-    .ensures)) in
-    let size = ap length (is 1 (omega arith) (g .b .now)) in (
-      (
-        part-inside (g .rows .now) (s .pre .0 .0) (s .pre .0 .1) 1 (omega arith),
-        omega (arith, part-few (g .rows .now) (s .pre .0 .0) (s .pre .0 .1) 1 (omega arith), s .pre .1 .0 .1),
-      ),
-      omega (arith, size, turn-fits text 4 1 (s .pre .1 .1) (omega arith) t1 .1),
+    let rows = g .rows .now in
+    let plan = g .plan .now in
+    let ok = s .pre .0 in
+    let many = part-count rows (ok .0) (ok .1) (l .t) (omega arith) in
+    let count = getD (g .parts .count) (l .t) 0 in
+    let lane = drop (getD (g .parts .from) (l .t) 0) rows in
+    let text = ap (λ n. laneRows (g .level) (drop n plan) lane count) (l .inv .1)
+    ∙ part-text rows (ok .0) (ok .1) (l .t) (omega arith) (g .level) plan in (
+      omega arith,
+      omega (arith, l .inv .1, plan-next rows (l .t), many),
+      turn-on (laneText (g .level) rows plan) (l .t) (l .inv .2) (puts-as text (f .put-lane .ensures)),
+      omega (arith, l .inv .3, part-few rows (ok .0) (ok .1) (l .t) (omega arith)),
     )
 
-put-lane-requires-3 : tie.Need-put-lane-requires-3
-put-lane-requires-3 c κs =
-    let s = c .before .before .before .before .before .before .before .before .before .before .before .before .before
-    .before .before .before .before in
-    let g = s .args in
-    let text = lanesText (g .rows .now) (g .a .now) (g .b .now) (g .c .now) (g .d .now) in
-    let is = part-text (g .rows .now) (s .pre .0 .0) (s .pre .0 .1) in
-    let t0 = turn-none text {buffer = g .out .now} {i = 16} in
-    let t1 = turn-on text 0 t0 (puts-as (is 0 (omega arith) (g .a .now)) (c .before .before .before .before .before
-    .before .before .put-lane .ensures)) in
-    let t2 = turn-on text 1 t1 (puts-as (is 1 (omega arith) (g .b .now)) (c .before .before .before .put-lane2
-    .ensures)) in
-    let size = ap length (is 2 (omega arith) (g .c .now)) in (
-      (
-        part-inside (g .rows .now) (s .pre .0 .0) (s .pre .0 .1) 2 (omega arith),
-        omega (arith, part-few (g .rows .now) (s .pre .0 .0) (s .pre .0 .1) 2 (omega arith), s .pre .1 .0 .2),
-      ),
-      omega (arith, size, turn-fits text 4 2 (s .pre .1 .1) (omega arith) t2 .1),
-    )
+same-length : tie.Need-same-length Inv-loop μ-loop
+same-length c = puts-length (c .before .loop .inv .2)
 
-put-lane-requires-4 : tie.Need-put-lane-requires-4
-put-lane-requires-4 c κs =
-    let s = c .before .before .before .before .before .before .before .before .before .before .before .before .before
-    .before .before .before .before .before .before .before .before in
-    let g = s .args in
-    let text = lanesText (g .rows .now) (g .a .now) (g .b .now) (g .c .now) (g .d .now) in
-    let is = part-text (g .rows .now) (s .pre .0 .0) (s .pre .0 .1) in
-    let t0 = turn-none text {buffer = g .out .now} {i = 16} in
-    let t1 = turn-on text 0 t0 (puts-as (is 0 (omega arith) (g .a .now)) (c .before .before .before .before .before
-    .before .before .before .before .before .before .put-lane .ensures)) in
-    let t2 = turn-on text 1 t1 (puts-as (is 1 (omega arith) (g .b .now)) (c .before .before .before .before .before
-    .before .before .put-lane2 .ensures)) in
-    let t3 = turn-on text 2 t2 (puts-as (is 2 (omega arith) (g .c .now)) (c .before .before .before .put-lane3
-    .ensures)) in
-    let size = ap length (is 3 (omega arith) (g .d .now)) in (
-      (
-        part-inside (g .rows .now) (s .pre .0 .0) (s .pre .0 .1) 3 (omega arith),
-        omega (arith, part-few (g .rows .now) (s .pre .0 .0) (s .pre .0 .1) 3 (omega arith), s .pre .1 .0 .3),
-      ),
-      omega (arith, size, turn-fits text 4 3 (s .pre .1 .1) (omega arith) t3 .1),
-    )
-
-returns : tie.Need-returns
+returns : tie.Need-returns Inv-loop μ-loop
 returns c =
-    let s = c .before .before .before .before .before .before .before .before .before .before .before .before .before
-    .before .before .before .before .before .before .before .before .before .before .before in
-    let g = s .args in
-    let text = lanesText (g .rows .now) (g .a .now) (g .b .now) (g .c .now) (g .d .now) in
-    let is = part-text (g .rows .now) (s .pre .0 .0) (s .pre .0 .1) in
-    let t0 = turn-none text {buffer = g .out .now} {i = 16} in
-    let t1 = turn-on text 0 t0 (puts-as (is 0 (omega arith) (g .a .now)) (c .before .before .before .before .before
-    .before .before .before .before .before .before .before .before .before .put-lane .ensures)) in
-    let t2 = turn-on text 1 t1 (puts-as (is 1 (omega arith) (g .b .now)) (c .before .before .before .before .before
-    .before .before .before .before .before .put-lane2 .ensures)) in
-    let t3 = turn-on text 2 t2 (puts-as (is 2 (omega arith) (g .c .now)) (c .before .before .before .before .before
-    .before .put-lane3 .ensures)) in
-    let t4 = turn-on text 3 t3 (puts-as (is 3 (omega arith) (g .d .now)) (c .before .before .put-lane4 .ensures)) in
-    t4 .bytes
+    let l = c .before .loop in
+    let g = c .before .before .before .before .before .before .before .args in
+    let last : l .t ≡ 4 = omega arith in
+    puts-as (ap (inTurn (laneText (g .level) (g .rows .now) (g .plan .now))) last) (l .inv .2) .bytes
 
 pub write-lanes-spec : {M : Type 1} → statement M
 write-lanes-spec =
     tie.close
-    (tie.spec (λ c. search needs) (λ c. search needs) put-lane-requires (λ c. search needs) (λ c. search needs)
-    put-lane-requires-2 (λ c. search needs) (λ c. search needs) put-lane-requires-3 (λ c. search needs)
-    (λ c. search needs) put-lane-requires-4 (λ c. search needs) returns)
+    (tie.spec Inv-loop μ-loop loop-holds (λ c. search needs) (λ c. search needs) (λ c. search needs) (λ c. search needs)
+    put-lane-requires (λ c. search needs) (λ c. search needs) add-place add-place-2 (λ c. search needs) loop-less
+    loop-again same-length returns)

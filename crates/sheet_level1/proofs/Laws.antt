@@ -1,3 +1,0 @@
--- Laws by subject.
-pub mod Held
-pub mod Level1

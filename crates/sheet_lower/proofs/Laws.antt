@@ -1,0 +1,2 @@
+-- Laws by subject.
+pub mod Sheet
