@@ -2,8 +2,8 @@
  *
  * A kernel file, a schedule and an output buffer are each a pointer and a length in bytes. A pointer is never NULL,
  * also where the length is 0. The buffers of one call do not overlap. A call keeps no pointer and needs no memory but
- * stack: measured on x86-64 and the longest kernel, lanes_lower1 and lanes_lower2 5,008 bytes, lanes_run_source 12,344
- * and lanes_run_tso 14,224.
+ * stack: measured on x86-64 and the longest kernel, lanes_lower1 and lanes_lower2 5,136 bytes, lanes_run_source 12,344
+ * and lanes_run_tso 14,352.
  *
  * Answer: a success is the number of bytes written, below 2^32. A refusal is number * 2^32 + record, the record being
  * 0 where none is named. After a refusal the output buffer is as it was; after a success the bytes behind the result
@@ -42,7 +42,8 @@ extern "C" {
 #define LANES_NUMBER(answer) ((uint32_t)((answer) >> 32))
 #define LANES_RECORD(answer) ((uint32_t)(answer))
 
-/* The barrier sheet (level 1), and the x86 sheet with MFENCE (level 2), of a kernel file. */
+/* The barrier sheet (level 1), and the x86 sheet with MFENCE, none of it directly before a LOCK (level 2), of a kernel
+ * file. */
 uint64_t lanes_lower1(const uint8_t *kernel, size_t kernel_len, uint8_t *sheet, size_t sheet_len);
 uint64_t lanes_lower2(const uint8_t *kernel, size_t kernel_len, uint8_t *sheet, size_t sheet_len);
 

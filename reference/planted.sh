@@ -66,6 +66,18 @@ fault 'a SKIP lands behind its target'"'"'s barrier' $sheet \
     's/position => plan.starts\[start + position\]/& + plan.barriers[start + position].count_ones() as u16/'
 fault 'a SKIP to the end lands at the start' $sheet 's/64 => plan.counts\[lane\]/64 => 0/'
 fault 'the mask stays at level 2' $sheet 's/if LEVEL == 2/if LEVEL == 3/'
+fault 'MFENCE stays before a LOCK' $flow 's/\[0, 0, SL\]/[0; 3]/'
+fault 'level 1 leaves SL out before a LOCK as well' $flow 's/\[0, 0, SL\]/[0, SL, SL]/'
+fault 'no MFENCE before a volatile load either' $flow 's/(record\[0\] == LOCK)/(matches!(record[0], LOCK | LOAD))/'
+fault 'MFENCE before a volatile load that a LOCK parts from the store' $flow \
+    's/ways.live = pass.live;/ways.live = pass.live | ways.live \& u8::from(LEVEL == 2 \&\& record[0] == LOCK) << 5;/'
+fault 'counts with the MFENCE left out' $flow \
+    's/1 + standing.count_ones()/1 + (pass.standing \& KEPT[LEVEL]).count_ones()/'
+fault 'a SKIP to a LOCK counts the MFENCE left out' $flow \
+    's/\(self.starts\[start + position\] = count\);/\1 + u16::from(pass.standing \& left_out != 0);/'
+fault 'a SKIP behind a LOCK counts the MFENCE left out' $flow \
+    's/let mut count = 0;/& let mut more = 0;/
+    s/\(self.starts\[start + position\] = count\);/\1 + more; more += u16::from(pass.standing \& left_out != 0);/'
 fault 'counts of two lanes exchanged' $sheet 's/head\[8..\].chunks_exact_mut(2)/&.rev()/'
 fault 'a bad record is named one too low' $check 's/Refusal::new(4, index + 1)/Refusal::new(4, index)/'
 fault 'a record that no lane has is accepted' $check 's/if met == self.records.len()/if met <= self.records.len()/'
@@ -112,6 +124,8 @@ fault 'bytes of the state left as they were' $machine 's/state.fill(0);//'
 fault 'a release frees no lock' $machine 's/& 3)\] = 0,/\& 3)] \&= 255,/'
 fault 'the upper half of a count left zero' $machine \
     's/&waited.to_le_bytes()/\&u64::from(waited as u32).to_le_bytes()/' counts
+fault 'MFENCE listed before a LOCK' src/slow/sheets.rs 's/if next == LOCK => None/if next > 15 => None/' \
+    $listings "$cases"
 fault 'ADD listed under another name' src/slow/listing.rs 's/"ADD {a} {b}"/"SUM {a} {b}"/' $listings "$cases"
 fault 'a SKIP beyond 63 listed as a SKIP to 0' src/slow/listing.rs \
     's/SKIP => format/SKIP if word > 63 => format!("SKIP {a} 0"),\n        &/' $listings "$cases"

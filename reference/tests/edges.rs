@@ -1,8 +1,10 @@
-//! Tests: the first 2,000 cases of seed 1 have every edge, and each edge is answered as its rule says.
+//! Tests: the first 2,000 cases of seed 1 have every edge, and each edge is answered as its rule says; they have LOCKs
+//! without their MFENCE in every place.
 
 use reference::random::{Case, Cases};
-use reference::slow::kernel::{Kernel, Refusal, check};
+use reference::slow::kernel::{Kernel, LOAD, LOCK, Refusal, SKIP, STORE, UNLOCK, check};
 use reference::slow::machines::{Machine, Program, Turn};
+use reference::slow::placement::{Barrier, placement};
 use std::collections::BTreeMap;
 
 const CASES: u64 = 2000;
@@ -106,4 +108,43 @@ fn a_full_list_and_its_64th_entry() {
         }
     });
     assert!(full > 0 && committed > 0, "{full} full lists, {committed} commits of a 64th entry");
+}
+
+/// Where a lane has a LOCK with SL before it, which level 2 does not write, and SKIPs about it.
+fn drains(kernel: &Kernel, lane: usize) -> Vec<&'static str> {
+    let standing = placement(kernel, lane);
+    let operation = |position: usize| kernel.at(lane, position).operation;
+    let drains = |position: &usize| operation(*position) == LOCK && standing[*position].contains(&Barrier::SL);
+    let locks: Vec<usize> = (0..kernel.length(lane)).filter(drains).collect();
+    let volatile = |position: &usize| kernel.volatile(kernel.at(lane, *position).b);
+    let orders =
+        |position: &usize| operation(*position) == UNLOCK || operation(*position) == STORE && volatile(position);
+    let behind = locks.iter().map(|lock| match (0..*lock).rev().find(orders).map(operation) {
+        Some(UNLOCK) => "behind an UNLOCK",
+        _ => "behind a volatile store",
+    });
+    let loads = (0..kernel.length(lane)).filter(|at| operation(*at) == LOAD && volatile(at));
+    let covered = |load: &usize| !standing[*load].contains(&Barrier::SL) && locks.iter().any(|lock| lock < load);
+    let covered = loads.filter(covered).map(|_| "before a volatile load without MFENCE");
+    let skips = (0..kernel.length(lane)).filter(|at| operation(*at) == SKIP).flat_map(|from| {
+        let to = kernel.place(lane, kernel.at(lane, from).target);
+        let lands = locks.contains(&to).then_some("SKIP to it");
+        let over = locks.iter().any(|lock| from < *lock && *lock < to).then_some("SKIP over it");
+        let after = locks.iter().any(|lock| *lock < from).then_some("SKIP behind it");
+        [lands, over, after].into_iter().flatten()
+    });
+    behind.chain(covered).chain(skips).collect()
+}
+
+#[test]
+fn locks_without_their_mfence() {
+    let mut met: BTreeMap<&str, usize> = BTreeMap::new();
+    for_each_case(&Cases::new(1), |case| {
+        let Ok(kernel) = check(&case.file) else { return };
+        for kind in (0..kernel.header.lanes).flat_map(|lane| drains(&kernel, lane)) {
+            *met.entry(kind).or_default() += 1;
+        }
+    });
+    let rare: Vec<_> = met.iter().filter(|(_, count)| **count < 100).collect();
+    assert!(met.len() == 6 && rare.is_empty(), "{met:?}");
 }

@@ -2,3 +2,4 @@
 pub mod Known
 pub mod Plan
 pub mod Read
+pub mod Sets

@@ -1,15 +1,15 @@
 -- A lane's plan as the code holds it: a number for each position of the chain and one for its end. Its four lowest bits
--- are the set of the barriers that stand there; nine bits more are where the position begins at level 1, and eight more
--- where it begins at level 2.
+-- are the set of the barriers that stand there, and the fifth says whether the operation there drains; eight bits more
+-- are where the position begins at level 1, and eight more where it begins at level 2.
 use Prim.Native.Nat.{ℕ, suc, _+_, _*_, _/_, _%_, _<_}
 use mathlib.Core.Path.{_≡_, refl}
-use mathlib.Core.Bool.{Bool, _&&_}
+use mathlib.Core.Bool.{Bool, false, not, _&&_}
 use mathlib.Core.List.{List, [], _∷_, map}
 use lib.Dec.{eqb}
 use lib.ListN.{length, getD}
 use mir.Val.{boolByte}
 use Rattle.file_format.specs.declared.accepted.Op.{Op}
-use Rattle.file_format.specs.declared.accepted.Op.the-variants.{Load, Store}
+use Rattle.file_format.specs.declared.accepted.Op.the-variants.{Load, Store, Lock}
 use Rattle.barrier_placement.specs.declared.cookbook.Barrier.{Barrier}
 use Rattle.barrier_placement.specs.declared.cookbook.Barrier.the-variants.{LL, LS, SS, SL}
 use Rattle.barrier_placement.specs.Layout.{start}
@@ -18,15 +18,29 @@ use Rattle.barrier_placement.specs.Placed.{bit, bitOf}
 use Rattle.barrier_placement.specs.Steps.{steps}
 use Rattle.sheet_format.specs.declared.Level.{Level}
 use Rattle.sheet_format.specs.declared.Level.the-variants.{Level0, Level1, Level2}
-use Rattle.sheet_format.specs.Levels.{keeps, placed}
+use Rattle.sheet_format.specs.Levels.{drains, placed}
+use Rattle.sheet_format.specs.Items.{operationAt}
 
 -- the set of the barriers that a test picks
 abbrev pub setBy : (Barrier → Bool) → ℕ
 setBy f = boolByte (f LL) + 2 * boolByte (f LS) + 4 * boolByte (f SS) + 8 * boolByte (f SL)
 
+-- a set of barriers before an operation as the plan has it: with bit 4 where the operation drains
+abbrev pub planSet : Op → ℕ → ℕ
+planSet o x = x + 16 * boolByte (drains o)
+
+-- the barriers of such a set at a level; level 2 has SL alone, and where bit 4 is not set
+abbrev pub keptIn : Level → ℕ → Barrier → Bool
+keptIn Level0 x b = false
+keptIn Level1 x b = bit x (bitOf b)
+keptIn Level2 x LL = false
+keptIn Level2 x LS = false
+keptIn Level2 x SS = false
+keptIn Level2 x SL = not (bit x 4) && bit x 3
+
 -- a count of instructions at level 1, and one at level 2
 abbrev pub atLevels : ℕ → ℕ → ℕ
-atLevels first second = 16 * first + 8192 * second
+atLevels first second = 32 * first + 8192 * second
 
 -- where position p of a lane begins
 abbrev pub beginNumber : (ℕ → Bool) → List Op → ℕ → ℕ
@@ -34,24 +48,35 @@ beginNumber vol ops p = atLevels (start (placed Level1 vol ops) p) (start (place
 
 -- what its plan has of position p
 abbrev pub planNumber : (ℕ → Bool) → List Op → ℕ → ℕ
-planNumber vol ops p = setBy (λ b. stands (steps vol ops) b p) + beginNumber vol ops p
+planNumber vol ops p =
+    planSet (operationAt ops p) (setBy (λ b. stands (steps vol ops) b p)) + beginNumber vol ops p
 
 -- where position p begins at a level, of its number; level 0 has no barriers
 abbrev pub beginIn : Level → ℕ → ℕ → ℕ
 beginIn Level0 x p = p
-beginIn Level1 x p = x / 16 % 512
+beginIn Level1 x p = x / 32 % 256
 beginIn Level2 x p = x / 8192 % 256
 
--- how many instructions an operation makes at a level, with the barriers of this set that the level keeps before it
-abbrev pub widthAt : Level → Op → ℕ → ℕ
-widthAt l o x = suc (length (chosen (λ b. keeps l o b && bit x (bitOf b))))
+-- how many instructions an operation makes at a level behind the barriers of this set
+abbrev pub widthAt : Level → ℕ → ℕ
+widthAt l x = suc (length (chosen (keptIn l x)))
 
 -- a table of them, by the set
 pub record Widths (w : List ℕ) : Type 0 where
-  pub each : (o : Op) (x : ℕ) → x < 16 → getD w x 0 ≡ atLevels (widthAt Level1 o x) (widthAt Level2 o x)
+  pub each : (x : ℕ) → x < 32 → getD w x 0 ≡ atLevels (widthAt Level1 x) (widthAt Level2 x)
+
+-- location 1 is volatile
+abbrev vol : ℕ → Bool
+vol x = eqb x 1
 
 -- VL, PL, VS, VL: LL before the second, LS before the third, SL before the last; level 2 keeps SL alone
-example : map (planNumber (λ x. eqb x 1) (Load 0 1 ∷ Load 0 0 ∷ Store 0 1 ∷ Load 0 1 ∷ [])) (0 ∷ 1 ∷ 2 ∷ 3 ∷ 4 ∷ [])
+example : map (planNumber vol (Load 0 1 ∷ Load 0 0 ∷ Store 0 1 ∷ Load 0 1 ∷ [])) (0 ∷ 1 ∷ 2 ∷ 3 ∷ 4 ∷ [])
     ≡ (0 + atLevels 0 0) ∷ (1 + atLevels 1 1) ∷ (2 + atLevels 3 2) ∷ (8 + atLevels 5 3) ∷ (0 + atLevels 7 5) ∷ []
 unfolding stands due dueAfter
 example = refl
+
+-- VS, LOCK, VL: SL before the LOCK, which level 2 leaves out, and LL before the last
+left-out : map (planNumber vol (Store 0 1 ∷ Lock 0 ∷ Load 0 1 ∷ [])) (0 ∷ 1 ∷ 2 ∷ 3 ∷ [])
+    ≡ (0 + atLevels 0 0) ∷ (24 + atLevels 1 1) ∷ (1 + atLevels 3 2) ∷ (0 + atLevels 5 3) ∷ []
+unfolding stands due dueAfter
+left-out = refl

@@ -1,6 +1,7 @@
 // The placement: one pass over a lane's rows that carries what is due, for each later class a set of barriers, and
 // writes the lane's plan, for each position a set of barriers and where it begins at each level.
 // A set of barriers is a number below 16: bit 0 is LL, 1 LS, 2 SS and 3 SL. What is due is four such numbers in one.
+// The plan's set has bit 4 besides, where the operation drains, as LOCK does.
 use crate::steps::known_of;
 use crate::steps::landing_of;
 use sheet_rows::read::whole_row;
@@ -8,7 +9,7 @@ ghost use mathlib.Core.Path.{_≡_};
 ghost use mathlib.Core.Bool.{not, _&&_, _||_};
 ghost use mathlib.Core.List.{List};
 ghost use Prim.Native.Nat.{ℕ, _+_, _*_, _<_, _≤_, _^_};
-ghost use lib.ListN.{length, set, getD};
+ghost use lib.ListN.{length, set as update, getD};
 ghost use Rattle.file_format.specs.Accepted.{isVolatile};
 ghost use Rattle.file_format.specs.declared.accepted.Op.{Op};
 ghost use Rattle.barrier_placement.specs.declared.cookbook.Barrier.{Barrier};
@@ -16,12 +17,15 @@ ghost use Rattle.barrier_placement.specs.declared.cookbook.Class.{Class};
 ghost use Rattle.barrier_placement.specs.declared.steps.Step.{Step};
 ghost use Rattle.barrier_placement.specs.Place.{standsAt, raises as raisesFor};
 ghost use Rattle.barrier_placement.specs.Placed.{bit, bitOf, dueIn};
-ghost use Rattle.sheet_rows.specs.Lanes.{Holds};
+ghost use Rattle.sheet_rows.specs.Lanes.{fieldsOf, Holds};
 ghost use Rattle.barrier_pass.specs.Known.{knownOf, knownTable};
-ghost use Rattle.barrier_pass.specs.Plan.{planNumber, Widths};
+ghost use Rattle.barrier_pass.specs.Plan.{planSet, planNumber, Widths};
 
 // Times this, a set of barriers stands in the place of each class.
 const IN_EACH_CLASS: u16 = 0x1111;
+
+// The operation code of LOCK.
+const LOCK: u8 = 5;
 
 // The barriers that stand before a step of which x is known, given what is due there.
 fn stands_at(x: u32, due: u16) -> u16
@@ -54,21 +58,29 @@ fn after(stood: u16, due: u16, new: u16) -> u16
     (due ^ met) | new
 }
 
-// Writes position p of the plan, which begins at `at`; where the next position begins.
-fn plan_step(widths: &[u32; 16], plan: &mut [u32], p: usize, at: u32, stood: u16) -> u32
-    requires { ⌜ Widths (now widths) × (p < length (now plan)) × (at ≤ 16464 * p) × (p < 64) × (stood < 16) ⌝ }
-    ensures plan { λ r. ⌜ now (plan .exit) ≡ set (now (plan .entry)) p (at + stood) ⌝ }
-    ensures next { λ r. ⌜ (r ≡ at + getD (now (widths .entry)) stood 0) × (r ≤ 16464 * (p + 1)) ⌝ }
+// The set that the plan has for the operation with this code.
+fn plan_set(code: u8, stood: u16) -> u32
+    requires { ⌜ stood < 16 ⌝ }
+    ensures { λ r. ⌜ ((o : Op) → code ≡ fieldsOf o .code → r ≡ planSet o stood) × (r < 32) ⌝ }
 {
-    plan[p] = at + (stood as u32);
-    at + widths[stood as usize]
+    (stood as u32) + 16 * ((code == LOCK) as u32)
+}
+
+// Writes position p of the plan, which begins at `at`; where the next position begins.
+fn plan_step(widths: &[u32; 32], plan: &mut [u32], p: usize, at: u32, set: u32) -> u32
+    requires { ⌜ Widths (now widths) × (p < length (now plan)) × (at ≤ 16544 * p) × (p < 64) × (set < 32) ⌝ }
+    ensures plan { λ r. ⌜ now (plan .exit) ≡ update (now (plan .entry)) p (at + set) ⌝ }
+    ensures next { λ r. ⌜ (r ≡ at + getD (now (widths .entry)) set 0) × (r ≤ 16544 * (p + 1)) ⌝ }
+{
+    plan[p] = at + set;
+    at + widths[set as usize]
 }
 
 // Writes the plan of the lane whose n rows are given; the number that it has of the lane's end.
 // A SKIP brings what is due to its target; a jump back brings nothing to the positions ahead.
 pub fn place_lane(
     known: &[u32; 16],
-    widths: &[u32; 16],
+    widths: &[u32; 32],
     rows: &[u8],
     n: usize,
     mask: u16,
@@ -92,7 +104,7 @@ pub fn place_lane(
         let x = known_of(known, row.code, row.b, mask);
         let here = due | brought[p];
         let stood = stands_at(x, here);
-        at = plan_step(widths, plan, p, at, stood);
+        at = plan_step(widths, plan, p, at, plan_set(row.code, stood));
         due = after(stood, here, raises(x));
         let t = landing_of(row.code, row.word);
         if p < t {

@@ -56,27 +56,43 @@ pub fn known_table() -> [u32; 16]
     ]
 }
 
-// By the set of the barriers that stand before an operation: 16 times the instructions that it makes with them at level
-// 1, and 8,192 times those at level 2.
-pub fn width_table() -> [u32; 16]
+// By a plan's set of barriers: 32 times the instructions that an operation makes behind it at level 1, and 8,192 times
+// those at level 2.
+pub fn width_table() -> [u32; 32]
     ensures { λ r. ⌜ Widths r ⌝ }
 {
     [
-        0x2010,
         0x2020,
-        0x2020,
-        0x2030,
-        0x2020,
-        0x2030,
-        0x2030,
         0x2040,
-        0x4020,
-        0x4030,
-        0x4030,
+        0x2040,
+        0x2060,
+        0x2040,
+        0x2060,
+        0x2060,
+        0x2080,
         0x4040,
-        0x4030,
-        0x4040,
-        0x4040,
-        0x4050,
+        0x4060,
+        0x4060,
+        0x4080,
+        0x4060,
+        0x4080,
+        0x4080,
+        0x40a0,
+        0x2020,
+        0x2040,
+        0x2040,
+        0x2060,
+        0x2040,
+        0x2060,
+        0x2060,
+        0x2080,
+        0x2040,
+        0x2060,
+        0x2060,
+        0x2080,
+        0x2060,
+        0x2080,
+        0x2080,
+        0x20a0,
     ]
 }

@@ -1,14 +1,15 @@
 -- Demand 2 on the placed lane itself: on every path from one access to another whose cell is b there is a b between
--- them, and each b is the only one on some such path. place is any placement that has the paper's sentence; keeps says
--- which barriers a level writes, and before which operation.
-use Prim.Native.Nat.{ℕ, _+_, _<_}
+-- them, or an operation before which one is left out, and each b is the only one on some such path, those left out
+-- counted too. place is any placement that has the paper's sentence; keeps says which barriers a level writes, and
+-- before which operation.
+use Prim.Native.Nat.{ℕ, suc, _+_, _<_}
 use native.Mathlib.Nat.{le-refl, le-of-lt}
 use native.Mathlib.Omega.{arith}
 use mathlib.Core.Path.{_≡_, refl, sym, _∙_, ap, ap₂, subst}
-use mathlib.Core.Bool.{Bool, true, _&&_}
+use mathlib.Core.Bool.{Bool, true, false, _&&_, true≢false}
 use mathlib.Core.List.{List, map}
 use mathlib.Core.Option.{some}
-use mathlib.Core.Logic.{_⊎_, inl, inr}
+use mathlib.Core.Logic.{inl, inr}
 use lib.ListN.{length, getD}
 use Rattle.laws.proofs.Bools.{and-true, both-true}
 use Rattle.barrier_placement.specs.Cookbook.{Class, Barrier, LL, cell}
@@ -16,10 +17,11 @@ use Rattle.barrier_placement.specs.Chain.{Step, Chain, Access, at, Next,
 use Rattle.barrier_placement.specs.Sentence.{Along, Pair, Sentence}
 use Rattle.barrier_placement.specs.Layout.{Placed, operations, barriersAt, start, opAt}
 use Rattle.barrier_placement.specs.Sheet.{Item, bar, op, item, NextItem, aim, itemsOf}
-use Rattle.barrier_placement.specs.Sheet.{written, ItemPair, Alone, Meets}
+use Rattle.barrier_placement.specs.Sheet.{written, ItemPair, Alone, LeftOut, Meets}
 use Rattle.barrier_placement.proofs.Laws.Chosen.{Holds, Once, chosen-has, chosen-only, chosen-once}
 use Rattle.barrier_placement.proofs.Laws.Place.{access-inside}
-use Rattle.barrier_placement.proofs.Laws.Layout.{inside-chain, locate}
+use Rattle.barrier_placement.proofs.Laws.Layout.{start-suc, place-once, place-within, inside-chain}
+use Rattle.barrier_placement.proofs.Laws.Layout.{locate}
 use Rattle.barrier_placement.proofs.Laws.Items.{chain-length, item-bar, item-op, access-at, bar-at, inside-lane}
 use Rattle.barrier_placement.proofs.Laws.Traces.{OnWay, Trace, trace, Followed, follow, pass}
 use Rattle.barrier_placement.proofs.Covered.{covered}
@@ -79,9 +81,9 @@ module _ {A : Type 0} (step : A → Step) (ps : List (Placed A)) (place : Barrie
       pair = record { first = c; second = d; earlier = e; later = end .1; calls = calls }
 
       go : (k : ℕ) × Along (r .path) k × (place b k ≡ true) → Meets step ps place keeps b π
-      go f = (f .0, f .2, passes (f .1), written-there)
+      go f = by (keeps b (f .0)) refl
         where
-          passes : Along (r .path) (f .0) → Between π (opAt ps (f .0)) ⊎ (opAt ps (f .0) ≡ m)
+          passes : Along (r .path) (f .0) → Along π (opAt ps (f .0))
           passes (inl w) = inl (r .passed (f .0) w (length (pre (f .0))) (le-refl (length (pre (f .0)))))
           passes (inr w) =
               inr (ap (opAt ps) w ∙ ap (λ (x : ℕ). start ps (r .reached) + x) (sym (end .0)) ∙ sym (r .place))
@@ -101,6 +103,10 @@ module _ {A : Type 0} (step : A → Step) (ps : List (Placed A)) (place : Barrie
                 item-bar step ps (f .0) (c .0) (c .1) ∙ ap bar (c .2),
               )
 
+          by : (v : Bool) → keeps b (f .0) ≡ v → Meets step ps place keeps b π
+          by true e = inl (written-there e)
+          by false e = inr (opAt ps (f .0), passes (f .1), (f .0, refl, f .2, e))
+
   pub items-meet : (b : Barrier) (m m′ : ℕ) (π : Path (NextItem t) m m′) → ItemPair t b m m′
       → Meets step ps place keeps b π
   items-meet b m m′ π p =
@@ -109,11 +115,6 @@ module _ {A : Type 0} (step : A → Step) (ps : List (Placed A)) (place : Barrie
       subst (λ (x : ℕ). (π′ : Path (NextItem t) x m′) → Meets step ps place keeps b π′)
       (sym (a .4 ∙ ap (λ (x : ℕ). start ps (a .0) + x) (e .0)))
       (λ π′. meets-from b (a .0) m′ π′ (p .first) (p .second) (a .2) (e .1) (p .later) (p .calls)) π
-
-  -- a barrier that the level writes wherever it stands covers each path
-  pub items-covered : (b : Barrier) → ((k : ℕ) → keeps b k ≡ true) → (m m′ : ℕ) (π : Path (NextItem t) m m′)
-      → ItemPair t b m m′ → (x : ℕ) × Between π x × (item t x ≡ bar b)
-  items-covered b all m m′ π p = let f = items-meet b m m′ π p in f .3 (all (f .0))
 
   bar-inside : (b : Barrier) (m : ℕ) → item t m ≡ bar b → m < length t
   bar-inside b m h = inside-lane step ps m (λ e. let z : _≡_ {A = ℕ} 0 1 = cc in omega arith)
@@ -133,9 +134,9 @@ module _ {A : Type 0} (step : A → Step) (ps : List (Placed A)) (place : Barrie
       (f .0, written-so b (f .0) (f .1) (f .2) (f .3) (f .4) .0)
 
   -- and it cannot be dropped
-  pub items-alone : (b : Barrier) (m : ℕ) → item t m ≡ bar b → Alone t b m
-  items-alone b m h =
-      go (alone s b (place b) (sentence b) k (written-so b k o (found .2) (found .3) (found .4) .1))
+  pub items-alone : (b : Barrier) (m : ℕ) → item t m ≡ bar b
+      → (a : Alone t b m) × ((x : ℕ) → Along (a .path) x → LeftOut ps place keeps b x → ⊥)
+  items-alone b m h = go (alone s b (place b) (sentence b) k (there .1))
     where
       found : (k : ℕ) × (o : ℕ) × (k < length ps) × (o < length (pre k)) × (getD (pre k) o LL ≡ b)
           × (m ≡ start ps k + o)
@@ -147,22 +148,28 @@ module _ {A : Type 0} (step : A → Step) (ps : List (Placed A)) (place : Barrie
       o : ℕ
       o = found .1
 
+      there : (keeps b k ≡ true) × (place b k ≡ true)
+      there = written-so b k o (found .2) (found .3) (found .4)
+
       go : (i : ℕ) × (ρ : Path (Next s) i k) × Pair s b i k × ((k′ : ℕ) → Along ρ k′ → place b k′ ≡ true → k′ ≡ k)
-          → Alone t b m
-      go a = record {
-        from = opAt ps (a .0);
-        to = opAt ps k;
-        pair = record {
-          first = a .2 .first;
-          second = a .2 .second;
-          earlier = access-item (a .0) (a .2 .first) (a .2 .earlier);
-          later = access-item k (a .2 .second) (a .2 .later);
-          calls = a .2 .calls;
-        };
-        path = f .path;
-        on = subst (λ (x : ℕ). Between (f .path) x) (sym (found .5)) (f .here o (found .3));
-        only = λ x w e. once x e (f .along x w);
-      }
+          → (a : Alone t b m) × ((x : ℕ) → Along (a .path) x → LeftOut ps place keeps b x → ⊥)
+      go a = (
+        record {
+          from = opAt ps (a .0);
+          to = opAt ps k;
+          pair = record {
+            first = a .2 .first;
+            second = a .2 .second;
+            earlier = access-item (a .0) (a .2 .first) (a .2 .earlier);
+            later = access-item k (a .2 .second) (a .2 .later);
+            calls = a .2 .calls;
+          };
+          path = f .path;
+          on = subst (λ (x : ℕ). Between (f .path) x) (sym (found .5)) (f .here o (found .3));
+          only = λ x w e. once x e (f .along x w);
+        },
+        none-left,
+      )
         where
           f : Followed step ps (a .1) (length (pre k)) (opAt ps k)
           f = pass step ps (a .1) (follow step ps (a .1) (start ps k) refl)
@@ -179,3 +186,23 @@ module _ {A : Type 0} (step : A → Step) (ps : List (Placed A)) (place : Barrie
               subst Once (sym (stand k (found .2))) (chosen-once (λ y. keeps y k && place y k))
               (g .1) o l (found .3) (w ∙ sym (found .4)) in
               g .4 ∙ ap₂ (λ (y z : ℕ). start ps y + z) q u ∙ sym (found .5)
+
+          -- an operation on the way before which b is placed is the one behind m, and there it is kept
+          none-left : (x : ℕ) → Along (f .path) x → LeftOut ps place keeps b x → ⊥
+          none-left x w g = true≢false (sym (there .0) ∙ ap (keeps b) (sym (same w)) ∙ g .3)
+            where
+              inside : g .0 < length ps
+              inside = placed-inside b (g .0) (g .2)
+
+              same : Along (f .path) x → g .0 ≡ k
+              same (inr e) =
+                  place-once ps (g .0) k (length (pre (g .0))) (length (pre k)) inside (found .2)
+                  (le-refl (length (pre (g .0)))) (le-refl (length (pre k))) (sym (g .1) ∙ e)
+              same (inl w) =
+                  let y = f .along x w in
+                  let next = start-suc ps (g .0) inside in
+                  let within = place-within bar put ps (suc (g .0)) 0 (omega arith) in
+                  let k<n = inside-chain bar put ps (y .0) (y .1) (omega (arith, y .4, g .1, next, within)) in
+                  let q = place-once ps (y .0) (g .0) (y .1) (length (pre (g .0))) k<n inside (y .3)
+                  (le-refl (length (pre (g .0)))) (sym (y .4) ∙ g .1) in
+                  a .3 (g .0) (subst (Along (a .1)) q (y .2)) (g .2)

@@ -1,7 +1,7 @@
 -- A placed lane as placement sees it: barriers and steps, each SKIP aimed at its target's first barrier.
 use Prim.Native.Nat.{ℕ, suc, _<_}
 use mathlib.Core.Path.{_≡_, refl}
-use mathlib.Core.Bool.{Bool, true, _&&_}
+use mathlib.Core.Bool.{Bool, true, false, _&&_}
 use mathlib.Core.List.{List, [], _∷_}
 use mathlib.Core.Option.{some}
 use mathlib.Core.Logic.{_⊎_, inl, inr}
@@ -9,6 +9,7 @@ use native.Mathlib.Omega.{arith}
 use lib.ListN.{length, getD}
 use Rattle.barrier_placement.specs.Cookbook.{Class, VL, VS, Barrier, LS, SS, SL, cell}
 use Rattle.barrier_placement.specs.Chain.{Step, Access, Skip, Other, Path, edge, more, Between}
+use Rattle.barrier_placement.specs.Sentence.{Along}
 use Rattle.barrier_placement.specs.Place.{chosen}
 use Rattle.barrier_placement.specs.Layout.{Placed, start, opAt, layout}
 
@@ -78,10 +79,13 @@ needed-holds = record {
     last (inl never) = absurd never
     last (inr e) = e
 
--- a path of the lane meets b before an operation, which it passes or ends at; b is written there unless the level
--- leaves it out
+-- x is the position of an operation before which place has a b that the level leaves out
+abbrev pub LeftOut : {A : Type 0} (ps : List (Placed A)) (place keeps : Barrier → ℕ → Bool) (b : Barrier) → ℕ → Type 0
+LeftOut ps place keeps b x = (k : ℕ) × (x ≡ opAt ps k) × (place b k ≡ true) × (keeps b k ≡ false)
+
+-- a b stands on the path, or an operation before which one is left out, the path's end counted
 abbrev pub Meets : {A : Type 0} (step : A → Step) (ps : List (Placed A)) (place keeps : Barrier → ℕ → Bool)
     (b : Barrier) {m m′ : ℕ} → Path (NextItem (itemsOf step ps)) m m′ → Type 0
-Meets step ps place keeps b {m′ = m′} π =
-    (k : ℕ) × (place b k ≡ true) × (Between π (opAt ps k) ⊎ (opAt ps k ≡ m′))
-    × (keeps b k ≡ true → (x : ℕ) × Between π x × (item (itemsOf step ps) x ≡ bar b))
+Meets step ps place keeps b π =
+    ((x : ℕ) × Between π x × (item (itemsOf step ps) x ≡ bar b))
+    ⊎ ((x : ℕ) × Along π x × LeftOut ps place keeps b x)

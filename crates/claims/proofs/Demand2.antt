@@ -1,11 +1,11 @@
 -- Demand 2 of every accepted kernel file, at each level: its barriers, where they stand, and its codes; and that the
 -- sheet is whole, each byte of it below 256, and that each record belongs to one lane.
 use mathlib.Core.Path.{_≡_, refl, ap, _∙_, sym, subst}
-use mathlib.Core.Bool.{true, false, _&&_, true≢false}
+use mathlib.Core.Bool.{false, _&&_, true≢false}
 use mathlib.Core.List.{List, [], _∷_, _++_, map}
+use mathlib.Core.Logic.{_⊎_, inl, inr}
 use mathlib.Core.Option.{some}
 use Prim.Native.Nat.{ℕ, _<_}
-use native.Mathlib.Omega.{arith}
 use lib.ListN.{length, getD, getElem?, drop, List·getD-map, List·getD-append}
 use Rattle.file_format.specs.declared.accepted.Op.{Op}
 use Rattle.file_format.specs.Accepted.{Program}
@@ -17,12 +17,12 @@ use Rattle.barrier_placement.specs.declared.cookbook.Barrier.{Barrier}
 use Rattle.barrier_placement.specs.Chain.{Chain, Path, Between}
 use Rattle.barrier_placement.specs.Steps.{stepOf, steps}
 use Rattle.barrier_placement.specs.Place.{stands, chosen}
-use Rattle.barrier_placement.specs.Sentence.{Sentence}
+use Rattle.barrier_placement.specs.Sentence.{Along, Sentence}
 use Rattle.barrier_placement.proofs.Correct.{correct}
 use Rattle.barrier_placement.proofs.Unique.{unique}
 use Rattle.barrier_placement.specs.Layout.{Placed, operations, barriersAt, start}
 use Rattle.barrier_placement.specs.Sheet.{Item, bar, item, NextItem, itemsOf, ItemPair, Alone}
-use Rattle.barrier_placement.proofs.SheetCorrect.{items-covered, items-kept, items-alone}
+use Rattle.barrier_placement.proofs.SheetCorrect.{items-meet, items-kept, items-alone}
 use Rattle.sheet_format.specs.Layout.{Instr, op, barrier, aim, cells, sheet, has}
 use Rattle.sheet_format.specs.declared.Level.{Level}
 use Rattle.sheet_format.specs.Levels.{keeps, placed, placedLanes, sheetLanes, volatileIn}
@@ -37,17 +37,20 @@ use Rattle.sheet_format.proofs.Codes.{lawful-codes}
 use Rattle.sheet_format.proofs.Before.{chosen-ext, has-chosen, placed-before, lane-before}
 use Rattle.sheet_format.proofs.SmallBytes.{sheet-bytes-small}
 use Rattle.sheet_format.proofs.Laws.Written.{written-all}
-use Rattle.claims.specs.Claims.{Records, laneOf, laneItems, operationsIn, Demand2, kernelLane, chainOf, Placement}
-use Rattle.claims.specs.Claims.{lowered, Fitting}
+use Rattle.claims.specs.Claims.{Records, laneOf, laneItems, operationsIn, kernelLane, chainOf, LeftOut, Demand2}
+use Rattle.claims.specs.Claims.{Placement, lowered, Fitting}
 use Rattle.claims.proofs.KernelLanes.{forward, lane-placed}
+use Rattle.claims.proofs.LeftOut.{left-out, placed-left-out}
 
-abbrev Covered : Level → List Item → Type 0
-Covered l x =
-    (b : Barrier) → ((o : Op) → keeps l o b ≡ true) → (m n : ℕ) (π : Path (NextItem x) m n) → ItemPair x b m n
-    → (y : ℕ) × Between π y × (item x y ≡ bar b)
+abbrev Covered : Level → Program → List ℕ → ℕ → List Item → Type 0
+Covered l k bytes t x =
+    (b : Barrier) (m n : ℕ) (π : Path (NextItem x) m n) → ItemPair x b m n
+    → ((y : ℕ) × Between π y × (item x y ≡ bar b)) ⊎ ((y : ℕ) × Along π y × LeftOut l k bytes t b y)
 
-abbrev Needed : List Item → Type 0
-Needed x = (b : Barrier) (m : ℕ) → item x m ≡ bar b → Alone x b m
+abbrev Needed : Level → Program → List ℕ → ℕ → List Item → Type 0
+Needed l k bytes t x =
+    (b : Barrier) (m : ℕ) → item x m ≡ bar b
+    → (a : Alone x b m) × ((y : ℕ) → Along (a .path) y → LeftOut l k bytes t b y → ⊥)
 
 abbrev Absent : Level → List Item → Type 0
 Absent l x = (b : Barrier) → ((o : Op) → keeps l o b ≡ false) → (m : ℕ) → item x m ≡ bar b → ⊥
@@ -83,16 +86,19 @@ module _ (l : Level) (k : Program) (w : Lawful k) (bytes : List ℕ) (same : rea
     stand : (p : ℕ) → p < length ps → barriersAt ps p ≡ keptBefore l (volatileIn k) ops p
     stand p i = placed-before l (volatileIn k) ops p
 
-    lane-covered : Covered l (laneItems (volatileIn k) bytes t)
+    lane-covered : Covered l k bytes t (laneItems (volatileIn k) bytes t)
     lane-covered =
-        subst (Covered l) (sym lane-placed-so)
-        (λ b h. items-covered (stepOf (volatileIn k)) ps (stands chain) placed-sentence (keepsAt l ops) stand b
-        (λ p. h (operationAt ops p)))
+        subst (Covered l k bytes t) (sym lane-placed-so) (λ b m n π pair.
+        elim (items-meet (stepOf (volatileIn k)) ps (stands chain) placed-sentence (keepsAt l ops) stand b m n π pair) [
+          | inl y ↦ inl y
+          | inr y ↦ inr (y .0, y .1, left-out l k bytes t lane-read sentence b (y .0) (y .2))
+        ])
 
-    lane-needed : Needed (laneItems (volatileIn k) bytes t)
+    lane-needed : Needed l k bytes t (laneItems (volatileIn k) bytes t)
     lane-needed =
-        subst Needed (sym lane-placed-so)
-        (items-alone (stepOf (volatileIn k)) ps (stands chain) placed-sentence (keepsAt l ops) stand)
+        subst (Needed l k bytes t) (sym lane-placed-so) (λ b m e.
+        let a = items-alone (stepOf (volatileIn k)) ps (stands chain) placed-sentence (keepsAt l ops) stand b m e in
+        (a .0, λ y on out. a .1 y on (placed-left-out l k bytes t lane-read sentence b y out)))
 
     lane-absent : Absent l (laneItems (volatileIn k) bytes t)
     lane-absent =
@@ -110,7 +116,7 @@ module _ (l : Level) (k : Program) (w : Lawful k) (bytes : List ℕ) (same : rea
     lane-ordered p = lane-kept p ∙ chosen-ext (λ b. sym (lane-stands b p))
 
 sheet-demand2 : (l : Level) (k : Program) → Lawful k → (bytes : List ℕ) → readSheet bytes ≡ sheetLanes l k
-    → Demand2 l (volatileIn k) bytes
+    → Demand2 l k bytes
 sheet-demand2 l k w bytes same = record {
   covered = lane-covered l k w bytes same;
   needed = lane-needed l k w bytes same;
@@ -157,7 +163,7 @@ module _ (s : List ℕ) (k : Program) (e : verdict s ≡ accepted k) where
   lowered-back l buffer h =
       ap readSheet (lowered-bytes l buffer h) ∙ lawful-back l k (drop (length (sheetBytes l k)) buffer) w
 
-  pub demand2 : Fitting (λ l buffer. Demand2 l (volatileIn k) (lowered l s buffer)) k
+  pub demand2 : Fitting (λ l buffer. Demand2 l k (lowered l s buffer)) k
   demand2 l buffer h = sheet-demand2 l k w (lowered l s buffer) (lowered-back l buffer h)
 
   pub placement : Fitting (λ l buffer. Placement l k (lowered l s buffer)) k

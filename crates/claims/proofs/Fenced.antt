@@ -12,7 +12,7 @@ use Rattle.barrier_placement.specs.declared.cookbook.Barrier.the-variants.{LL, 
 use Rattle.file_format.specs.Accepted.{jump}
 use Rattle.barrier_placement.specs.Layout.{Placed, operations}
 use Rattle.sheet_format.specs.Layout.{Instr, op, sheet, has}
-use Rattle.sheet_format.specs.Levels.{keeps}
+use Rattle.sheet_format.specs.Levels.{drains, keeps}
 use Rattle.machine_spec.specs.declared.Machine.the-variants.{Target}
 use Rattle.machine_spec.specs.declared.Model.{Model}
 use Rattle.machine_spec.specs.Run.{levelOf}
@@ -43,16 +43,6 @@ acquires vol (Store a x) = false
 acquires vol (Lock l) = false
 acquires vol (Unlock l) = false
 acquires vol (Skip a t) = false
-
--- LOCK: a target carries it out only with nothing pending
-abbrev pub drains : Op → Bool
-drains (Set a c) = false
-drains (Add a b) = false
-drains (Load a x) = false
-drains (Store a x) = false
-drains (Lock l) = true
-drains (Unlock l) = false
-drains (Skip a t) = false
 
 -- is the operation the earlier one of a pair that b parts
 abbrev pub opens : Barrier → (ℕ → Bool) → Op → Bool

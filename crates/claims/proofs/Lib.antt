@@ -29,6 +29,7 @@ pub mod BoundedTurns
 pub mod BoundedRuns
 -- accepted kernels
 pub mod KernelLanes
+pub mod LeftOut
 pub mod Demand2
 pub mod Demand3
 pub mod Theorem

@@ -1,6 +1,6 @@
 -- An operation that a target carries out agrees with what the source machine does at the same place of the chain.
 use mathlib.Core.Path.{_≡_, refl, ap}
-use mathlib.Core.Bool.{Bool, true, false, cond}
+use mathlib.Core.Bool.{Bool, true, false, not, cond}
 use mathlib.Core.List.{List}
 use mathlib.Core.Option.{Option, some}
 use Prim.Native.Nat.{ℕ, suc}
@@ -40,7 +40,7 @@ both-act true j j′ eb ed ev st = rw (eb, ed, ev) (act st)
 both-act false j j′ eb ed ev st = rw eb refuse
 
 keeps-SL : (m : Model) → KeptAt m SL
-keeps-SL Tso o flows = refl
+keeps-SL Tso o flows = ap not flows
 
 module _ {m : Model} {vol : ℕ → Bool} {ps : List (Placed Op)} (f : AllFenced m vol ps) {i k : Control} {c : Core}
     {s : Placed Op} (r : Reached m vol ps i k c s) where

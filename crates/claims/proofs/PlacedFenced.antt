@@ -5,7 +5,6 @@ use mathlib.Core.List.{List}
 use mathlib.Core.Logic.{inl, inr}
 use mathlib.Core.Option.{some}
 use Prim.Native.Nat.{ℕ, _<_}
-use native.Mathlib.Omega.{arith}
 use lib.ListN.{getElem?, length}
 use Rattle.laws.proofs.Lists.{some-at, getElem?-map, map-some}
 use Rattle.file_format.specs.declared.accepted.Op.{Op}
@@ -25,14 +24,14 @@ use Rattle.barrier_placement.proofs.Correct.{correct}
 use Rattle.barrier_placement.specs.Layout.{Placed, operations, beforeOf}
 use Rattle.sheet_format.specs.Layout.{has}
 use Rattle.sheet_format.specs.declared.Level.{Level}
-use Rattle.sheet_format.specs.Levels.{placed}
+use Rattle.sheet_format.specs.Levels.{drains, placed}
 use Rattle.sheet_format.specs.Items.{operationAt, keepsAt}
 use Rattle.sheet_format.proofs.PlacedLanes.{placed-operations}
 use Rattle.sheet_format.proofs.Before.{has-chosen, placed-before}
 use Rattle.machine_spec.specs.declared.Model.{Model}
 use Rattle.machine_spec.specs.declared.Machine.the-variants.{Target}
 use Rattle.machine_spec.specs.Run.{levelOf}
-use Rattle.claims.proofs.Fenced.{publishes, acquires, drains, opens, needs, Edge, falls, jumps}
+use Rattle.claims.proofs.Fenced.{publishes, acquires, opens, needs, Edge, falls, jumps}
 use Rattle.claims.proofs.Fenced.{Open, starts, goes-on, Fenced, AllFenced}
 
 -- ## the paper's sentence

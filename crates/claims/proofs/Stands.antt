@@ -17,7 +17,8 @@ use Rattle.machine_spec.specs.Entries.{Entry, isSync, isNil}
 use Rattle.machine_spec.specs.declared.Model.{Model}
 use Rattle.machine_spec.specs.Step.{Control, Core, goto}
 use Rattle.claims.specs.Direct.{appends}
-use Rattle.claims.proofs.Fenced.{publishes, drains, opens, needs, KeptAt, Edge, falls, jumps, Open, starts}
+use Rattle.sheet_format.specs.Levels.{drains}
+use Rattle.claims.proofs.Fenced.{publishes, opens, needs, KeptAt, Edge, falls, jumps, Open, starts}
 use Rattle.claims.proofs.Fenced.{goes-on, AllFenced}
 use Rattle.claims.proofs.Laws.Sheets.{next-begins}
 use Rattle.claims.proofs.Exposed.{exposed, exposed-nil, exposed-snoc}

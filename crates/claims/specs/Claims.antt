@@ -4,7 +4,7 @@
 use mathlib.Core.Path.{_≡_}
 use mathlib.Core.Bool.{Bool, true, false, _&&_}
 use mathlib.Core.List.{List, [], _∷_, map}
-use mathlib.Core.Logic.{_↔_}
+use mathlib.Core.Logic.{_⊎_, _↔_}
 use mathlib.Core.Option.{none, some}
 use Prim.Native.Nat.{ℕ, _≤_, _<_}
 use lib.ListN.{length, getD, getElem?}
@@ -15,11 +15,11 @@ use Rattle.file_verdict.specs.Verdict.{verdict}
 use Rattle.barrier_placement.specs.declared.cookbook.Barrier.{Barrier}
 use Rattle.barrier_placement.specs.Chain.{Chain, Path, Between}
 use Rattle.barrier_placement.specs.Steps.{steps}
-use Rattle.barrier_placement.specs.Sentence.{Sentence}
+use Rattle.barrier_placement.specs.Sentence.{Along, Sentence}
 use Rattle.barrier_placement.specs.Place.{chosen}
 use Rattle.barrier_placement.specs.Sheet.{Item, bar, item, NextItem, ItemPair, Alone}
 use Rattle.barrier_placement.specs.Layout.{start}
-use Rattle.sheet_format.specs.Layout.{Instr, op, barrier, aim}
+use Rattle.sheet_format.specs.Layout.{Instr, op, barrier, aim, rank}
 use Rattle.sheet_format.specs.declared.Level.{Level}
 use Rattle.sheet_format.specs.Levels.{keeps, placed, volatileIn}
 use Rattle.sheet_format.specs.Bytes.{sheetBytes, lowerBy}
@@ -57,7 +57,8 @@ pub record Records (s : List ℕ) (k : Program) : Type 0 where
 -- ## demand 2: the barriers of a written sheet
 
 -- Level: level 0, the operations alone, level 1, the barrier sheet, or level 2, the x86 sheet
--- keeps l o b: the level keeps a barrier b before the operation o; level 0 none, level 1 all, level 2 only SL
+-- keeps l o b: the level keeps a barrier b before the operation o; level 0 none, level 1 all, level 2 only SL, and that
+--   not before a LOCK
 -- volatileIn k x: the kernel's mask has location x volatile
 -- readSheet: the instructions of each lane, `op o` or `barrier b`, by the header's counts
 -- items: each instruction as a barrier `bar b`, the class of an access, or the target of a SKIP
@@ -76,26 +77,6 @@ operationsIn [] = []
 operationsIn (op o ∷ is) = o ∷ operationsIn is
 operationsIn (barrier b ∷ is) = operationsIn is
 
--- Path R m n: a way from position m to n in one or more steps R
--- NextItem x: one step in the lane x, register values ignored: to the next position, or from a SKIP to its target
--- Between π x: x stands on the path, strictly between its ends
--- ItemPair x b m n: at m and n of the lane x stand accesses whose cell in the cookbook's table is b
--- Alone x b m: on some path between two such accesses m is the only position with a b
-
--- of the bytes of a sheet at level l
-pub record Demand2 (l : Level) (vol : ℕ → Bool) (bytes : List ℕ) : Type 0 where
-  -- on every path from one access to another whose cell is b stands a b between them, where the level keeps b before
-  -- every operation
-  pub covered : (t : ℕ) (b : Barrier) → ((o : Op) → keeps l o b ≡ true) → (m n : ℕ)
-      (π : Path (NextItem (laneItems vol bytes t)) m n) → ItemPair (laneItems vol bytes t) b m n
-      → (x : ℕ) × Between π x × (item (laneItems vol bytes t) x ≡ bar b)
-  -- and each b that stands is the only one on some such path, so that none could be dropped
-  pub needed : (t : ℕ) (b : Barrier) (m : ℕ) → item (laneItems vol bytes t) m ≡ bar b
-      → Alone (laneItems vol bytes t) b m
-  -- a barrier that the level keeps before no operation stands nowhere
-  pub absent : (t : ℕ) (b : Barrier) → ((o : Op) → keeps l o b ≡ false) → (m : ℕ)
-      → item (laneItems vol bytes t) m ≡ bar b → ⊥
-
 -- lane t of the kernel, and as placement sees it: the class of each access, the target of each SKIP
 abbrev pub kernelLane : Program → ℕ → List Op
 kernelLane k t = getD (k .lanes) t []
@@ -105,6 +86,37 @@ chainOf k t = steps (volatileIn k) (kernelLane k t)
 
 -- Sentence s b B: the paper's sentence on placement, of a set B of positions of the chain s: j is in B exactly when
 --   some path leads from an access i, whose cell with j is b, to j, and none strictly between them on it is in B
+-- rank is x: how many operations stand before position x, that is, the place in the chain of the operation at x
+
+-- at position x of lane t stands an operation before which the sentence puts a b, and the level leaves it out there: at
+-- level 2 every LL, LS and SS, and SL before a LOCK, which drains by itself; at level 1 none
+pub record LeftOut (l : Level) (k : Program) (bytes : List ℕ) (t : ℕ) (b : Barrier) (x : ℕ) : Type 0 where
+  pub operation : Op
+  pub here : getElem? (laneOf bytes t) x ≡ some (op operation)
+  pub put : (B : ℕ → Bool) × Sentence (chainOf k t) b B × (B (rank (laneOf bytes t) x) ≡ true)
+  pub dropped : keeps l operation b ≡ false
+
+-- Path R m n: a way from position m to n in one or more steps R
+-- NextItem x: one step in the lane x, register values ignored: to the next position, or from a SKIP to its target
+-- Between π x: x stands on the path, strictly between its ends; Along π x: there or at its end
+-- ItemPair x b m n: at m and n of the lane x stand accesses whose cell in the cookbook's table is b
+-- Alone x b m: on `.path`, between two such accesses, m is the only position with a b
+
+-- of the bytes of a sheet at level l
+pub record Demand2 (l : Level) (k : Program) (bytes : List ℕ) : Type 0 where
+  -- on every path from one access to another whose cell is b stands a b between them, or an operation, the second
+  -- access counted, before which a b is left out
+  pub covered : (t : ℕ) (b : Barrier) (m n : ℕ) (π : Path (NextItem (laneItems (volatileIn k) bytes t)) m n)
+      → ItemPair (laneItems (volatileIn k) bytes t) b m n
+      → ((x : ℕ) × Between π x × (item (laneItems (volatileIn k) bytes t) x ≡ bar b))
+      ⊎ ((x : ℕ) × Along π x × LeftOut l k bytes t b x)
+  -- and each b that stands is the only one on some such path, those left out counted too, so that none could be dropped
+  pub needed : (t : ℕ) (b : Barrier) (m : ℕ) → item (laneItems (volatileIn k) bytes t) m ≡ bar b
+      → (a : Alone (laneItems (volatileIn k) bytes t) b m) × ((x : ℕ) → Along (a .path) x → LeftOut l k bytes t b x → ⊥)
+  -- a barrier that the level keeps before no operation stands nowhere
+  pub absent : (t : ℕ) (b : Barrier) → ((o : Op) → keeps l o b ≡ false) → (m : ℕ)
+      → item (laneItems (volatileIn k) bytes t) m ≡ bar b → ⊥
+
 -- operationAt os p: the p-th operation
 -- barriersBefore is p: the barriers that stand directly before the p-th operation of a lane as read from a sheet
 -- standsBefore b is p: b is one of them
@@ -216,7 +228,7 @@ Fitting P k = (l : Level) (buffer : List ℕ) → length (sheetBytes l k) ≤ le
 
 pub record Claims (s : List ℕ) (k : Program) : Type 0 where
   pub records : Records s k
-  pub demand2 : Fitting (λ l buffer. Demand2 l (volatileIn k) (lowered l s buffer)) k
+  pub demand2 : Fitting (λ l buffer. Demand2 l k (lowered l s buffer)) k
   pub placement : Fitting (λ l buffer. Placement l k (lowered l s buffer)) k
   -- every row has an operation code of its level
   pub codes : Fitting (λ l buffer. (t p c : ℕ) → getElem? (getD (codesIn (lowered l s buffer)) t []) p ≡ some c

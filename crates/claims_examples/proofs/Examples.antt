@@ -35,6 +35,7 @@ examples =
     refl ▸ refl ▸ refl ▸ refl ▸ never-on-tso ▸ never-on-source
     ▸ refl ▸ refl ▸ refl ▸ refl
     ▸ refl ▸ refl ▸ refl ▸ refl ▸ refl ▸ refl ▸ refl ▸ refl ▸ refl
+    ▸ refl ▸ refl ▸ refl ▸ refl ▸ refl
     ▸ refl ▸ refl ▸ refl ▸ refl ▸ refl ▸ refl ▸ refl ▸ refl ▸ refl
     ▸ refl ▸ refl ▸ refl ▸ refl ▸ refl
     ▸ end

@@ -1,3 +1,4 @@
--- The theorem on the table of examples, and the search that two of its rows need.
+-- The theorem on the table of examples, the search that two of its rows need, and what level 2 leaves out on one lane.
 pub mod Never
 pub mod Examples
+pub mod LeftOut

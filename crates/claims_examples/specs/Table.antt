@@ -1,5 +1,5 @@
--- The starred examples of paper 01 as one table over the bytes of kernel files, and behind them a kernel of four lanes
--- through every call. Its one theorem is proofs/Examples.
+-- The starred examples of paper 01 as one table over the bytes of kernel files, examples of paper 02, and behind them a
+-- kernel of four lanes through every call. Its one theorem is proofs/Examples.
 use Prim.Native.Nat.{ℕ, zero, suc, _+_, _-_, _/_}
 use mathlib.Core.Path.{_≡_}
 use mathlib.Core.Bool.{Bool, true, false, _&&_}
@@ -153,6 +153,16 @@ table =
     ∷ shows Level1 (lane (LOCK ∷ PS ∷ UNLOCK ∷ [])) (codes (5 ∷ 12 ∷ 4 ∷ 13 ∷ 6 ∷ []))
     -- LOCK, UNLOCK, LOCK, UNLOCK: nothing; LS; LL, SL; LS, SS
     ∷ shows Level1 (lane (LOCK ∷ UNLOCK ∷ LOCK ∷ UNLOCK ∷ [])) (codes (5 ∷ 12 ∷ 6 ∷ 11 ∷ 14 ∷ 5 ∷ 12 ∷ 13 ∷ 6 ∷ []))
+    -- of paper 02, job 1: no MFENCE before a LOCK
+    ∷ shows Level2 (lane (LOCK ∷ UNLOCK ∷ LOCK ∷ UNLOCK ∷ [])) (codes (5 ∷ 6 ∷ 5 ∷ 6 ∷ []))
+    -- VS, SKIP to D, VL, D: LOCK, UNLOCK. At level 2 the SKIP lands on D itself
+    ∷ shows Level1 (lane (VS ∷ skipTo 4 ∷ VL ∷ LOCK ∷ UNLOCK ∷ [])) (
+    (4, 0) ∷ (7, 4) ∷ codes (14 ∷ 3 ∷ 11 ∷ 14 ∷ 5 ∷ 12 ∷ 13 ∷ 6 ∷ [])
+    )
+    ∷ shows Level2 (lane (VS ∷ skipTo 4 ∷ VL ∷ LOCK ∷ UNLOCK ∷ [])) ((4, 0) ∷ (7, 4) ∷ codes (15 ∷ 3 ∷ 5 ∷ 6 ∷ []))
+    -- VS, LOCK, VL, UNLOCK: SL before the LOCK, at level 2 nothing before it nor before the load
+    ∷ shows Level1 (lane (VS ∷ LOCK ∷ VL ∷ UNLOCK ∷ [])) (codes (4 ∷ 14 ∷ 5 ∷ 11 ∷ 3 ∷ 12 ∷ 13 ∷ 6 ∷ []))
+    ∷ shows Level2 (lane (VS ∷ LOCK ∷ VL ∷ UNLOCK ∷ [])) (codes (4 ∷ 5 ∷ 3 ∷ 6 ∷ []))
     -- no records: 16-byte sheet
     ∷ fills Level1 (lane []) 16
     ∷ fills Level2 (lane []) 16

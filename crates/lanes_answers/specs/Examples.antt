@@ -21,14 +21,15 @@ use Rattle.machine_record.specs.Record.{headBytes, recordOf}
 use Rattle.lanes_answers.specs.Interface.{callLower1, callLower2, callRunSource, callRunTso}
 
 -- one lane, two locations of which location 1 is volatile, and one lock:
--- SET 2 to 258, STORE 2 to location 1, LOCK 0, UNLOCK 0
+-- SET 2 to 258, STORE 2 to location 1, LOCK 0, UNLOCK 0, LOAD 3 from location 1
 kernel : List ℕ
 kernel =
-    1 ∷ 2 ∷ 1 ∷ 0 ∷ 2 ∷ 0 ∷ 4 ∷ 0 ∷ 1 ∷ 0 ∷ 0 ∷ 0 ∷ 0 ∷ 0 ∷ 0 ∷ 0
+    1 ∷ 2 ∷ 1 ∷ 0 ∷ 2 ∷ 0 ∷ 5 ∷ 0 ∷ 1 ∷ 0 ∷ 0 ∷ 0 ∷ 0 ∷ 0 ∷ 0 ∷ 0
     ∷ 1 ∷ 2 ∷ 0 ∷ 0 ∷ 2 ∷ 1 ∷ 0 ∷ 0 ∷ 0 ∷ 0 ∷ 2 ∷ 0
     ∷ 4 ∷ 2 ∷ 1 ∷ 0 ∷ 0 ∷ 0 ∷ 0 ∷ 0 ∷ 0 ∷ 0 ∷ 3 ∷ 0
     ∷ 5 ∷ 0 ∷ 0 ∷ 0 ∷ 0 ∷ 0 ∷ 0 ∷ 0 ∷ 0 ∷ 0 ∷ 4 ∷ 0
-    ∷ 6 ∷ 0 ∷ 0 ∷ 0 ∷ 0 ∷ 0 ∷ 0 ∷ 0 ∷ 0 ∷ 0 ∷ 0 ∷ 0
+    ∷ 6 ∷ 0 ∷ 0 ∷ 0 ∷ 0 ∷ 0 ∷ 0 ∷ 0 ∷ 0 ∷ 0 ∷ 5 ∷ 0
+    ∷ 3 ∷ 3 ∷ 1 ∷ 0 ∷ 0 ∷ 0 ∷ 0 ∷ 0 ∷ 0 ∷ 0 ∷ 0 ∷ 0
     ∷ []
 
 -- an output buffer of n bytes, none of them zero
@@ -56,9 +57,21 @@ memory = 0 ∷ 0 ∷ 0 ∷ 0 ∷ 2 ∷ 1 ∷ 0 ∷ 0 ∷ replicate 56 0
 abbrev registers : List ℕ
 registers = replicate 8 0 ++ 2 ∷ 1 ∷ replicate 22 0
 
--- finished or not, lock 0 held by lane 0, 5 moves done and 1 waited
-abbrev counted : ℕ → List ℕ
-counted f = f ∷ 0 ∷ 0 ∷ 0 ∷ 1 ∷ 0 ∷ 0 ∷ 0 ∷ 5 ∷ replicate 7 0 ++ 1 ∷ replicate 7 0
+-- and register 3 has loaded it
+abbrev loaded : List ℕ
+loaded = replicate 8 0 ++ 2 ∷ 1 ∷ 0 ∷ 0 ∷ 2 ∷ 1 ∷ replicate 18 0
+
+-- finished or not, the word of lock 0, moves done and waited
+abbrev counted : ℕ → ℕ → ℕ → ℕ → List ℕ
+counted f l d w = f ∷ 0 ∷ 0 ∷ 0 ∷ l ∷ 0 ∷ 0 ∷ 0 ∷ d ∷ replicate 7 0 ++ w ∷ replicate 7 0
+
+-- SET, STORE, a LOCK that waits, the commit, LOCK, UNLOCK
+abbrev upToUnlock : List ℕ
+upToUnlock = 0 ∷ 0 ∷ 0 ∷ 0 ∷ 0 ∷ 0 ∷ 0 ∷ 1 ∷ 0 ∷ 0 ∷ 0 ∷ 0 ∷ []
+
+-- what it leaves: lane 0 holds its lock, and the release is pending
+abbrev releasing : List ℕ
+releasing = counted 0 1 5 1 ++ memory ++ laneRecord (4 ∷ 0 ∷ []) (1 ∷ 0 ∷ []) registers (2 ∷ replicate 7 0)
 
 -- at the start, with one move that waited
 abbrev oneWaited : List ℕ
@@ -66,20 +79,21 @@ oneWaited = replicate 16 0 ++ 1 ∷ replicate 2263 0
 
 calls : List (Called × Called)
 calls =
-    -- the kernel's sheets have 72 and 56 bytes
-    (called (callLower2 kernel (output 55)), record { answer = 9 * 2 ^ 32; after = output 55 })
-    ∷ (called (callLower1 kernel (output 71)), record { answer = 9 * 2 ^ 32; after = output 71 })
+    -- the kernel's sheets have 96 and 64 bytes
+    (called (callLower2 kernel (output 63)), record { answer = 9 * 2 ^ 32; after = output 63 })
+    ∷ (called (callLower1 kernel (output 95)), record { answer = 9 * 2 ^ 32; after = output 95 })
     ∷ (
-      called (callLower2 kernel (output 57)),
+      called (callLower2 kernel (output 65)),
       record {
-        answer = 56;
+        answer = 64;
         after =
-            1 ∷ 2 ∷ 1 ∷ 2 ∷ 0 ∷ 0 ∷ 0 ∷ 0 ∷ 5 ∷ 0 ∷ 0 ∷ 0 ∷ 0 ∷ 0 ∷ 0 ∷ 0
+            1 ∷ 2 ∷ 1 ∷ 2 ∷ 0 ∷ 0 ∷ 0 ∷ 0 ∷ 6 ∷ 0 ∷ 0 ∷ 0 ∷ 0 ∷ 0 ∷ 0 ∷ 0
             ∷ 1 ∷ 2 ∷ 0 ∷ 0 ∷ 2 ∷ 1 ∷ 0 ∷ 0
             ∷ 4 ∷ 2 ∷ 1 ∷ 0 ∷ 0 ∷ 0 ∷ 0 ∷ 0
-            ∷ 15 ∷ 0 ∷ 0 ∷ 0 ∷ 0 ∷ 0 ∷ 0 ∷ 0
             ∷ 5 ∷ 0 ∷ 0 ∷ 0 ∷ 0 ∷ 0 ∷ 0 ∷ 0
             ∷ 6 ∷ 0 ∷ 0 ∷ 0 ∷ 0 ∷ 0 ∷ 0 ∷ 0
+            ∷ 15 ∷ 0 ∷ 0 ∷ 0 ∷ 0 ∷ 0 ∷ 0 ∷ 0
+            ∷ 3 ∷ 3 ∷ 1 ∷ 0 ∷ 0 ∷ 0 ∷ 0 ∷ 0
             ∷ 255 ∷ [];
       },
     )
@@ -99,21 +113,23 @@ calls =
       called (callRunSource kernel (0 ∷ 0 ∷ 0 ∷ []) (output 2280)),
       record { answer = 10 * 2 ^ 32; after = output 2280 },
     )
-    -- SET, STORE, a LOCK that waits, the commit, LOCK, UNLOCK: its release is pending
+    -- both machines wait at the LOCK, before which no MFENCE stands
+    ∷ (called (callRunSource kernel upToUnlock (output 2281)), record { answer = 2280; after = releasing ++ 255 ∷ [] })
+    ∷ (called (callRunTso kernel upToUnlock (output 2281)), record { answer = 2280; after = releasing ++ 255 ∷ [] })
+    -- the commit, LOAD: finished
     ∷ (
-      called (callRunSource kernel (0 ∷ 0 ∷ 0 ∷ 0 ∷ 0 ∷ 0 ∷ 0 ∷ 1 ∷ 0 ∷ 0 ∷ 0 ∷ 0 ∷ []) (output 2281)),
+      called (callRunSource kernel (upToUnlock ++ 0 ∷ 1 ∷ 0 ∷ 0 ∷ []) (output 2280)),
       record {
         answer = 2280;
-        after =
-            counted 1 ++ memory ++ laneRecord (4 ∷ 0 ∷ []) (1 ∷ 0 ∷ []) registers (2 ∷ replicate 7 0) ++ 255 ∷ [];
+        after = counted 1 0 7 1 ++ memory ++ laneRecord (5 ∷ 0 ∷ []) (0 ∷ 0 ∷ []) loaded (replicate 8 0);
       },
     )
-    -- MFENCE waits instead, and is an instruction of its own
+    -- MFENCE, which waits, the commit, MFENCE, an instruction of its own, LOAD
     ∷ (
-      called (callRunTso kernel (0 ∷ 0 ∷ 0 ∷ 0 ∷ 0 ∷ 0 ∷ 0 ∷ 1 ∷ 0 ∷ 0 ∷ 0 ∷ 0 ∷ []) (output 2281)),
+      called (callRunTso kernel (upToUnlock ++ 0 ∷ 0 ∷ 0 ∷ 1 ∷ 0 ∷ 0 ∷ 0 ∷ 0 ∷ []) (output 2280)),
       record {
         answer = 2280;
-        after = counted 0 ++ memory ++ laneRecord (4 ∷ 0 ∷ []) (0 ∷ 0 ∷ []) registers (replicate 8 0) ++ 255 ∷ [];
+        after = counted 1 0 8 2 ++ memory ++ laneRecord (6 ∷ 0 ∷ []) (0 ∷ 0 ∷ []) loaded (replicate 8 0);
       },
     )
     -- a store that is pending: location 1, value 258

@@ -1,17 +1,17 @@
 -- Small lanes and their parts of both sheets, and the bytes of a small sheet at each level, by computation.
 use Prim.Native.Nat.{ℕ}
 use mathlib.Core.Path.{_≡_, refl}
-use mathlib.Core.Bool.{Bool}
+use mathlib.Core.Bool.{Bool, true, false}
 use mathlib.Core.List.{List, [], _∷_, map}
 use lib.Dec.{eqb}
 use Rattle.file_format.specs.declared.accepted.Op.{Op}
-use Rattle.file_format.specs.declared.accepted.Op.the-variants.{Set, Load, Store, Lock, Unlock, Skip}
+use Rattle.file_format.specs.declared.accepted.Op.the-variants.{Set, Add, Load, Store, Lock, Unlock, Skip}
 use Rattle.file_format.specs.Accepted.{Program}
 use Rattle.barrier_placement.specs.declared.cookbook.Barrier.the-variants.{LL, LS, SS, SL}
 use Rattle.barrier_placement.specs.Place.{stands, due, dueAfter}
 use Rattle.sheet_format.specs.Layout.{Instr, op, barrier, sheet}
 use Rattle.sheet_format.specs.declared.Level.the-variants.{Level0, Level1, Level2}
-use Rattle.sheet_format.specs.Levels.{placed, sheetLanes}
+use Rattle.sheet_format.specs.Levels.{drains, placed, sheetLanes}
 use Rattle.sheet_format.specs.declared.WriteResult.the-variants.{Wrote, Refuses}
 use Rattle.sheet_format.specs.Bytes.{sheetBytes, writeInto}
 use Rattle.sheet_format.specs.Read.{readSheet}
@@ -45,14 +45,53 @@ examples =
       second = op (Store 0 0) ∷ op (Store 0 1) ∷ [];
     })
     ∷
-    -- several before one operation stand in the order LL, LS, SS, SL
+    -- several before one operation stand in the order LL, LS, SS, SL; level 2 has none: the one SL is before a LOCK
     (record {
       lane = Lock 0 ∷ Unlock 0 ∷ Lock 0 ∷ Unlock 0 ∷ [];
       first =
           op (Lock 0) ∷ barrier LS ∷ op (Unlock 0)
           ∷ barrier LL ∷ barrier SL ∷ op (Lock 0)
           ∷ barrier LS ∷ barrier SS ∷ op (Unlock 0) ∷ [];
-      second = op (Lock 0) ∷ op (Unlock 0) ∷ barrier SL ∷ op (Lock 0) ∷ op (Unlock 0) ∷ [];
+      second = op (Lock 0) ∷ op (Unlock 0) ∷ op (Lock 0) ∷ op (Unlock 0) ∷ [];
+    })
+    ∷
+    -- SL before the LOCK parts the volatile store from the load as well: level 2 has nothing before either
+    (record {
+      lane = Store 0 1 ∷ Lock 0 ∷ Load 0 1 ∷ Unlock 0 ∷ [];
+      first =
+          op (Store 0 1) ∷ barrier SL ∷ op (Lock 0) ∷ barrier LL ∷ op (Load 0 1)
+          ∷ barrier LS ∷ barrier SS ∷ op (Unlock 0) ∷ [];
+      second = op (Store 0 1) ∷ op (Lock 0) ∷ op (Load 0 1) ∷ op (Unlock 0) ∷ [];
+    })
+    ∷
+    -- a volatile store and load behind the LOCK are parted as without it
+    (record {
+      lane = Lock 0 ∷ Store 0 1 ∷ Load 0 1 ∷ Unlock 0 ∷ [];
+      first =
+          op (Lock 0) ∷ barrier LS ∷ op (Store 0 1) ∷ barrier LL ∷ barrier SL ∷ op (Load 0 1)
+          ∷ barrier LS ∷ barrier SS ∷ op (Unlock 0) ∷ [];
+      second = op (Lock 0) ∷ op (Store 0 1) ∷ barrier SL ∷ op (Load 0 1) ∷ op (Unlock 0) ∷ [];
+    })
+    ∷
+    -- a SKIP to a LOCK lands on its first barrier, and at level 2 on the LOCK itself
+    (record {
+      lane = Store 0 1 ∷ Skip 0 3 ∷ Load 0 1 ∷ Lock 0 ∷ Unlock 0 ∷ [];
+      first =
+          op (Store 0 1) ∷ op (Skip 0 4) ∷ barrier SL ∷ op (Load 0 1)
+          ∷ barrier LL ∷ barrier SL ∷ op (Lock 0) ∷ barrier LS ∷ barrier SS ∷ op (Unlock 0) ∷ [];
+      second =
+          op (Store 0 1) ∷ op (Skip 0 4) ∷ barrier SL ∷ op (Load 0 1) ∷ op (Lock 0) ∷ op (Unlock 0) ∷ [];
+    })
+    ∷
+    -- positions behind a LOCK are counted without the barrier that level 2 leaves out
+    (record {
+      lane = Store 0 1 ∷ Lock 0 ∷ Unlock 0 ∷ Skip 0 5 ∷ Set 0 1 ∷ Load 0 1 ∷ [];
+      first =
+          op (Store 0 1) ∷ barrier SL ∷ op (Lock 0) ∷ barrier LS ∷ barrier SS ∷ op (Unlock 0)
+          ∷ op (Skip 0 8) ∷ op (Set 0 1) ∷ barrier LL ∷ barrier SL ∷ op (Load 0 1) ∷ [];
+      second =
+          op (Store 0 1) ∷ op (Lock 0) ∷ op (Unlock 0) ∷ op (Skip 0 5) ∷ op (Set 0 1)
+          ∷ barrier SL ∷ op (Load 0 1) ∷ [];
     })
     ∷
     -- a barrier on one side of a SKIP does not cover the other, and the SKIP lands on its target's first barrier
@@ -76,6 +115,12 @@ examples =
 examples-hold : map (λ (e : Example). lowerBoth (e .lane)) examples ≡ examples
 unfolding examples stands due dueAfter
 examples-hold = refl
+
+-- LOCK alone drains
+drains-hold :
+    map drains (Set 0 1 ∷ Add 0 1 ∷ Load 0 1 ∷ Store 0 1 ∷ Lock 0 ∷ Unlock 0 ∷ Skip 0 1 ∷ [])
+    ≡ false ∷ false ∷ false ∷ false ∷ true ∷ false ∷ false ∷ []
+drains-hold = refl
 
 -- two lanes of unlike length
 abbrev kernel : Program

@@ -1,8 +1,9 @@
 -- The levels of a sheet: which barriers of the placement each keeps, and the lanes that come of it.
 use Prim.Native.Nat.{ℕ, suc}
-use mathlib.Core.Bool.{Bool, true, false, _&&_}
+use mathlib.Core.Bool.{Bool, true, false, not, _&&_}
 use mathlib.Core.List.{List, [], _∷_, map}
 use Rattle.file_format.specs.declared.accepted.Op.{Op}
+use Rattle.file_format.specs.declared.accepted.Op.the-variants.{Set, Add, Load, Store, Lock, Unlock, Skip}
 use Rattle.file_format.specs.Accepted.{Program, isVolatile}
 use Rattle.barrier_placement.specs.declared.cookbook.Barrier.{Barrier}
 use Rattle.barrier_placement.specs.declared.cookbook.Barrier.the-variants.{LL, LS, SS, SL}
@@ -14,15 +15,25 @@ use Rattle.sheet_format.specs.declared.Level.{Level}
 use Rattle.sheet_format.specs.declared.Level.the-variants.{Level0, Level1, Level2}
 use Rattle.sheet_format.specs.Layout.{Instr, sheet}
 
--- Does the level keep a barrier that stands before this operation? Level 0 drops all of them, level 2 drops 11 to 13,
--- that is, all but SL.
+-- LOCK: a chip carries it out only with nothing of its lane pending, so that it drains by itself
+abbrev pub drains : Op → Bool
+drains (Set a c) = false
+drains (Add a b) = false
+drains (Load a x) = false
+drains (Store a x) = false
+drains (Lock l) = true
+drains (Unlock l) = false
+drains (Skip a t) = false
+
+-- Does the level keep a barrier that stands before this operation? Level 0 drops all of them. Level 2 drops 11 to 13,
+-- that is, all but SL, and SL before a LOCK.
 abbrev pub keeps : Level → Op → Barrier → Bool
 keeps Level0 o b = false
 keeps Level1 o b = true
 keeps Level2 o LL = false
 keeps Level2 o LS = false
 keeps Level2 o SS = false
-keeps Level2 o SL = true
+keeps Level2 o SL = not (drains o)
 
 -- How many instructions an operation makes at most, with its barriers. At level 1 two can stand before an access: one
 -- of LL and LS, and one of SS and SL, each of the access's kind; level 2 keeps at most one.

@@ -7,12 +7,13 @@ use lib.Dec.{eqb}
 use lib.ListN.{length, getD, take, drop}
 use lib.Seq.{sets}
 use Rattle.file_format.specs.Fields.{byte}
+use Rattle.barrier_placement.specs.declared.cookbook.Barrier.the-variants.{SL}
 use Rattle.barrier_placement.specs.Placed.{bit}
 use Rattle.sheet_format.specs.declared.Level.{Level}
 use Rattle.sheet_format.specs.declared.Level.the-variants.{Level0, Level1, Level2}
 use Rattle.sheet_format.specs.Bytes.{quadBytes, row}
 use Rattle.sheet_format.specs.Put.{inTurn}
-use Rattle.barrier_pass.specs.Plan.{beginIn}
+use Rattle.barrier_pass.specs.Plan.{keptIn, beginIn}
 
 -- where operation p begins at a level, of its plan
 abbrev pub beginning : Level → List ℕ → ℕ → ℕ
@@ -22,11 +23,12 @@ beginning l plan p = beginIn l (getD plan p 0) p
 abbrev pub rowIf : Bool → ℕ → List ℕ
 rowIf b code = cond b (row code 0 0 0) []
 
--- the rows of a set of barriers at a level: none at level 0, all at level 1, MFENCE for SL at level 2
+-- the rows of a plan's set of barriers at a level: none at level 0, all at level 1, at level 2 MFENCE for the SL that
+-- it keeps
 abbrev pub barrierRows : Level → ℕ → List ℕ
 barrierRows Level0 x = []
 barrierRows Level1 x = (rowIf (bit x 0) 11 ++ rowIf (bit x 1) 12) ++ (rowIf (bit x 2) 13 ++ rowIf (bit x 3) 14)
-barrierRows Level2 x = rowIf (bit x 3) 15
+barrierRows Level2 x = rowIf (keptIn Level2 x SL) 15
 
 -- of LL and LS at most one is in a set, and of SS and SL
 abbrev pub Single : ℕ → Type 0

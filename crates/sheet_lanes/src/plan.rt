@@ -14,7 +14,7 @@ use sheet_rows::parts::Parts;
 // Writes the plan of the lane of n rows that begin at byte `first`, from `place` of `plan` on; the number of its end.
 fn plan_at(
     known: &[u32; 16],
-    widths: &[u32; 16],
+    widths: &[u32; 32],
     rows: &[u8],
     first: usize,
     n: usize,

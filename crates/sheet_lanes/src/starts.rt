@@ -2,18 +2,18 @@
 ghost use mathlib.Core.Path.{_≡_};
 ghost use Prim.Native.Nat.{_<_};
 ghost use lib.ListN.{getD};
-ghost use Rattle.barrier_placement.specs.Placed.{bit};
-ghost use Rattle.barrier_pass.specs.Plan.{beginIn};
+ghost use Rattle.barrier_placement.specs.declared.cookbook.Barrier.the-variants.{SL};
+ghost use Rattle.sheet_format.specs.declared.Level.the-variants.{Level2};
+ghost use Rattle.barrier_pass.specs.Plan.{keptIn, beginIn};
 ghost use Rattle.sheet_lanes.specs.Put.{beginning};
 use sheet_format::Level;
 use sheet_rows::number::wide;
 
-// Bit k of a set of barriers.
-pub(crate) fn bit_at(set: u32, k: u32) -> bool
-    requires { ⌜ k < 32 ⌝ }
-    ensures { λ r. ⌜ r ≡ bit set k ⌝ }
+// Whether level 2 keeps SL of a plan's set: bit 3 is set, and bit 4 is not.
+pub(crate) fn has_fence(set: u32) -> bool
+    ensures { λ r. ⌜ r ≡ keptIn Level2 set SL ⌝ }
 {
-    (set >> k) % 2 == 1
+    set / 8 % 4 == 1
 }
 
 // Where position p begins at a level, of its number in the plan.
@@ -22,7 +22,7 @@ pub fn begin_in(level: Level, x: u32, p: usize) -> usize
 {
     match level {
         Level::Level0 => p,
-        Level::Level1 => wide((x >> 4) % 512),
+        Level::Level1 => wide((x >> 5) % 256),
         Level::Level2 => wide((x >> 13) % 256),
     }
 }

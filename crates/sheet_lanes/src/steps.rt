@@ -8,7 +8,7 @@ ghost use Rattle.sheet_format.specs.Put.{Puts};
 ghost use Rattle.sheet_format.specs.declared.Level.the-variants.{Level1};
 ghost use Rattle.sheet_lanes.specs.Put.{rowIf, Begins, Single, barrierRows, ownRow, stepRows};
 use crate::starts::beginning;
-use crate::starts::bit_at;
+use crate::starts::has_fence;
 use file_format::fields::wide;
 use sheet_format::Level;
 use sheet_rows::put::copy_eight;
@@ -33,7 +33,7 @@ fn put_barrier(out: &mut [u8], at: usize, stands: bool, code: u8) -> usize
     at + 8 * (stands as usize)
 }
 
-// Writes the barriers of a set from `at` on, LL or LS and then SS or SL; the position behind them.
+// Writes the barriers of a plan's set from `at` on, LL or LS and then SS or SL; the position behind them.
 fn put_pair(out: &mut [u8], at: usize, set: u32) -> usize
     requires { ⌜ Single set × (at + length (barrierRows Level1 set) + 8 ≤ length (now out)) ⌝ }
     ensures { λ r. ⌜ Begins (now (out .entry)) at (barrierRows Level1 set) (now (out .exit)) r ⌝ }
@@ -44,7 +44,7 @@ fn put_pair(out: &mut [u8], at: usize, set: u32) -> usize
     put_barrier(out, behind, stores != 0, SS + (stores / 2) as u8)
 }
 
-// Writes those barriers of a set that the level keeps from `at` on; the position behind them.
+// Writes those barriers of a plan's set that the level keeps from `at` on; the position behind them.
 fn put_barriers(level: Level, out: &mut [u8], at: usize, set: u32) -> usize
     requires { ⌜ Single set × (at + length (barrierRows level set) + 8 ≤ length (now out)) ⌝ }
     ensures { λ r. ⌜ Begins (now (out .entry)) at (barrierRows level set) (now (out .exit)) r ⌝ }
@@ -52,7 +52,7 @@ fn put_barriers(level: Level, out: &mut [u8], at: usize, set: u32) -> usize
     match level {
         Level::Level0 => at,
         Level::Level1 => put_pair(out, at, set),
-        Level::Level2 => put_barrier(out, at, bit_at(set, 3), MFENCE),
+        Level::Level2 => put_barrier(out, at, has_fence(set), MFENCE),
     }
 }
 

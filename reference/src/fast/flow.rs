@@ -62,6 +62,9 @@ const fn pass(class: usize, live: u8) -> Pass {
 /// Barriers that a level keeps; level 0 is the bare chain.
 const KEPT: [u8; 3] = [0, LL | LS | SS | SL, SL];
 
+/// Of these, what a level leaves out directly before a LOCK.
+const LEFT_OUT: [u8; 3] = [0, 0, SL];
+
 /// Where everything of a sheet goes.
 pub struct Plan {
     /// The kept barriers before each record in chain order, a bit for each.
@@ -114,7 +117,8 @@ impl Plan {
             }
             let pass = PASSES[class(record, mask)][usize::from(ways.live & 63)];
             ways.live = pass.live;
-            let standing = pass.standing & KEPT[LEVEL];
+            let left_out = u8::from(record[0] == LOCK) * LEFT_OUT[LEVEL];
+            let standing = pass.standing & (KEPT[LEVEL] ^ left_out);
             self.barriers[start + position] = standing;
             self.starts[start + position] = count;
             count += 1 + standing.count_ones() as u16;

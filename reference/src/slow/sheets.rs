@@ -1,6 +1,7 @@
-//! Slow implementation: the instructions of a lane at each level, and the sheets of paper 01 as bytes.
+//! Slow implementation: the instructions of a lane at each level, and the sheets of paper 01 as bytes, with request 1
+//! of paper 02.
 
-use super::kernel::{Kernel, SKIP};
+use super::kernel::{Kernel, LOCK, SKIP};
 use super::placement::{Barrier, placement};
 
 pub const MFENCE: u8 = 15;
@@ -14,13 +15,16 @@ pub enum Level {
 }
 
 impl Level {
-    /// The barrier's operation at this level, if it is kept.
-    fn code(self, barrier: Barrier) -> Option<u8> {
+    /// The operation of a barrier at this level, if it is kept where it stands, directly before a record of operation
+    /// `next`.
+    fn code(self, barrier: Barrier, next: u8) -> Option<u8> {
         match (self, barrier) {
             (Level::One, Barrier::LL) => Some(11),
             (Level::One, Barrier::LS) => Some(12),
             (Level::One, Barrier::SS) => Some(13),
             (Level::One, Barrier::SL) => Some(14),
+            // "From now on level 2 writes no MFENCE directly before a LOCK .. Level 1 keeps its SL."
+            (Level::Two, Barrier::SL) if next == LOCK => None,
             (Level::Two, Barrier::SL) => Some(MFENCE),
             _ => None,
         }
@@ -39,11 +43,13 @@ pub struct Instruction {
 }
 
 pub fn instructions(kernel: &Kernel, lane: usize, level: Level) -> Vec<Instruction> {
+    let operation = |position: usize| kernel.at(lane, position).operation;
     let codes: Vec<Vec<u8>> = placement(kernel, lane)
         .iter()
-        .map(|standing| standing.iter().filter_map(|barrier| level.code(*barrier)).collect())
+        .enumerate()
+        .map(|(at, standing)| standing.iter().filter_map(|barrier| level.code(*barrier, operation(at))).collect())
         .collect();
-    // "A SKIP lands on its target's first barrier."
+    // "A SKIP lands on its target's first barrier.", of those that the level writes
     let lands = |position: usize| codes[..position].iter().map(|before| before.len() as u32 + 1).sum::<u32>();
     let group = |origin: usize| {
         let record = kernel.at(lane, origin);

@@ -22,6 +22,24 @@ start-suc [] p h = absurd (not-suc-le-zero h)
 start-suc (x ∷ ps) zero h = omega (arith, start-zero ps)
 start-suc (x ∷ ps) (suc p) h = omega (arith, start-suc ps p (omega arith))
 
+-- a later operation begins behind an earlier one
+start-later : {A : Type 0} (ps : List (Placed A)) (p q : ℕ) → p < q → p < length ps → opAt ps p < start ps q
+start-later [] p q l h = absurd (not-suc-le-zero h)
+start-later (x ∷ ps) p zero l h = absurd (not-suc-le-zero l)
+start-later (x ∷ ps) zero (suc q) l h = omega arith
+start-later (x ∷ ps) (suc p) (suc q) l h = omega (arith, start-later ps p q (omega arith) (omega arith))
+
+-- so that a position is of one operation or of a barrier before it
+pub place-once : {A : Type 0} (ps : List (Placed A)) (p q i j : ℕ) → p < length ps → q < length ps
+    → i ≤ length (barriersAt ps p) → j ≤ length (barriersAt ps q) → start ps p + i ≡ start ps q + j → p ≡ q
+place-once ps p q i j p<n q<n li lj e = elim (lt-or-le p q) [
+  | inl l ↦ absurd (omega (arith, start-later ps p q l p<n))
+  | inr l ↦ elim (lt-or-le q p) [
+    | inl k ↦ absurd (omega (arith, start-later ps q p k q<n))
+    | inr k ↦ omega arith
+  ]
+]
+
 pub regroup : (a b c : ℕ) → a + suc b + c ≡ a + suc (b + c)
 regroup a b c = omega arith
 

@@ -40,7 +40,7 @@ kept-few : (l : Level) (o : Op) (s : Chain) (p : ℕ)
     → suc (length (chosen (λ b. keeps l o b && stands s b p))) ≤ widest l
 kept-few Level0 o s p = omega arith
 kept-few Level1 o s p = omega (arith, before-few s p)
-kept-few Level2 o s p = omega (arith, keep-length (stands s SL p) SL [])
+kept-few Level2 o s p = omega (arith, keep-length (keeps Level2 o SL && stands s SL p) SL [])
 
 pub widest-few : (l : Level) → widest l ≤ 3
 widest-few Level0 = omega arith

@@ -11,7 +11,7 @@ use lib.Seq.{getD-take, take-take, take-suc, take-all}
 use Rattle.laws.proofs.Lists.{at-some}
 use Rattle.file_format.specs.declared.accepted.Op.{Op}
 use Rattle.file_format.specs.declared.accepted.Op.the-variants.{Set, Add, Load, Store, Lock, Unlock, Skip}
-use Rattle.file_format.specs.Fields.{byte, quad}
+use Rattle.file_format.specs.Fields.{byte}
 use Rattle.file_format.specs.Accepted.{jump}
 use Rattle.file_format.specs.Stored.{noOp}
 use Rattle.barrier_placement.specs.declared.cookbook.Barrier.{Barrier}
@@ -26,18 +26,18 @@ use Rattle.sheet_format.specs.declared.Level.{Level}
 use Rattle.sheet_format.specs.declared.Level.the-variants.{Level0, Level1, Level2}
 use Rattle.sheet_format.specs.Layout.{op, barrier, aim, cells, sheet}
 use Rattle.sheet_format.specs.Levels.{keeps, placeFrom, placed}
-use Rattle.sheet_format.specs.Bytes.{row, opBytes, quadBytes, barrierCode, laneBytes}
+use Rattle.sheet_format.specs.Bytes.{opBytes, quadBytes, barrierCode, laneBytes}
 use Rattle.sheet_format.specs.Items.{TargetsWithin}
 use Rattle.sheet_format.specs.Put.{inTurn}
 use Rattle.sheet_format.proofs.Before.{chosen-ext}
+use Rattle.sheet_format.proofs.PlacedLanes.{placed-count}
 use Rattle.sheet_format.proofs.Laws.Cells.{lane-end}
 use Rattle.sheet_format.proofs.Laws.Rows.{bytes-append}
 use Rattle.sheet_rows.specs.Rows.{rowIn}
 use Rattle.sheet_rows.specs.Lanes.{fieldsOf, Holds}
 use Rattle.sheet_rows.proofs.Laws.Lanes.{held-bytes, held-fields}
-use Rattle.barrier_pass.specs.Plan.{beginIn}
-use Rattle.barrier_pass.proofs.Laws.Plan.{placed-count}
-use Rattle.barrier_pass.proofs.Laws.Read.{plan-stands, plan-begins}
+use Rattle.barrier_pass.specs.Plan.{keptIn, beginIn}
+use Rattle.barrier_pass.proofs.Laws.Read.{plan-kept, plan-begins}
 use Rattle.sheet_lanes.specs.Put.{beginning, rowIf, barrierRows, SingleTo, ownRow, stepRows, laneRows}
 use Rattle.sheet_lanes.specs.Rows.{Planned}
 
@@ -49,11 +49,10 @@ module _ (l : Level) where
   keep-bytes true b bs = refl
   keep-bytes false b bs = refl
 
--- the rows of a set are those of the barriers that the level keeps of it
-barriers-bytes : (l : Level) (o : Op) (x : ℕ)
-    → laneBytes l (map barrier (chosen (λ b. keeps l o b && bit x (bitOf b)))) ≡ barrierRows l x
-barriers-bytes Level0 o x = refl
-barriers-bytes Level1 o x =
+-- the rows of a plan's set are those of its barriers at the level
+barriers-bytes : (l : Level) (x : ℕ) → laneBytes l (map barrier (chosen (keptIn l x))) ≡ barrierRows l x
+barriers-bytes Level0 x = refl
+barriers-bytes Level1 x =
     let ss = rowIf (bit x 2) 13 in
     let sl = rowIf (bit x 3) 14 in
     keep-bytes Level1 (bit x 0) LL (keep (bit x 1) LS (keep (bit x 2) SS (keep (bit x 3) SL [])))
@@ -63,7 +62,7 @@ barriers-bytes Level1 o x =
     (keep-bytes Level1 (bit x 2) SS (keep (bit x 3) SL [])
     ∙ ap (λ z. ss ++ z) (keep-bytes Level1 (bit x 3) SL [] ∙ append-nil sl)))
     ∙ sym (append-assoc (rowIf (bit x 0) 11) (rowIf (bit x 1) 12) (ss ++ sl))
-barriers-bytes Level2 o x = keep-bytes Level2 (bit x 3) SL [] ∙ append-nil (rowIf (bit x 3) 15)
+barriers-bytes Level2 x = keep-bytes Level2 (keptIn Level2 x SL) SL [] ∙ append-nil (rowIf (keptIn Level2 x SL) 15)
 
 -- ## the operation's own row
 
@@ -140,11 +139,9 @@ module _ (l : Level) (vol : ℕ → Bool) {rows : List ℕ} {n : ℕ} {ops : Lis
         ap (λ x. beginIn l x p) (known p (omega (arith, h .count)))
         ∙ plan-begins vol ops (omega (arith, h .count)) l p (omega (arith, h .count))
 
-    stand-at : (p : ℕ) → p < n
-        → placedOp p .before ≡ chosen (λ b. keeps l (getD ops p noOp) b && bit (getD plan p 0) (bitOf b))
+    stand-at : (p : ℕ) → p < n → placedOp p .before ≡ chosen (keptIn l (getD plan p 0))
     stand-at p lt = chosen-ext (λ b.
-        ap (λ t. keeps l (getD ops p noOp) b && t)
-        (sym (ap (λ x. bit x (bitOf b)) (known p (omega (arith, h .count))) ∙ plan-stands vol ops p b)))
+        sym (ap (λ x. keptIn l x b) (known p (omega (arith, h .count))) ∙ plan-kept vol ops l p b))
 
     step-is : (p : ℕ) → p < n → stepRows l plan rows p ≡ stepBytes p
     step-is p lt =
@@ -155,7 +152,7 @@ module _ (l : Level) (vol : ℕ → Bool) {rows : List ℕ} {n : ℕ} {ops : Lis
         let in-lane = within p o t (at-some ops p noOp (omega (arith, h .count))) j in
         (omega arith, begins-at t in-lane)) in
         let bars : laneBytes l (map barrier (placedOp p .before)) ≡ barrierRows l (getD plan p 0) =
-        ap (λ bs. laneBytes l (map barrier bs)) (stand-at p lt) ∙ barriers-bytes l o (getD plan p 0) in
+        ap (λ bs. laneBytes l (map barrier bs)) (stand-at p lt) ∙ barriers-bytes l (getD plan p 0) in
         ap₂ (λ x y. x ++ y) (sym bars) (own ∙ sym (append-nil (opBytes (aim (start ps) o))))
         ∙ sym (bytes-append l (map barrier (placedOp p .before)) (op (aim (start ps) o) ∷ []))
 
@@ -193,7 +190,7 @@ module _ (l : Level) (vol : ℕ → Bool) {rows : List ℕ} {n : ℕ} {ops : Lis
 pub lane-single : (vol : ℕ → Bool) (ops : List Op) (plan : List ℕ) → Planned vol ops plan → SingleTo plan (length ops)
 lane-single vol ops plan known p lt =
     let at : (b : Barrier) → bit (getD plan p 0) (bitOf b) ≡ stands (steps vol ops) b p =
-    λ b. ap (λ x. bit x (bitOf b)) (known p (omega arith)) ∙ plan-stands vol ops p b in (
+    λ b. ap (λ x. bit x (bitOf b)) (known p (omega arith)) ∙ plan-kept vol ops Level1 p b in (
       ap₂ (λ x y. x && y) (at LL) (at LS) ∙ load-once (steps vol ops) p,
       ap₂ (λ x y. x && y) (at SS) (at SL) ∙ store-once (steps vol ops) p,
     )

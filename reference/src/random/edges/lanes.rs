@@ -1,12 +1,12 @@
-//! Edges of chains: linkage, lengths, targets of SKIPs, held sets.
+//! Edges of chains: linkage, lengths, targets of SKIPs, held sets, full lists, MFENCE and LOCK.
 
 use super::{Edge, Numbered, Place, put, skip, small, step, steps};
 use crate::random::Random;
-use crate::slow::kernel::{LOCK, SET, SKIP, STORE, UNLOCK};
+use crate::slow::kernel::{LOAD, LOCK, SET, SKIP, STORE, UNLOCK};
 use crate::writer::{Draft, Step};
 
 pub fn edges() -> Vec<Edge> {
-    [linkage(), lengths(), skips(), locks(), lists()].into_iter().flatten().collect()
+    [linkage(), lengths(), skips(), locks(), lists(), fences()].into_iter().flatten().collect()
 }
 
 /// Two SETs in one lane, and a lane beside it.
@@ -133,5 +133,30 @@ fn lists() -> Vec<Edge> {
         full("64 stores, the last to its own location", 0, 1),
         full("64 stores to one location", 0, 0),
         full("64 stores, the last to a volatile location", 2, 1),
+    ]
+}
+
+/// Volatile stores, volatile loads and releases about a LOCK, which has no MFENCE before it; location 0 is volatile.
+fn fences() -> Vec<Edge> {
+    let (lock, unlock, set) = (step(LOCK, 0, 0), step(UNLOCK, 0, 0), step(SET, 2, 0));
+    let (store, load) = (step(STORE, 1, 0), step(LOAD, 2, 0));
+    let among = |name: &str, steps: &[Step]| {
+        let steps = steps.to_vec();
+        Edge::new(name, 0, move |random| {
+            let lanes = 1 + random.below(4);
+            let mut draft = small(random, lanes);
+            draft.mask |= 1;
+            put(random, &mut draft, &steps, false);
+            (Numbered::new(random, &draft).file, 0)
+        })
+    };
+    vec![
+        among("volatile store, LOCK", &[store, lock, unlock]),
+        among("volatile store, LOCK, volatile load", &[store, lock, load, unlock]),
+        among("LOCK, volatile store, volatile load", &[lock, store, load, unlock]),
+        among("volatile store, SKIP to a LOCK", &[store, skip(3), load, lock, unlock]),
+        among("volatile store, SKIP over a LOCK", &[store, skip(4), lock, unlock, load]),
+        among("volatile store, LOCK, SKIP behind it", &[store, lock, unlock, skip(5), set, load]),
+        among("UNLOCK, SKIP to a LOCK", &[lock, unlock, skip(4), set, lock, unlock]),
     ]
 }

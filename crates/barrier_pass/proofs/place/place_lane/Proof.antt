@@ -7,7 +7,7 @@ use native.Mathlib.Omega.{arith}
 use mathlib.Core.Path.{_≡_, refl, sym, ap, subst, _∙_}
 use mathlib.Core.List.{List}
 use mathlib.Core.Logic.{inl, inr, ⊎-elim}
-use lib.ListN.{length, getD, set, length-set}
+use lib.ListN.{length, getD, length-set}
 use lib.Seq.{getD-set-same, getD-set-other}
 use Rattle.file_format.specs.Accepted.{isVolatile}
 use Rattle.file_format.specs.Stored.{noOp}
@@ -30,7 +30,7 @@ use Rattle.barrier_pass.proofs.place.place_lane.Tie as tie
 
 abbrev Inv-loop : tie.InvT-loop
 Inv-loop known widths rows n mask plan₀ due₀ brought₀ at₀ p₀ plan due brought at p =
-    (p ≤ n) × (length brought ≡ 65) × (length plan ≡ length plan₀) × (at ≤ 16464 * p)
+    (p ≤ n) × (length brought ≡ 65) × (length plan ≡ length plan₀) × (at ≤ 16544 * p)
     × ((j : ℕ) → n < j → getD plan j 0 ≡ getD plan₀ j 0)
     × ((ops : List Op) → Holds rows n ops → Placing (isVolatile mask) ops due brought plan at p)
 
@@ -57,16 +57,18 @@ known-of-requires c κs = search needs
 stands-at-requires : tie.Need-stands-at-requires Inv-loop μ-loop
 stands-at-requires c κs = search needs
 
+plan-set-requires : tie.Need-plan-set-requires Inv-loop μ-loop
+plan-set-requires c κs = search needs
+
 plan-step-requires : tie.Need-plan-step-requires Inv-loop μ-loop
 plan-step-requires c κs =
-    let s = c .before in
-    let l = s .before .before .before .before .loop in
-    let a = s .before .before .before .before .before .before .before in (
+    let l = c .before .before .before .before .before .before .loop in
+    let a = c .before .before .before .before .before .before .before .before .before in (
       a .pre .0 .1,
       omega (arith, a .pre .1 .2, l .inv .2),
       l .inv .3,
       omega (arith, a .pre .1 .0),
-      s .stands-at .ensures .1,
+      c .plan-set .ensures .1,
     )
 
 raises-requires : tie.Need-raises-requires Inv-loop μ-loop
@@ -84,7 +86,7 @@ loop-less c = search needs
 loop-again : tie.Need-loop-again Inv-loop μ-loop
 loop-again c =
     let k = c .before .before .before .before .before .before in
-    let s = k .before .before in
+    let s = k .before .before .before in
     let w = s .before .before in
     let l = w .before .before .loop in
     let start = w .before .before .before .before .before in
@@ -94,13 +96,14 @@ loop-again c =
     let vol = isVolatile (a .mask) in
     let low = s .stands-at .ensures .1 in
     let stood = s .stands-at .result in
+    let set = k .before .plan-set .result in
     let wrote = k .plan-step .ensures in (
       omega arith,
       ⊎-elim (λ e. rw (e .1) (simp length-set (l .inv .1))) (λ e. rw (e .1) (l .inv .1)) (c .if1 .came),
       rw (wrote .0) (simp length-set (l .inv .2)),
       wrote .1 .1,
       λ j h.
-          ap (λ q. getD q j 0) (wrote .0) ∙ getD-set-other (l .plan) (l .p) j (l .at + stood) 0 (λ e. omega arith)
+          ap (λ q. getD q j 0) (wrote .0) ∙ getD-set-other (l .plan) (l .p) j (l .at + set) 0 (λ e. omega arith)
           ∙ l .inv .4 j h,
       λ ops h.
           let o = getD ops (l .p) noOp in
@@ -124,7 +127,8 @@ loop-again c =
           (c .before .before .before .raises .ensures (at t (l .p)) b known)
           (c .before .before .after .ensures b)
           lands
-          (⊎-elim (λ e. inl (e .0 .taken, e .1)) (λ e. inr (e .0 .left, e .1)) (c .if1 .came)))),
+          (⊎-elim (λ e. inl (e .0 .taken, e .1)) (λ e. inr (e .0 .left, e .1)) (c .if1 .came)))
+          set (k .before .plan-set .ensures .0 o (ap (λ (r : Row). r .code) row))),
     )
 
 same-length : tie.Need-same-length Inv-loop μ-loop
@@ -152,6 +156,6 @@ pub place-lane-spec : {M : Type 1} → statement M
 place-lane-spec =
     tie.close
     (tie.spec Inv-loop μ-loop loop-holds (λ c. search needs) whole-row-requires known-of-requires (λ c. search needs)
-    (λ c. search needs) stands-at-requires plan-step-requires raises-requires after-requires landing-of-requires
-    (λ c. search needs) (λ c. search needs) (λ c. search needs) (λ c. search needs) (λ c. search needs) loop-less
-    loop-again (λ c. search needs) (λ c. search needs) same-length returns)
+    (λ c. search needs) stands-at-requires plan-set-requires plan-step-requires raises-requires after-requires
+    landing-of-requires (λ c. search needs) (λ c. search needs) (λ c. search needs) (λ c. search needs)
+    (λ c. search needs) loop-less loop-again (λ c. search needs) (λ c. search needs) same-length returns)

@@ -12,13 +12,13 @@ add-plan c = search needs
 add-result : tie.Need-add-result
 add-result c =
     let a = c .before in
-    omega (arith, a .pre .2, a .pre .3, width-small (a .pre .0) (a .args .stood) (a .pre .4))
+    omega (arith, a .pre .2, a .pre .3, width-small (a .pre .0) (a .args .set) (a .pre .4))
 
 returns : tie.Need-returns
 returns c =
     let a = c .before in (
       refl,
-      (refl, omega (arith, a .pre .2, width-small (a .pre .0) (a .args .stood) (a .pre .4))),
+      (refl, omega (arith, a .pre .2, width-small (a .pre .0) (a .args .set) (a .pre .4))),
     )
 
 pub plan-step-spec : {M : Type 1} → statement M

@@ -44,9 +44,9 @@ returns-3 c =
     let s = t .before .before .before in
     let put = f .put-barrier .ensures in
     let none = begins-none {l = s .args .out .now} {i = s .args .at} in
-    let one = begins-row none (b .bit-at .result) 15 (put .0) (put .1) in
+    let one = begins-row none (b .has-fence .result) 15 (put .0) (put .1) in
     begins-as
-    (ap (λ x. rowIf x 15) (b .bit-at .ensures)
+    (ap (λ x. rowIf x 15) (b .has-fence .ensures)
     ∙ ap (λ (m : Level). barrierRows m (s .args .set)) (sym (t .enum-told3 .given .1)))
     one
 
