@@ -17,7 +17,7 @@ use Rattle.barrier_placement.specs.Chain.{Step, Chain, Access, at, Next,
 use Rattle.barrier_placement.specs.Sentence.{Along, Pair, Sentence}
 use Rattle.barrier_placement.specs.Layout.{Placed, operations, barriersAt, start, opAt}
 use Rattle.barrier_placement.specs.Sheet.{Item, bar, op, item, NextItem, aim, itemsOf}
-use Rattle.barrier_placement.specs.Sheet.{written, ItemPair, Alone, LeftOut, Meets}
+use Rattle.barrier_placement.specs.Sheet.{written, ItemPair, LeftOut, Meets, Needed}
 use Rattle.barrier_placement.proofs.Laws.Chosen.{Holds, Once, chosen-has, chosen-only, chosen-once}
 use Rattle.barrier_placement.proofs.Laws.Place.{access-inside}
 use Rattle.barrier_placement.proofs.Laws.Layout.{start-suc, place-once, place-within, inside-chain}
@@ -105,7 +105,7 @@ module _ {A : Type 0} (step : A → Step) (ps : List (Placed A)) (place : Barrie
 
           by : (v : Bool) → keeps b (f .0) ≡ v → Meets step ps place keeps b π
           by true e = inl (written-there e)
-          by false e = inr (opAt ps (f .0), passes (f .1), (f .0, refl, f .2, e))
+          by false e = inr (opAt ps (f .0), passes (f .1), (f .0, placed-inside b (f .0) (f .2), refl, f .2, e))
 
   pub items-meet : (b : Barrier) (m m′ : ℕ) (π : Path (NextItem t) m m′) → ItemPair t b m m′
       → Meets step ps place keeps b π
@@ -134,9 +134,8 @@ module _ {A : Type 0} (step : A → Step) (ps : List (Placed A)) (place : Barrie
       (f .0, written-so b (f .0) (f .1) (f .2) (f .3) (f .4) .0)
 
   -- and it cannot be dropped
-  pub items-alone : (b : Barrier) (m : ℕ) → item t m ≡ bar b
-      → (a : Alone t b m) × ((x : ℕ) → Along (a .path) x → LeftOut ps place keeps b x → ⊥)
-  items-alone b m h = go (alone s b (place b) (sentence b) k (there .1))
+  pub items-needed : (b : Barrier) (m : ℕ) → item t m ≡ bar b → Needed step ps place keeps b m
+  items-needed b m h = go (alone s b (place b) (sentence b) k (there .1))
     where
       found : (k : ℕ) × (o : ℕ) × (k < length ps) × (o < length (pre k)) × (getD (pre k) o LL ≡ b)
           × (m ≡ start ps k + o)
@@ -152,7 +151,7 @@ module _ {A : Type 0} (step : A → Step) (ps : List (Placed A)) (place : Barrie
       there = written-so b k o (found .2) (found .3) (found .4)
 
       go : (i : ℕ) × (ρ : Path (Next s) i k) × Pair s b i k × ((k′ : ℕ) → Along ρ k′ → place b k′ ≡ true → k′ ≡ k)
-          → (a : Alone t b m) × ((x : ℕ) → Along (a .path) x → LeftOut ps place keeps b x → ⊥)
+          → Needed step ps place keeps b m
       go a = (
         record {
           from = opAt ps (a .0);
@@ -189,20 +188,18 @@ module _ {A : Type 0} (step : A → Step) (ps : List (Placed A)) (place : Barrie
 
           -- an operation on the way before which b is placed is the one behind m, and there it is kept
           none-left : (x : ℕ) → Along (f .path) x → LeftOut ps place keeps b x → ⊥
-          none-left x w g = true≢false (sym (there .0) ∙ ap (keeps b) (sym (same w)) ∙ g .3)
+          none-left x w (p, inside, here, placed, dropped) =
+              true≢false (sym (there .0) ∙ ap (keeps b) (sym (same w)) ∙ dropped)
             where
-              inside : g .0 < length ps
-              inside = placed-inside b (g .0) (g .2)
-
-              same : Along (f .path) x → g .0 ≡ k
+              same : Along (f .path) x → p ≡ k
               same (inr e) =
-                  place-once ps (g .0) k (length (pre (g .0))) (length (pre k)) inside (found .2)
-                  (le-refl (length (pre (g .0)))) (le-refl (length (pre k))) (sym (g .1) ∙ e)
+                  place-once ps p k (length (pre p)) (length (pre k)) inside (found .2)
+                  (le-refl (length (pre p))) (le-refl (length (pre k))) (sym here ∙ e)
               same (inl w) =
                   let y = f .along x w in
-                  let next = start-suc ps (g .0) inside in
-                  let within = place-within bar put ps (suc (g .0)) 0 (omega arith) in
-                  let k<n = inside-chain bar put ps (y .0) (y .1) (omega (arith, y .4, g .1, next, within)) in
-                  let q = place-once ps (y .0) (g .0) (y .1) (length (pre (g .0))) k<n inside (y .3)
-                  (le-refl (length (pre (g .0)))) (sym (y .4) ∙ g .1) in
-                  a .3 (g .0) (subst (Along (a .1)) q (y .2)) (g .2)
+                  let next = start-suc ps p inside in
+                  let within = place-within bar put ps (suc p) 0 (omega arith) in
+                  let k<n = inside-chain bar put ps (y .0) (y .1) (omega (arith, y .4, here, next, within)) in
+                  let q = place-once ps (y .0) p (y .1) (length (pre p)) k<n inside (y .3)
+                  (le-refl (length (pre p))) (sym (y .4) ∙ here) in
+                  a .3 p (subst (Along (a .1)) q (y .2)) placed

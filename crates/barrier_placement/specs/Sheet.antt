@@ -81,7 +81,8 @@ needed-holds = record {
 
 -- x is the position of an operation before which place has a b that the level leaves out
 abbrev pub LeftOut : {A : Type 0} (ps : List (Placed A)) (place keeps : Barrier → ℕ → Bool) (b : Barrier) → ℕ → Type 0
-LeftOut ps place keeps b x = (k : ℕ) × (x ≡ opAt ps k) × (place b k ≡ true) × (keeps b k ≡ false)
+LeftOut ps place keeps b x =
+    (k : ℕ) × (k < length ps) × (x ≡ opAt ps k) × (place b k ≡ true) × (keeps b k ≡ false)
 
 -- a b stands on the path, or an operation before which one is left out, the path's end counted
 abbrev pub Meets : {A : Type 0} (step : A → Step) (ps : List (Placed A)) (place keeps : Barrier → ℕ → Bool)
@@ -89,3 +90,9 @@ abbrev pub Meets : {A : Type 0} (step : A → Step) (ps : List (Placed A)) (plac
 Meets step ps place keeps b π =
     ((x : ℕ) × Between π x × (item (itemsOf step ps) x ≡ bar b))
     ⊎ ((x : ℕ) × Along π x × LeftOut ps place keeps b x)
+
+-- the item at m is the only b on some path, those left out counted too
+abbrev pub Needed : {A : Type 0} (step : A → Step) (ps : List (Placed A)) (place keeps : Barrier → ℕ → Bool)
+    (b : Barrier) → ℕ → Type 0
+Needed step ps place keeps b m =
+    (a : Alone (itemsOf step ps) b m) × ((x : ℕ) → Along (a .path) x → LeftOut ps place keeps b x → ⊥)

@@ -1,9 +1,9 @@
 -- Demand 2 of every accepted kernel file, at each level: its barriers, where they stand, and its codes; and that the
 -- sheet is whole, each byte of it below 256, and that each record belongs to one lane.
 use mathlib.Core.Path.{_≡_, refl, ap, _∙_, sym, subst}
-use mathlib.Core.Bool.{false, _&&_, true≢false}
+use mathlib.Core.Bool.{true, _&&_, true≢false}
 use mathlib.Core.List.{List, [], _∷_, _++_, map}
-use mathlib.Core.Logic.{_⊎_, inl, inr}
+use mathlib.Core.Logic.{inl, inr, _↔_}
 use mathlib.Core.Option.{some}
 use Prim.Native.Nat.{ℕ, _<_}
 use lib.ListN.{length, getD, getElem?, drop, List·getD-map, List·getD-append}
@@ -14,18 +14,19 @@ use Rattle.file_format.specs.Lawful.{Lawful}
 use Rattle.file_wellformed.proofs.Lawful.{accepted-lawful}
 use Rattle.file_wellformed.proofs.Once.{entry-range, record-placed, record-once}
 use Rattle.barrier_placement.specs.declared.cookbook.Barrier.{Barrier}
-use Rattle.barrier_placement.specs.Chain.{Chain, Path, Between}
+use Rattle.barrier_placement.specs.Chain.{Chain, Path}
 use Rattle.barrier_placement.specs.Steps.{stepOf, steps}
 use Rattle.barrier_placement.specs.Place.{stands, chosen}
-use Rattle.barrier_placement.specs.Sentence.{Along, Sentence}
+use Rattle.barrier_placement.specs.Sentence.{Sentence}
 use Rattle.barrier_placement.proofs.Correct.{correct}
 use Rattle.barrier_placement.proofs.Unique.{unique}
 use Rattle.barrier_placement.specs.Layout.{Placed, operations, barriersAt, start}
-use Rattle.barrier_placement.specs.Sheet.{Item, bar, item, NextItem, itemsOf, ItemPair, Alone}
-use Rattle.barrier_placement.proofs.SheetCorrect.{items-meet, items-kept, items-alone}
+use Rattle.barrier_placement.specs.Sheet.{Item, bar, item, NextItem, itemsOf, ItemPair, Meets, Needed}
+use Rattle.barrier_placement.specs.Sheet.{LeftOut as PlacedLeftOut}
+use Rattle.barrier_placement.proofs.SheetCorrect.{items-meet, items-kept, items-needed}
 use Rattle.sheet_format.specs.Layout.{Instr, op, barrier, aim, cells, sheet, has}
 use Rattle.sheet_format.specs.declared.Level.{Level}
-use Rattle.sheet_format.specs.Levels.{keeps, placed, placedLanes, sheetLanes, volatileIn}
+use Rattle.sheet_format.specs.Levels.{placed, placedLanes, sheetLanes, volatileIn}
 use Rattle.sheet_format.specs.Bytes.{sheetBytes, lowerBy}
 use Rattle.sheet_format.specs.Read.{readSheet}
 use Rattle.sheet_format.specs.Items.{items, operationAt, keepsAt, keptBefore}
@@ -41,19 +42,6 @@ use Rattle.claims.specs.Claims.{Records, laneOf, laneItems, operationsIn
 use Rattle.claims.specs.Claims.{Placement, lowered, Fitting}
 use Rattle.claims.proofs.KernelLanes.{forward, lane-placed}
 use Rattle.claims.proofs.LeftOut.{left-out, placed-left-out}
-
-abbrev Covered : Level → Program → List ℕ → ℕ → List Item → Type 0
-Covered l k bytes t x =
-    (b : Barrier) (m n : ℕ) (π : Path (NextItem x) m n) → ItemPair x b m n
-    → ((y : ℕ) × Between π y × (item x y ≡ bar b)) ⊎ ((y : ℕ) × Along π y × LeftOut l k bytes t b y)
-
-abbrev Needed : Level → Program → List ℕ → ℕ → List Item → Type 0
-Needed l k bytes t x =
-    (b : Barrier) (m : ℕ) → item x m ≡ bar b
-    → (a : Alone x b m) × ((y : ℕ) → Along (a .path) y → LeftOut l k bytes t b y → ⊥)
-
-abbrev Absent : Level → List Item → Type 0
-Absent l x = (b : Barrier) → ((o : Op) → keeps l o b ≡ false) → (m : ℕ) → item x m ≡ bar b → ⊥
 
 module _ (l : Level) (k : Program) (w : Lawful k) (bytes : List ℕ) (same : readSheet bytes ≡ sheetLanes l k) (t : ℕ)
   where
@@ -71,8 +59,11 @@ module _ (l : Level) (k : Program) (w : Lawful k) (bytes : List ℕ) (same : rea
     lane-read =
         ap (λ x. getD x t []) same ∙ List·getD-map sheet (placedLanes l k) t [] ∙ ap sheet (lane-placed k l t)
 
+    abbrev placed-items : List Item
+    placed-items = itemsOf (stepOf (volatileIn k)) ps
+
     -- it is the placed lane
-    lane-placed-so : laneItems (volatileIn k) bytes t ≡ itemsOf (stepOf (volatileIn k)) ps
+    lane-placed-so : laneItems (volatileIn k) bytes t ≡ placed-items
     lane-placed-so = ap (items (volatileIn k)) lane-read ∙ items-placed (volatileIn k) ps
 
     sentence : (b : Barrier) → Sentence chain b (stands chain b)
@@ -86,25 +77,21 @@ module _ (l : Level) (k : Program) (w : Lawful k) (bytes : List ℕ) (same : rea
     stand : (p : ℕ) → p < length ps → barriersAt ps p ≡ keptBefore l (volatileIn k) ops p
     stand p i = placed-before l (volatileIn k) ops p
 
-    lane-covered : Covered l k bytes t (laneItems (volatileIn k) bytes t)
-    lane-covered =
-        subst (Covered l k bytes t) (sym lane-placed-so) (λ b m n π pair.
-        elim (items-meet (stepOf (volatileIn k)) ps (stands chain) placed-sentence (keepsAt l ops) stand b m n π pair) [
-          | inl y ↦ inl y
-          | inr y ↦ inr (y .0, y .1, left-out l k bytes t lane-read sentence b (y .0) (y .2))
-        ])
+    -- placement's theorems on it
+    lane-left : (b : Barrier) (x : ℕ)
+        → PlacedLeftOut ps (stands chain) (keepsAt l ops) b x ↔ LeftOut l k bytes t b x
+    lane-left b x = (left-out l k bytes t lane-read sentence b x, placed-left-out l k bytes t lane-read sentence b x)
 
-    lane-needed : Needed l k bytes t (laneItems (volatileIn k) bytes t)
-    lane-needed =
-        subst (Needed l k bytes t) (sym lane-placed-so) (λ b m e.
-        let a = items-alone (stepOf (volatileIn k)) ps (stands chain) placed-sentence (keepsAt l ops) stand b m e in
-        (a .0, λ y on out. a .1 y on (placed-left-out l k bytes t lane-read sentence b y out)))
+    lane-meets : (b : Barrier) (m n : ℕ) (π : Path (NextItem placed-items) m n) → ItemPair placed-items b m n
+        → Meets (stepOf (volatileIn k)) ps (stands chain) (keepsAt l ops) b π
+    lane-meets = items-meet (stepOf (volatileIn k)) ps (stands chain) placed-sentence (keepsAt l ops) stand
 
-    lane-absent : Absent l (laneItems (volatileIn k) bytes t)
-    lane-absent =
-        subst (Absent l) (sym lane-placed-so) (λ b h m e.
-        let x = items-kept (stepOf (volatileIn k)) ps (stands chain) placed-sentence (keepsAt l ops) stand b m e in
-        true≢false (sym (x .1) ∙ h (operationAt ops (x .0))))
+    lane-needed : (b : Barrier) (m : ℕ) → item placed-items m ≡ bar b
+        → Needed (stepOf (volatileIn k)) ps (stands chain) (keepsAt l ops) b m
+    lane-needed = items-needed (stepOf (volatileIn k)) ps (stands chain) placed-sentence (keepsAt l ops) stand
+
+    lane-bars : (b : Barrier) (m : ℕ) → item placed-items m ≡ bar b → (p : ℕ) × (keepsAt l ops b p ≡ true)
+    lane-bars = items-kept (stepOf (volatileIn k)) ps (stands chain) placed-sentence (keepsAt l ops) stand
 
     lane-kept : (p : ℕ) → barriersBefore (laneOf bytes t) p ≡ keptBefore l (volatileIn k) ops p
     lane-kept p = ap (λ x. barriersBefore x p) lane-read ∙ lane-before l (volatileIn k) ops p
@@ -118,9 +105,17 @@ module _ (l : Level) (k : Program) (w : Lawful k) (bytes : List ℕ) (same : rea
 sheet-demand2 : (l : Level) (k : Program) → Lawful k → (bytes : List ℕ) → readSheet bytes ≡ sheetLanes l k
     → Demand2 l k bytes
 sheet-demand2 l k w bytes same = record {
-  covered = lane-covered l k w bytes same;
-  needed = lane-needed l k w bytes same;
-  absent = lane-absent l k w bytes same;
+  covered = λ t. rw (lane-placed-so l k w bytes same t) (λ b m n π pair.
+      elim (lane-meets l k w bytes same t b m n π pair) [
+        | inl y ↦ inl y
+        | inr y ↦ inr (y .0, y .1, lane-left l k w bytes same t b (y .0) .0 (y .2))
+      ]);
+  needed = λ t. rw (lane-placed-so l k w bytes same t) (λ b m e.
+      let a = lane-needed l k w bytes same t b m e in
+      (a .0, λ y on out. a .1 y on (lane-left l k w bytes same t b y .1 out)));
+  absent = λ t b h. rw (lane-placed-so l k w bytes same t) (λ m e.
+      let x = lane-bars l k w bytes same t b m e in
+      true≢false (sym (x .1) ∙ h (operationAt (kernelLane k t) (x .0))));
 }
 
 sheet-placement : (l : Level) (k : Program) → Lawful k → (bytes : List ℕ) → readSheet bytes ≡ sheetLanes l k

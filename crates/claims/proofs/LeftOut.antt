@@ -1,18 +1,14 @@
 -- A barrier is left out of a lane of a sheet, as the claims say it, exactly where it is as placement's theorems say it:
 -- theorems `left-out` and `placed-left-out`.
 use mathlib.Core.Path.{_≡_, sym, ap, _∙_}
-use mathlib.Core.Bool.{true, false, true≢false}
+use mathlib.Core.Bool.{true, false}
 use mathlib.Core.List.{List}
-use mathlib.Core.Logic.{inl, inr}
 use mathlib.Core.Option.{some}
 use Prim.Native.Nat.{ℕ, _<_}
-use native.Mathlib.Omega.{arith}
-use lib.ListN.{length, getElem?, length-map}
-use Rattle.laws.proofs.Numbers.{lt-or-le}
+use lib.ListN.{length, getElem?}
 use Rattle.file_format.specs.declared.accepted.Op.{Op}
 use Rattle.file_format.specs.Accepted.{Program}
 use Rattle.barrier_placement.specs.declared.cookbook.Barrier.{Barrier}
-use Rattle.barrier_placement.specs.Steps.{stepOf}
 use Rattle.barrier_placement.specs.Place.{stands}
 use Rattle.barrier_placement.specs.Sentence.{Sentence}
 use Rattle.barrier_placement.specs.Layout.{Placed, operations, start, opAt}
@@ -22,8 +18,7 @@ use Rattle.sheet_format.specs.Layout.{op, aim, sheet, rank}
 use Rattle.sheet_format.specs.declared.Level.{Level}
 use Rattle.sheet_format.specs.Levels.{keeps, placed, volatileIn}
 use Rattle.sheet_format.specs.Items.{operationAt, keepsAt}
-use Rattle.sheet_format.proofs.PlacedLanes.{placed-operations, placed-count}
-use Rattle.sheet_format.proofs.Before.{stands-none}
+use Rattle.sheet_format.proofs.PlacedLanes.{placed-operations}
 use Rattle.sheet_format.proofs.Laws.Aim.{keeps-aim}
 use Rattle.claims.specs.Claims.{laneOf, kernelLane, chainOf, LeftOut}
 use Rattle.claims.proofs.Laws.Sheets.{rank-op, op-fetched, op-located}
@@ -50,29 +45,21 @@ module _ (l : Level) (k : Program) (bytes : List ℕ) (t : ℕ)
   ranked : (p : ℕ) → p < length ps → rank (laneOf bytes t) (opAt ps p) ≡ p
   ranked p h = ap (λ is. rank is (opAt ps p)) read ∙ rank-op (start ps) ps p h
 
-  stands-inside : (b : Barrier) (p : ℕ) → stands (chainOf k t) b p ≡ true → p < length ps
-  stands-inside b p h = elim (lt-or-le p (length ps)) [
-    | inl i ↦ i
-    | inr i ↦ absurd (true≢false (sym h ∙ stands-none (chainOf k t) b p
-        (omega (arith, placed-count l (volatileIn k) ops, length-map ops (stepOf (volatileIn k))))))
-  ]
-
   module _ (b : Barrier) (x : ℕ) where
     pub left-out : PlacedLeftOut ps (stands (chainOf k t)) (keepsAt l ops) b x → LeftOut l k bytes t b x
-    left-out (p, here, standing, dropped) =
-        let inside = stands-inside b p standing in record {
-          operation = aim (start ps) (operationAt ops p);
-          here = ap (getElem? (laneOf bytes t)) here ∙ fetched p inside;
-          put = (
-            stands (chainOf k t) b,
-            sentence b,
-            ap (stands (chainOf k t) b) (ap (rank (laneOf bytes t)) here ∙ ranked p inside) ∙ standing,
-          );
-          dropped = keeps-aim l (start ps) (operationAt ops p) b ∙ dropped;
-        }
+    left-out (p, inside, here, standing, dropped) = record {
+      operation = aim (start ps) (operationAt ops p);
+      here = ap (getElem? (laneOf bytes t)) here ∙ fetched p inside;
+      put = (
+        stands (chainOf k t) b,
+        sentence b,
+        ap (stands (chainOf k t) b) (ap (rank (laneOf bytes t)) here ∙ ranked p inside) ∙ standing,
+      );
+      dropped = keeps-aim l (start ps) (operationAt ops p) b ∙ dropped;
+    }
 
     pub placed-left-out : LeftOut l k bytes t b x → PlacedLeftOut ps (stands (chainOf k t)) (keepsAt l ops) b x
-    placed-left-out y = (p, f .2, standing, sym (keeps-aim l (start ps) (operationAt ops p) b) ∙ dropped)
+    placed-left-out y = (p, f .1, f .2, standing, sym (keeps-aim l (start ps) (operationAt ops p) b) ∙ dropped)
       where
         f : (p : ℕ) × (p < length ps) × (x ≡ opAt ps p)
         f = op-located ps x (y .operation) (ap (λ is. getElem? is x) (sym read) ∙ y .here)
