@@ -3,7 +3,7 @@
  * A kernel file, a schedule and an output buffer are each a pointer and a length in bytes. A pointer is never NULL,
  * also where the length is 0. The buffers of one call do not overlap. A call keeps no pointer and needs no memory but
  * stack: measured on x86-64 and the longest kernel, lanes_lower1 and lanes_lower2 5,136 bytes, lanes_run_source 12,344
- * and lanes_run_tso 14,352.
+ * and lanes_run_tso 14,336.
  *
  * Answer: a success is the number of bytes written, below 2^32. A refusal is number * 2^32 + record, the record being
  * 0 where none is named. After a refusal the output buffer is as it was; after a success the bytes behind the result
@@ -49,7 +49,8 @@ uint64_t lanes_lower2(const uint8_t *kernel, size_t kernel_len, uint8_t *sheet, 
 
 /* A schedule run from the start, on the source machine over the kernel and on the tso machine over its level 2 sheet. A
  * move is two bytes: the lane, then the choice, of which 0 carries out the lane's next instruction and k commits its
- * k-th oldest pending entry. `state` receives the state record at the end. */
+ * k-th oldest pending entry. `state` receives the state record at the end. Its first byte is 1 where the run is
+ * finished: every lane stands at its end and nothing is pending, so that no further move changes its memory. */
 uint64_t lanes_run_source(const uint8_t *kernel, size_t kernel_len, const uint8_t *moves, size_t moves_len,
                           uint8_t *state, size_t state_len);
 uint64_t lanes_run_tso(const uint8_t *kernel, size_t kernel_len, const uint8_t *moves, size_t moves_len,

@@ -120,6 +120,10 @@ fault 'the 64th entry does not commit' $machine 's/.get(index) else/.get(index).
 fault 'done and waited exchanged' $machine \
     's/record(done, moves.len() as u64 - done,/record(moves.len() as u64 - done, done,/'
 fault 'finished always' $machine 's/= finished.into();/= u8::from(finished) | 1;/'
+fault 'finished with stores pending' $machine 's/lane.first == lane.last \&\& lane.position/lane.position/'
+fault 'drained looked for in lane 0 only' $machine \
+    's/lane.first == lane.last/self.lanes[0].first == self.lanes[0].last/'
+fault 'finished wherever nothing is pending' $machine 's/ \&\& lane.position == part.len()//'
 fault 'bytes of the state left as they were' $machine 's/state.fill(0);//'
 fault 'a release frees no lock' $machine 's/& 3)\] = 0,/\& 3)] \&= 255,/'
 fault 'the upper half of a count left zero' $machine \

@@ -1,4 +1,5 @@
-//! Tests: runs written by hand from paper 01's machine sentences, and its examples of outcomes.
+//! Tests: runs written by hand from paper 01's machine sentences, its examples of outcomes, and request 2 of paper 02,
+//! "a run is finished when every lane stands at its end and nothing is pending".
 
 use reference::litmus::assembler::assemble;
 use reference::slow::machines::{Machine, Program};
@@ -52,10 +53,10 @@ fn both_zero_in_store_buffering() {
 #[test]
 fn the_state_record() {
     let file = kernel("x y", "{}", "r0=1; x=r0; r1=y ‖ lock l1; unlock l1");
-    // lane 0 carries out all, lane 1 takes lock 1 and appends its release; one more move of each waits
+    // lane 0 carries out all, lane 1 takes lock 1 and appends its release; one more move of each waits;
+    // byte 0 is 0, for an entry of each is pending
     let state = state(TSO, &file, &[[0, 0], [0, 0], [1, 0], [1, 0], [0, 0], [0, 0], [1, 0]]);
     let mut expected = vec![0; STATE];
-    expected[0] = 1;
     expected[4..8].copy_from_slice(&[0, 2, 0, 0]);
     (expected[8], expected[16]) = (5, 2);
     expected[88..96].copy_from_slice(&[3, 0, 1, 0, 1, 0, 0, 0]);
@@ -126,10 +127,69 @@ fn skips_and_sums() {
     }
 }
 
+/// Byte 0 on both machines, which have to agree.
+fn finished(file: &[u8], moves: &[[u8; 2]]) -> u8 {
+    let [source, tso] = [SOURCE, TSO].map(|runs| state(runs, file, moves)[0]);
+    assert_eq!(source, tso);
+    source
+}
+
 #[test]
-fn an_empty_run() {
-    assert_eq!(state(SOURCE, &kernel("x", "{}", ""), &[])[0], 1);
-    assert_eq!(state(TSO, &kernel("x", "{}", "r0=1"), &[])[0], 0);
+fn the_empty_run_of_an_empty_kernel_is_finished() {
+    assert_eq!(finished(&kernel("x", "{}", ""), &[]), 1);
+    assert_eq!(finished(&kernel("x", "{}", " ‖  ‖  ‖ "), &[]), 1);
+}
+
+#[test]
+fn a_store_pending_at_the_end_is_not_finished_until_its_commit() {
+    let file = kernel("x", "{}", "x=5; x=6");
+    let moves = [[0, 0], [0, 0], [0, 0], [0, 0], [0, 1], [0, 1]];
+    let ends = [4, 5, 6].map(|count| finished(&file, &moves[..count]));
+    assert_eq!(ends, [0, 0, 1]);
+    // memory as a viewer would draw it at each of the three
+    let drawn = [4, 5, 6].map(|count| memory(&state(TSO, &file, &moves[..count]), 0));
+    assert_eq!(drawn, [0, 5, 6]);
+}
+
+#[test]
+fn not_finished_while_one_lane_alone_has_a_store_pending() {
+    let file = kernel("x", "{}", "x=r0 ‖ x=r0 ‖ x=r0 ‖ x=r0");
+    let (ended, committed) = ([[0, 0], [1, 0], [2, 0], [3, 0]], [[0, 1], [1, 1], [2, 1], [3, 1]]);
+    for lane in 0..4 {
+        let others = committed.iter().filter(|[own, _]| *own != lane);
+        let moves: Vec<_> = ended.iter().chain(others).copied().collect();
+        assert_eq!(finished(&file, &moves), 0);
+        assert_eq!(finished(&file, &[&moves[..], &[[lane, 1]]].concat()), 1);
+    }
+}
+
+#[test]
+fn drained_but_not_at_its_end_is_not_finished() {
+    assert_eq!(finished(&kernel("x", "{}", "r0=1"), &[]), 0);
+    let file = kernel("x", "{}", "x=r0; r1=1 ‖ x=r0");
+    let moves = [[0, 0], [1, 0], [0, 1], [1, 1], [0, 0]];
+    assert_eq!((finished(&file, &moves[..4]), finished(&file, &moves)), (0, 1));
+}
+
+#[test]
+fn a_pending_release_counts_as_pending() {
+    let file = kernel("x", "{}", "lock l; unlock l");
+    let moves = [[0, 0], [0, 0], [0, 1]];
+    assert_eq!((finished(&file, &moves[..2]), finished(&file, &moves)), (0, 1));
+}
+
+/// The starred row with mask 1, by a schedule: both zero is possible.
+#[test]
+fn both_zero_in_store_buffering_finished_by_its_commits() {
+    let file = kernel("x y", "{x}", "r0=1; x=r0; r1=y ‖ r0=1; y=r0; r1=x");
+    let moves = [[0, 0], [0, 0], [0, 0], [1, 0], [1, 0], [1, 0], [0, 1], [1, 1]];
+    for runs in [SOURCE, TSO] {
+        for (count, finished) in [(6, 0), (7, 0), (8, 1)] {
+            let end = state(runs, &file, &moves[..count]);
+            assert_eq!((counts(&end), end[0]), ((count as u8, 0), finished));
+            assert_eq!((register(&end, 0, 1), register(&end, 1, 1)), (0, 0));
+        }
+    }
 }
 
 #[test]

@@ -49,7 +49,7 @@ counts-legal m k mvs = go (legal (length (k .lanes)) (limit m) mvs) refl
     go false h = refl
 
 -- a legal schedule whose run is not refused
-answered : (m : Machine) (k : Program) (mvs : List Move) (r : Run) → legal (length (k .lanes)) (limit m) mvs ≡ true
+pub answered : (m : Machine) (k : Program) (mvs : List Move) (r : Run) → legal (length (k .lanes)) (limit m) mvs ≡ true
     → runOn m k mvs ≡ ran r
     → runProgram m k mvs ≡ answerOf (programFor m k) (k .records) (startOf k) (ran r)
 answered m k mvs r le e = rw (le, e)

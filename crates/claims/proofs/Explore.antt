@@ -17,7 +17,7 @@ use Rattle.machine_spec.specs.Step.{Turn, waits, refuses, passes, does}
 use Rattle.machine_spec.specs.Schedule.{Move, move, legal}
 use Rattle.machine_spec.specs.State.{State, Run, Outcome, ran, refused, laneAt, setLane, applyTurn, moveTurn, run}
 use Rattle.machine_spec.specs.View.{every}
-use Rattle.claims.proofs.Laws.Bools.{every-at}
+use Rattle.machine_spec.proofs.Laws.Every.{every-at}
 
 -- after a refusal nothing changes
 abbrev pub GoodOut : (State → Bool) → Outcome → Type 0

@@ -1,5 +1,5 @@
--- What is proved of whole kernels and whole runs. Theorem has `claims`, the one theorem; Demand2 and Demand3 put its
--- parts together. Each other file is named after what it shows.
+-- What is proved of whole kernels and whole runs. Theorem has `claims`, the one theorem; Demand2, Demand3 and Over put
+-- its parts together. Each other file is named after what it shows.
 
 -- small laws by subject
 pub mod Laws
@@ -32,6 +32,7 @@ pub mod KernelLanes
 pub mod LeftOut
 pub mod Demand2
 pub mod Demand3
+pub mod Over
 pub mod Theorem
 -- a computed search over the states of a small kernel, for the examples
 pub mod Explore

@@ -20,7 +20,7 @@ use Rattle.machine_spec.specs.View.{endedAt, finished, observe, saw}
 use Rattle.claims.specs.Schedules.{keep, keepMove, sourceSchedule}
 use Rattle.claims.proofs.Fenced.{AllFenced, kernelProgram, sheetProgram}
 use Rattle.claims.proofs.Laws.Lanes.{set-lane-own, set-lane-count, set-lane-both, start-each}
-use Rattle.claims.proofs.Laws.Bools.{every-ext}
+use Rattle.machine_spec.proofs.Laws.Finished.{finished-same}
 use Rattle.claims.proofs.Laws.Sheets.{rank-cells, ended-cells}
 use Rattle.claims.proofs.Stands.{Stands}
 use Rattle.claims.proofs.OpAgrees.{Agrees, wait, refuse, passed-by, act}
@@ -137,7 +137,10 @@ module _ (m : Model) (vol : ℕ → Bool) (ks : List (List (Placed Op))) where
       (sym (ended-cells (start (getD ks t [])) (getD ks t []) (posAt a t) (st .passed) (st .within)))
 
   same-finish : (a b : State) → Follows m vol ks a b → finished (kernelProgram ks) a ≡ finished (sheetProgram ks) b
-  same-finish a b h = simp length-map (every-ext (length ks) (same-end a b h))
+  same-finish a b h =
+      finished-same (kernelProgram ks) (sheetProgram ks) a b
+      (length-map ks (λ ps. map op (operations ps)) ∙ sym (length-map ks sheet)) (h .count) (same-end a b h)
+      (λ t. h .lanes t .pending)
 
   -- what is compared is the same
   pub observed : (o o′ : Outcome) → Matched m vol ks o o′ → observe (kernelProgram ks) o ≡ observe (sheetProgram ks) o′

@@ -7,6 +7,7 @@ use Rattle.file_verdict.specs.Verdict.{accepted, verdict}
 use Rattle.claims.specs.Claims.{Claims}
 use Rattle.claims.proofs.Demand2.{records, demand2, placement, codes, whole, bytes}
 use Rattle.claims.proofs.Demand3.{demand3, runs, bounds}
+use Rattle.claims.proofs.Over.{over}
 
 pub claims : (s : List ℕ) (k : Program) → verdict s ≡ accepted k → Claims s k
 claims s k e = record {
@@ -17,6 +18,7 @@ claims s k e = record {
   whole = whole s k e;
   bytes = bytes s k e;
   demand3 = demand3 s k e;
+  over = over s k e;
   runs = runs s k e;
   bounds = bounds s k e;
 }

@@ -1,9 +1,9 @@
--- What is claimed of every kernel file that is accepted: that each record belongs to one lane, demands 2 and 3, that
--- number 11 is never met, and the bounds of sheets and states. The last record, `Claims`, has all of it, and
--- proofs/Theorem.antt proves it. A line `name: meaning` tells what a name of another file means.
+-- What is claimed of every kernel file that is accepted: that each record belongs to one lane, demands 2 and 3, that a
+-- finished run is over, that number 11 is never met, and the bounds of sheets and states. The last record, `Claims`,
+-- has all of it, and proofs/Theorem.antt proves it. A line `name: meaning` tells what a name of another file means.
 use mathlib.Core.Path.{_≡_}
 use mathlib.Core.Bool.{Bool, true, false, _&&_}
-use mathlib.Core.List.{List, [], _∷_, map}
+use mathlib.Core.List.{List, [], _∷_, _++_, map}
 use mathlib.Core.Logic.{_⊎_, _↔_}
 use mathlib.Core.Option.{none, some}
 use Prim.Native.Nat.{ℕ, _≤_, _<_}
@@ -27,11 +27,12 @@ use Rattle.sheet_format.specs.Read.{readSheet}
 use Rattle.sheet_format.specs.Items.{items, operationAt}
 use Rattle.sheet_format.specs.Codes.{Code, codesIn}
 use Rattle.sheet_format.specs.Before.{barriersBefore, standsBefore}
+use Rattle.machine_spec.specs.declared.Machine.{Machine}
 use Rattle.machine_spec.specs.declared.Machine.the-variants.{Source, Target}
 use Rattle.machine_spec.specs.declared.Model.the-variants.{Tso}
 use Rattle.machine_spec.specs.Schedule.{Move, limit, legal}
 use Rattle.machine_spec.specs.State.{State, begin}
-use Rattle.machine_spec.specs.Run.{Answer, startOf, programFor, runSource, runTso, shown, countsAs}
+use Rattle.machine_spec.specs.Run.{Answer, startOf, programFor, runBy, runSource, runTso, shown, countsAs}
 use Rattle.machine_spec.specs.Shape.{Shaped, Within}
 use Rattle.claims.specs.Schedules.{sourceSchedule, targetSchedule}
 use Rattle.claims.specs.Stuck.{Stuck, AllHalted}
@@ -182,9 +183,18 @@ pub record Demand3 (s : List ℕ) (k : Program) : Type 0 where
   -- each source run that goes straight to memory has a tso run that shares what is compared
   pub direct : (mvs : List Move) → Direct k mvs → Shares (runSource s (countsAs Source k mvs)) (runTso s (tsoFor k mvs))
 
--- ## number 11
+-- ## finished
 
+-- runBy m s (verdict s) mvs: the answer of machine m; `.finished`: every lane stands at its end and nothing is pending
 -- legal: each move names a lane below T and a choice up to the machine's limit, so that 10 does not refuse
+
+-- a finished run is over: with whatever moves behind it, all that is compared stays, and so does the memory read then
+abbrev pub Over : List ℕ → Program → Type 0
+Over s k = (m : Machine) (mvs more : List Move) → legal (length (k .lanes)) (limit m) more ≡ true
+    → runBy m s (verdict s) mvs .finished ≡ true
+    → shown (runBy m s (verdict s) (mvs ++ more)) ≡ shown (runBy m s (verdict s) mvs)
+
+-- ## number 11
 
 -- a schedule that is not refused with 10 runs to its end: no run meets an UNLOCK whose lock its lane does not hold
 pub record Runs (s : List ℕ) (k : Program) : Type 0 where
@@ -240,5 +250,6 @@ pub record Claims (s : List ℕ) (k : Program) : Type 0 where
   -- and every byte of it is a byte
   pub bytes : Fitting (λ l buffer. (i : ℕ) → i < length (sheetBytes l k) → getD (lowered l s buffer) i 0 < 256) k
   pub demand3 : Demand3 s k
+  pub over : Over s k
   pub runs : Runs s k
   pub bounds : Bounds s k

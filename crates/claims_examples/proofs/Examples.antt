@@ -33,6 +33,7 @@ unfolding table refusalOf structureThen fieldsThen headerRule headRule badRecord
     digits decimal instrText lineOf firstLine onesIn ones laneLines sheetLines listing
 examples =
     refl ▸ refl ▸ refl ▸ refl ▸ never-on-tso ▸ never-on-source
+    ▸ refl ▸ refl ▸ refl ▸ refl ▸ refl ▸ refl
     ▸ refl ▸ refl ▸ refl ▸ refl
     ▸ refl ▸ refl ▸ refl ▸ refl ▸ refl ▸ refl ▸ refl ▸ refl ▸ refl
     ▸ refl ▸ refl ▸ refl ▸ refl ▸ refl

@@ -35,8 +35,8 @@ pub data Example : Type 0 where
   shows : Level → (kernel : List ℕ) → List (ℕ × ℕ) → Example
   -- a sheet of so many bytes
   fills : Level → (kernel : List ℕ) → (size : ℕ) → Example
-  -- the schedule is carried out and finishes, with these values of register 1, lane after lane
-  ends : Machine → (kernel : List ℕ) → List Move → List ℕ → Example
+  -- the schedule is carried out and finishes, or does not, with these values of register 1, lane after lane
+  ends : Machine → (kernel : List ℕ) → List Move → (finished : Bool) → List ℕ → Example
   -- the schedule leaves this state record
   leaves : Machine → (kernel : List ℕ) → List Move → (bytes : List ℕ) → Example
   -- no schedule finishes with register 1 zero in every lane
@@ -84,8 +84,8 @@ Holds (writes l s b) = lowerBy l (verdict s) (output (length b + 1)) ≡ (Wrote 
 Holds (prints s x) = printed s ≡ x
 Holds (shows l s is) = instructions (lowerBy l (verdict s) (output 100)) ≡ is
 Holds (fills l s n) = lowerBy l (verdict s) (output n) .0 ≡ Wrote n
-Holds (ends m s mvs rs) =
-    endOf (runBy m s (verdict s) mvs) ≡ record { number = 0; finished = true; values = rs }
+Holds (ends m s mvs f rs) =
+    endOf (runBy m s (verdict s) mvs) ≡ record { number = 0; finished = f; values = rs }
 Holds (leaves m s mvs b) = stateBytes (runBy m s (verdict s) mvs) ≡ b
 Holds (never m s) = (mvs : List Move) → endsAllZero (runBy m s (verdict s) mvs) ≡ false
 
@@ -96,8 +96,16 @@ pub data Each : List Example → Type 0 where
   _▸_ : {e : Example} {es : List Example} → Holds e → Each es → Each (e ∷ es)
 
 -- both lanes load before either store is committed
+abbrev bothLoad : List Move
+bothLoad = move 0 0 ∷ move 0 0 ∷ move 0 0 ∷ move 1 0 ∷ move 1 0 ∷ move 1 0 ∷ []
+
+-- and then both stores are
 abbrev race : List Move
-race = move 0 0 ∷ move 0 0 ∷ move 0 0 ∷ move 1 0 ∷ move 1 0 ∷ move 1 0 ∷ []
+race = bothLoad ++ move 0 1 ∷ move 1 1 ∷ []
+
+-- lane t: SET, STORE and its commit, MFENCE where there is one, LOAD; the source machine waits at the end of the lane
+abbrev straight : ℕ → List Move
+straight t = move t 0 ∷ move t 0 ∷ move t 1 ∷ move t 0 ∷ move t 0 ∷ []
 
 -- instructions without a constant or position
 abbrev codes : List ℕ → List (ℕ × ℕ)
@@ -132,11 +140,19 @@ table =
     -- it never finishes with register 1 zero in both lanes
     ∷ never (Target Tso) (storeBuffering 3)
     ∷ never Source (storeBuffering 3)
+    -- but with other values
+    ∷ ends (Target Tso) (storeBuffering 3) (straight 0 ++ straight 1) true (0 ∷ 1 ∷ [])
+    ∷ ends Source (storeBuffering 3) (straight 0 ++ straight 1) true (0 ∷ 1 ∷ [])
     -- mask 1 instead: no barrier at either level; both zero is possible on both machines
     ∷ shows Level1 (storeBuffering 1) ((1, 1) ∷ (4, 0) ∷ (3, 0) ∷ (1, 1) ∷ (4, 0) ∷ (3, 0) ∷ [])
     ∷ shows Level2 (storeBuffering 1) ((1, 1) ∷ (4, 0) ∷ (3, 0) ∷ (1, 1) ∷ (4, 0) ∷ (3, 0) ∷ [])
-    ∷ ends Source (storeBuffering 1) race (0 ∷ 0 ∷ [])
-    ∷ ends (Target Tso) (storeBuffering 1) race (0 ∷ 0 ∷ [])
+    ∷ ends Source (storeBuffering 1) race true (0 ∷ 0 ∷ [])
+    ∷ ends (Target Tso) (storeBuffering 1) race true (0 ∷ 0 ∷ [])
+    -- of paper 02, job 2: a run with stores pending is not finished; the empty kernel's empty run is
+    ∷ ends Source (storeBuffering 1) bothLoad false (0 ∷ 0 ∷ [])
+    ∷ ends (Target Tso) (storeBuffering 1) bothLoad false (0 ∷ 0 ∷ [])
+    ∷ ends Source (lane []) [] true (0 ∷ [])
+    ∷ ends (Target Tso) (lane []) [] true (0 ∷ [])
     -- PS, VS: SS at level 1, nothing at level 2
     ∷ shows Level1 (lane (PS ∷ VS ∷ [])) (codes (4 ∷ 13 ∷ 4 ∷ []))
     ∷ shows Level2 (lane (PS ∷ VS ∷ [])) (codes (4 ∷ 4 ∷ []))

@@ -1,4 +1,5 @@
--- A kernel of one lane through each of the four calls, by computation from its bytes.
+-- A kernel of one lane through each of the four calls, and runs of one that ends with a STORE, by computation from
+-- their bytes.
 use Prim.Native.Nat.{ℕ, _*_, _^_}
 use mathlib.Core.Path.{_≡_, refl}
 use mathlib.Core.List.{List, [], _∷_, _++_, map}
@@ -30,6 +31,14 @@ kernel =
     ∷ 5 ∷ 0 ∷ 0 ∷ 0 ∷ 0 ∷ 0 ∷ 0 ∷ 0 ∷ 0 ∷ 0 ∷ 4 ∷ 0
     ∷ 6 ∷ 0 ∷ 0 ∷ 0 ∷ 0 ∷ 0 ∷ 0 ∷ 0 ∷ 0 ∷ 0 ∷ 5 ∷ 0
     ∷ 3 ∷ 3 ∷ 1 ∷ 0 ∷ 0 ∷ 0 ∷ 0 ∷ 0 ∷ 0 ∷ 0 ∷ 0 ∷ 0
+    ∷ []
+
+-- one lane and one location: SET 2 to 258, STORE 2 to location 0
+storing : List ℕ
+storing =
+    1 ∷ 1 ∷ 0 ∷ 0 ∷ 0 ∷ 0 ∷ 2 ∷ 0 ∷ 1 ∷ 0 ∷ 0 ∷ 0 ∷ 0 ∷ 0 ∷ 0 ∷ 0
+    ∷ 1 ∷ 2 ∷ 0 ∷ 0 ∷ 2 ∷ 1 ∷ 0 ∷ 0 ∷ 0 ∷ 0 ∷ 2 ∷ 0
+    ∷ 4 ∷ 2 ∷ 0 ∷ 0 ∷ 0 ∷ 0 ∷ 0 ∷ 0 ∷ 0 ∷ 0 ∷ 0 ∷ 0
     ∷ []
 
 -- an output buffer of n bytes, none of them zero
@@ -72,6 +81,20 @@ upToUnlock = 0 ∷ 0 ∷ 0 ∷ 0 ∷ 0 ∷ 0 ∷ 0 ∷ 1 ∷ 0 ∷ 0 ∷ 0 ∷ 0
 -- what it leaves: lane 0 holds its lock, and the release is pending
 abbrev releasing : List ℕ
 releasing = counted 0 1 5 1 ++ memory ++ laneRecord (4 ∷ 0 ∷ []) (1 ∷ 0 ∷ []) registers (2 ∷ replicate 7 0)
+
+-- SET and STORE, and what they leave: the lane stands at its end, and its store is pending
+abbrev upToStore : List ℕ
+upToStore = 0 ∷ 0 ∷ 0 ∷ 0 ∷ []
+
+abbrev stored : List ℕ
+stored =
+    counted 0 0 2 0 ++ replicate 64 0
+    ++ laneRecord (2 ∷ 0 ∷ []) (1 ∷ 0 ∷ []) registers (1 ∷ 0 ∷ 0 ∷ 0 ∷ 2 ∷ 1 ∷ 0 ∷ 0 ∷ [])
+
+-- after the commit
+abbrev committed : List ℕ
+committed =
+    counted 1 0 3 0 ++ 2 ∷ 1 ∷ replicate 62 0 ++ laneRecord (2 ∷ 0 ∷ []) (0 ∷ 0 ∷ []) registers (replicate 8 0)
 
 -- at the start, with one move that waited
 abbrev oneWaited : List ℕ
@@ -132,6 +155,14 @@ calls =
         after = counted 1 0 8 2 ++ memory ++ laneRecord (6 ∷ 0 ∷ []) (0 ∷ 0 ∷ []) loaded (replicate 8 0);
       },
     )
+    -- a lane at its end with a pending store is not finished; after the commit it is
+    ∷ (called (callRunSource storing upToStore (output 2280)), record { answer = 2280; after = stored })
+    ∷ (called (callRunTso storing upToStore (output 2280)), record { answer = 2280; after = stored })
+    ∷ (
+      called (callRunSource storing (upToStore ++ 0 ∷ 1 ∷ []) (output 2280)),
+      record { answer = 2280; after = committed },
+    )
+    ∷ (called (callRunTso storing (upToStore ++ 0 ∷ 1 ∷ []) (output 2280)), record { answer = 2280; after = committed })
     -- a store that is pending: location 1, value 258
     ∷ (
       called (callRunTso kernel (0 ∷ 0 ∷ 0 ∷ 0 ∷ []) (output 2280)),
@@ -150,5 +181,5 @@ unfolding refusalOf structureThen fieldsThen headerRule headRule badRecord recor
     lockFault
     position
     opOf opsFrom recordAt faultPosition faultAt conflictBelow heldFrom same stands due dueAfter sheetBytes readSheet
-    movesIn inTurn entriesBytes stateLane headBytes recordOf kernel output calls
+    movesIn inTurn entriesBytes stateLane headBytes recordOf kernel storing output calls
 calls-hold = refl

@@ -9,7 +9,7 @@ ghost use Rattle.machine_course.specs.Returned.{Answers, Fits, Holds};
 ghost use Rattle.machine_state.specs.States.{SHARED, MEMORY, LOCKWORDS, firsts, wordAt, stateIn, Sized};
 use crate::course::Course;
 use machine_lane::lane::Lane;
-use machine_run::judge::ended;
+use machine_run::judge::finished;
 use machine_state::held::take;
 use machine_state::state::COUNTS;
 use machine_state::state::LANES;
@@ -95,8 +95,8 @@ fn end_of(state: &State) -> End
     }
 }
 
-// A refused run is not finished.
-pub(crate) fn finished(x: Course, state: &State) -> bool
+// Whether the answer is finished; that of a refused run is not.
+pub(crate) fn answer_finished(x: Course, state: &State) -> bool
     requires { ⌜ Judged x (now state) ⌝ }
     ensures { λ r. ⌜ ((s : List ℕ) (m : Machine) (mvs : List Move) (rows : List ℕ) → Stands s m mvs rows x
         (now (state .entry))
@@ -106,7 +106,7 @@ pub(crate) fn finished(x: Course, state: &State) -> bool
         return false;
     }
     let count = x.count;
-    ended(state, &count)
+    finished(state, &count)
 }
 
 pub fn finish(x: Course, state: &State) -> Ran
@@ -115,7 +115,7 @@ pub fn finish(x: Course, state: &State) -> Ran
         (now (state .entry))
         → Answers r (answerBy m s mvs)) ⌝ }
 {
-    let finished = finished(x, state);
+    let finished = answer_finished(x, state);
     let end = end_of(state);
     Ran {
         number: x.number,

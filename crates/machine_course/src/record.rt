@@ -9,7 +9,7 @@ ghost use Rattle.machine_spec.specs.declared.Machine.{Machine};
 ghost use Rattle.machine_record.specs.Record.{stateBytes};
 ghost use Rattle.machine_course.specs.Stands.{Stands, Judged, answerBy};
 use crate::course::Course;
-use crate::finish::finished;
+use crate::finish::answer_finished;
 use machine_record::state::write_state;
 use machine_state::state::State;
 
@@ -21,6 +21,6 @@ pub fn write_record(x: Course, state: &State, out: &mut [u8])
         (now (state .entry))
         → now (out .exit) ≡ over (stateBytes (answerBy m s mvs)) (now (out .entry))) ⌝ }
 {
-    let finished = finished(x, state);
+    let finished = answer_finished(x, state);
     write_state(out, finished, x.done, x.waited, state);
 }

@@ -2,4 +2,4 @@
 -- Laws by subject.
 pub mod Runs
 pub mod Legal
-pub mod Ended
+pub mod Finished

@@ -1,4 +1,4 @@
-// Tests of a run: whether refusal 10 lets its schedule through, and whether every lane stands at its end.
+// Tests of a run: whether refusal 10 lets its schedule through, and whether it is finished.
 ghost use mathlib.Core.Path.{_≡_};
 ghost use mathlib.Core.Bool.{_&&_};
 ghost use mathlib.Core.List.{List};
@@ -6,12 +6,13 @@ ghost use Prim.Native.Nat.{_≤_};
 ghost use lib.Dec.{leb, ltb};
 ghost use Rattle.sheet_format.specs.Layout.{Instr};
 ghost use Rattle.machine_spec.specs.Schedule.{legal, limit};
-ghost use Rattle.machine_spec.specs.View.{finished};
+ghost use Rattle.machine_spec.specs.View.{ended, drained, finished};
 ghost use Rattle.machine_spec.specs.Moves.{movesIn};
 ghost use Rattle.machine_state.specs.States.{countOf, stateIn, Sized};
 ghost use Rattle.machine_run.specs.Counts.{Counts};
 use machine_spec::Machine;
 use machine_spec::Model;
+use machine_state::held::count;
 use machine_state::held::position;
 use machine_state::state::COUNTS;
 use machine_state::state::LANES;
@@ -57,7 +58,7 @@ pub fn legal_moves(moves: &[u8], n: usize, limit: u8) -> bool
 pub fn ended(state: &State, count: &[usize; 4]) -> bool
     requires { ⌜ Sized (now state) × (countOf (now state) 0 ≤ 4) ⌝ }
     ensures { λ r. ⌜ ((prog : List (List Instr)) → Counts (countOf (now (state .entry)) 0) (now (count .entry)) prog
-        → r ≡ finished prog (stateIn (now (state .entry)))) ⌝ }
+        → r ≡ ended prog (stateIn (now (state .entry)))) ⌝ }
 {
     let n = wide(state[SHARED][COUNTS][LANES]);
     let mut t = 0;
@@ -68,4 +69,29 @@ pub fn ended(state: &State, count: &[usize; 4]) -> bool
         t += 1;
     }
     true
+}
+
+// Whether nothing is pending in any lane.
+pub fn drained(state: &State) -> bool
+    requires { ⌜ Sized (now state) × (countOf (now state) 0 ≤ 4) ⌝ }
+    ensures { λ r. ⌜ r ≡ drained (stateIn (now (state .entry))) ⌝ }
+{
+    let n = wide(state[SHARED][COUNTS][LANES]);
+    let mut t = 0;
+    while t < n {
+        if count(state, t) != 0 {
+            return false;
+        }
+        t += 1;
+    }
+    true
+}
+
+// Whether a run is finished: each lane stands at its end, and nothing is pending.
+pub fn finished(state: &State, count: &[usize; 4]) -> bool
+    requires { ⌜ Sized (now state) × (countOf (now state) 0 ≤ 4) ⌝ }
+    ensures { λ r. ⌜ ((prog : List (List Instr)) → Counts (countOf (now (state .entry)) 0) (now (count .entry)) prog
+        → r ≡ finished prog (stateIn (now (state .entry)))) ⌝ }
+{
+    ended(state, count) & drained(state)
 }

@@ -1,2 +1,4 @@
 -- Small laws by subject.
 pub mod Moves
+pub mod Every
+pub mod Finished

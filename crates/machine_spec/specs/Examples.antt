@@ -126,6 +126,20 @@ abbrev single : List Op → Program
 single ops =
     record { locations = 1; locks = 1; mask = 0; records = (1 ∷ 2 ∷ 3 ∷ 4 ∷ []) ∷ []; lanes = ops ∷ [] }
 
+abbrev storing : Program
+storing = single (Set 0 1 ∷ Store 0 0 ∷ [])
+
+-- lane 1 stores, and lane 0 does not
+abbrev lane1Stores : Program
+lane1Stores =
+    record {
+      locations = 1;
+      locks = 0;
+      mask = 0;
+      records = (1 ∷ []) ∷ (2 ∷ 3 ∷ []) ∷ [];
+      lanes = (Set 0 1 ∷ []) ∷ (Set 0 1 ∷ Store 0 0 ∷ []) ∷ [];
+    }
+
 record Ran : Type 0 where
   number : ℕ
   rec : ℕ
@@ -204,15 +218,32 @@ runs =
     ∷ (outcome (Target Tso) exchange (move 0 0 ∷ move 0 2 ∷ []), refuse 10 0 (0 ∷ 0 ∷ []) [])
     ∷ (outcome Source exchange (move 0 0 ∷ move 2 0 ∷ []), refuse 10 0 (0 ∷ 0 ∷ []) [])
     ∷ (outcome Source exchange (move 0 0 ∷ move 0 2 ∷ []), ends 1 1 false true [] (0 ∷ 0 ∷ []) [])
-    -- a lane at its end waits; a run is finished although a release is pending, and its lock is held until it commits
+    -- a lane at its end waits; while a release is pending its lock is held, and the run is not finished
     ∷ (
       outcome Source (single (Lock 0 ∷ Unlock 0 ∷ [])) (move 0 0 ∷ move 0 0 ∷ move 0 0 ∷ []),
-      ends 2 1 true false [] (0 ∷ []) (1 ∷ []),
+      ends 2 1 false false [] (0 ∷ []) (1 ∷ []),
     )
     ∷ (
       outcome Source (single (Lock 0 ∷ Unlock 0 ∷ [])) (move 0 0 ∷ move 0 0 ∷ move 0 1 ∷ []),
       ends 3 0 true true [] (0 ∷ []) (0 ∷ []),
     )
+    -- a lane at its end with a pending store is not finished; after its commit it is
+    ∷ (outcome Source storing (move 0 0 ∷ move 0 0 ∷ []), ends 2 0 false false [] (0 ∷ []) (0 ∷ []))
+    ∷ (outcome (Target Tso) storing (move 0 0 ∷ move 0 0 ∷ []), ends 2 0 false false [] (0 ∷ []) (0 ∷ []))
+    ∷ (outcome Source storing (move 0 0 ∷ move 0 0 ∷ move 0 1 ∷ []), ends 3 0 true true [] (1 ∷ []) (0 ∷ []))
+    ∷ (outcome (Target Tso) storing (move 0 0 ∷ move 0 0 ∷ move 0 1 ∷ []), ends 3 0 true true [] (1 ∷ []) (0 ∷ []))
+    -- nothing may be pending in any lane: here it is in lane 1 alone
+    ∷ (
+      outcome Source lane1Stores (move 0 0 ∷ move 1 0 ∷ move 1 0 ∷ []),
+      ends 3 0 false false [] (0 ∷ []) [],
+    )
+    ∷ (
+      outcome Source lane1Stores (move 0 0 ∷ move 1 0 ∷ move 1 0 ∷ move 1 1 ∷ []),
+      ends 4 0 true true [] (1 ∷ []) [],
+    )
+    -- the empty kernel's empty run is finished
+    ∷ (outcome Source (single []) [], ends 0 0 true true [] (0 ∷ []) (0 ∷ []))
+    ∷ (outcome (Target Tso) (single []) [], ends 0 0 true true [] (0 ∷ []) (0 ∷ []))
     -- an UNLOCK of a lock that is not held, by its record
     ∷ (
       outcome Source (single (Set 0 1 ∷ Store 0 0 ∷ Unlock 0 ∷ [])) (move 0 0 ∷ move 0 0 ∷ move 0 0 ∷ move 0 1 ∷ []),

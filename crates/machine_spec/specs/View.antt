@@ -28,9 +28,9 @@ ended prog s = every (length prog) (endedAt prog s)
 abbrev pub drained : State → Bool
 drained s = every (length (s .lanes)) (λ t. isNil (laneAt s t .pending))
 
--- a run is finished when every lane stands at its end
+-- a run is finished when every lane stands at its end and nothing is pending
 abbrev pub finished : List (List Instr) → State → Bool
-finished prog s = ended prog s
+finished prog s = ended prog s && drained s
 
 pub record View : Type 0 where
   pub row : List Loaded

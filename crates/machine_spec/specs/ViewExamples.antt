@@ -38,16 +38,31 @@ abbrev opening : List Move
 opening =
     move 0 0 ∷ move 0 0 ∷ move 0 0 ∷ move 0 0 ∷ move 0 0 ∷ move 1 0 ∷ move 1 0 ∷ move 1 1 ∷ []
 
--- the LOAD of lane 1, and the UNLOCK of lane 0, whose release is pending
-source-shows : shown (runProgram Source kernel (opening ++ move 1 0 ∷ move 0 0 ∷ [])) ≡ record {
+-- the LOAD of lane 1, and the UNLOCK of lane 0
+abbrev ending : List Move
+ending = opening ++ move 1 0 ∷ move 0 0 ∷ []
+
+-- every lane stands at its end; the stores of lane 0 and its release are pending, so the run is not finished
+source-shows : shown (runProgram Source kernel ending) ≡ record {
   row = took 0 4 5 ∷ took 1 2 9 ∷ [];
-  finished = true;
+  finished = false;
   regs = (0 ∷ 5 ∷ 5 ∷ 0 ∷ 0 ∷ 0 ∷ 0 ∷ 0 ∷ []) ∷ (9 ∷ 0 ∷ 0 ∷ 9 ∷ 0 ∷ 0 ∷ 0 ∷ 0 ∷ []) ∷ [];
   memory = 0 ∷ 9 ∷ [];
   locks = 0 ∷ 1 ∷ [];
   pending = (write 0 5 ∷ write 1 5 ∷ release 1 ∷ []) ∷ [] ∷ [];
 }
 source-shows = refl
+
+-- after their commits it is, and memory is another
+finished-shows : shown (runProgram Source kernel (ending ++ move 0 1 ∷ move 0 1 ∷ move 0 1 ∷ [])) ≡ record {
+  row = took 0 4 5 ∷ took 1 2 9 ∷ [];
+  finished = true;
+  regs = (0 ∷ 5 ∷ 5 ∷ 0 ∷ 0 ∷ 0 ∷ 0 ∷ 0 ∷ []) ∷ (9 ∷ 0 ∷ 0 ∷ 9 ∷ 0 ∷ 0 ∷ 0 ∷ 0 ∷ []) ∷ [];
+  memory = 5 ∷ 5 ∷ [];
+  locks = 0 ∷ 0 ∷ [];
+  pending = [] ∷ [] ∷ [];
+}
+finished-shows = refl
 
 -- MFENCE first, which is not counted in the LOAD's place; lane 0 has not ended
 tso-shows : shown (runProgram (Target Tso) kernel (opening ++ move 1 0 ∷ move 1 0 ∷ move 0 1 ∷ [])) ≡ record {

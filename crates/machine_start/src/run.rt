@@ -9,7 +9,7 @@ ghost use Rattle.machine_lane.specs.Lanes.{flags};
 ghost use Rattle.machine_start.specs.Setup.{ProgramIn, Startable, AtStart, Begun, ranInto};
 use machine_lane::flags::flags_of;
 use machine_record::state::write_state;
-use machine_run::judge::ended;
+use machine_run::judge::finished;
 use machine_run::run::Ended;
 use machine_run::run::run_bytes;
 use machine_spec::Machine;
@@ -47,7 +47,7 @@ fn run_lanes(
         // Never reached: no run of an accepted kernel is refused.
         Ended::Refused(_, _) => WriteResult::Refuses(11, 0),
         Ended::Ran(done, waited) => {
-            let finished = ended(state, count);
+            let finished = finished(state, count);
             write_state(out, finished, done, waited, state);
             WriteResult::Wrote(2280)
         }

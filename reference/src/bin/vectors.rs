@@ -13,6 +13,18 @@ use std::{env, fs};
 const FOUR_LANES: &str = "four-lanes";
 const FOUR_LANES_MOVES: &str = include_str!("../../../examples/four-lanes.moves");
 
+const STORE_BUFFERING: &str = "store-buffering-mask-1";
+const LOCK: &str = "lock-hand-over";
+
+/// Examples whose lanes all come to their end: the kernel, the schedule and what its head says, its moves.
+const ENDED: [(&str, &str, &str, &str); 5] = [
+    (STORE_BUFFERING, "both-pending", "a store pending in each", "0 0; 0 0; 0 0; 1 0; 1 0; 1 0"),
+    (STORE_BUFFERING, "one-pending", "a store pending in lane 1", "0 0; 0 0; 0 0; 1 0; 1 0; 1 0; 0 1"),
+    (STORE_BUFFERING, "none-pending", "nothing pending", "0 0; 0 0; 0 0; 1 0; 1 0; 1 0; 0 1; 1 1"),
+    (LOCK, "release-pending", "a release pending in lane 1", "0 0; 0 0; 0 0; 0 0; 0 1; 0 1; 1 0; 1 0; 1 0"),
+    (LOCK, "release-committed", "nothing pending", "0 0; 0 0; 0 0; 0 0; 0 1; 0 1; 1 0; 1 0; 1 0; 1 1"),
+];
+
 /// Rows of the litmus tables, under their first set of volatile locations and under their last.
 const LITMUS: [&str; 12] = ["SB", "MP", "LB", "S", "R", "2+2W", "CoRR", "n5", "WRC", "IRIW", "lock-SB", "SB+mfences"];
 
@@ -82,16 +94,24 @@ fn runs() -> Result<Vec<(String, Vec<u8>, String)>, String> {
             litmus(format!("{name}-volatile.kernel"), row.assembled.file(last));
         }
     }
-    let kernels = examples::kernels();
-    let (name, file) = kernels.into_iter().find(|(name, _)| *name == FOUR_LANES).ok_or("no example of four lanes")?;
-    files.push((format!("{name}.kernel"), file, format!("{name}.moves")));
+    let kernels = BTreeMap::from_iter(examples::kernels());
+    let ended = ENDED.iter().map(|(name, schedule, _, _)| (*name, *schedule));
+    // the four lanes last: tests/examples.sh reads their end from there on
+    for (name, schedule) in ended.chain([(FOUR_LANES, FOUR_LANES)]) {
+        let file = kernels.get(name).ok_or_else(|| format!("no example {name}"))?;
+        files.push((format!("{name}.kernel"), file.clone(), format!("{schedule}.moves")));
+    }
     Ok(files)
 }
 
 /// The texts of schedules by name.
 fn schedules() -> BTreeMap<String, String> {
     let in_turn = (2..=4).map(|lanes| (format!("{lanes}-lanes.moves"), moves_text(lanes)));
-    in_turn.chain([(format!("{FOUR_LANES}.moves"), FOUR_LANES_MOVES.to_string())]).collect()
+    let ended = ENDED.iter().map(|(_, name, head, moves)| {
+        let lines = moves.replace("; ", "\n");
+        (format!("{name}.moves"), format!("# every lane at its end, {head}\n{lines}\n"))
+    });
+    in_turn.chain(ended).chain([(format!("{FOUR_LANES}.moves"), FOUR_LANES_MOVES.to_string())]).collect()
 }
 
 /// Stores pile up, then go to memory, three times over.

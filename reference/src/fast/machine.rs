@@ -159,7 +159,8 @@ impl<const TSO: bool> Machine<'_, TSO> {
 
     fn record(&self, done: u64, waited: u64, state: &mut [u8; STATE]) {
         state.fill(0);
-        let finished = self.lanes.iter().zip(self.parts).all(|(lane, part)| lane.position == part.len());
+        let stands = |lane: &Lane, part: &[Instruction]| lane.first == lane.last && lane.position == part.len();
+        let finished = self.lanes.iter().zip(self.parts).all(|(lane, part)| stands(lane, part));
         state[0] = finished.into();
         state[4..8].copy_from_slice(&self.locks);
         state[8..16].copy_from_slice(&done.to_le_bytes());

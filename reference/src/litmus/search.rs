@@ -6,7 +6,8 @@ use crate::slow::machines::Machine;
 use crate::slow::outcomes::Outcome;
 use std::collections::{BTreeSet, HashSet, VecDeque};
 
-/// Breadth-first over schedules. `file` is a kernel that is not refused.
+/// Breadth-first over schedules. `file` is a kernel that is not refused. An outcome is where the state record itself
+/// says finished.
 pub fn search(machine: Machine, file: &[u8], run: Run) -> Result<BTreeSet<Outcome>, String> {
     let (lanes, locations) = (usize::from(file[0]), usize::from(file[1]));
     let highest = usize::from(machine.highest_choice());
@@ -22,12 +23,12 @@ pub fn search(machine: Machine, file: &[u8], run: Run) -> Result<BTreeSet<Outcom
         if !seen.insert(key(&state, lanes)) {
             continue;
         }
-        let pending: Vec<usize> = (0..lanes).map(|lane| word(&state, 90 + 548 * lane)).collect();
-        if state[0] == 1 && pending.iter().all(|count| *count == 0) {
+        if state[0] == 1 {
             found.insert(outcome(&state, lanes, locations));
         }
-        for (lane, count) in pending.iter().enumerate() {
-            for choice in 0..=*count.min(&highest) {
+        for lane in 0..lanes {
+            // a choice beyond the list waits
+            for choice in 0..=word(&state, 90 + 548 * lane).min(highest) {
                 open.push_back([&moves[..], &[lane as u8, choice as u8]].concat());
             }
         }

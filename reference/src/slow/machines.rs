@@ -1,4 +1,5 @@
-//! Slow implementation: the two machines of paper 01, each move a function from a state to the next.
+//! Slow implementation: the two machines of paper 01, each move a function from a state to the next, and when a run is
+//! finished, by request 2 of paper 02.
 
 use super::kernel::{ADD, Kernel, LOAD, LOCK, Refusal, SET, SKIP, STORE, UNLOCK, refuse};
 use super::sheets::{Instruction, Level, MFENCE, instructions};
@@ -84,9 +85,11 @@ impl<'a> Program<'a> {
         State { lanes: vec![lane; header.lanes], memory: vec![0; header.locations], locks: vec![0; header.locks] }
     }
 
-    /// "A run is finished when every lane stands at its end."
+    /// Paper 02: "A run is finished when every lane stands at its end and nothing is pending."
     pub fn finished(&self, state: &State) -> bool {
-        state.lanes.iter().zip(&self.parts).all(|(lane, part)| lane.position == part.len())
+        let ended = state.lanes.iter().zip(&self.parts).all(|(lane, part)| lane.position == part.len());
+        let drained = state.lanes.iter().all(|lane| lane.pending.is_empty());
+        ended && drained
     }
 
     pub fn run(&self, moves: &[u8]) -> Result<Run, Refusal> {

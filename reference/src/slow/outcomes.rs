@@ -1,10 +1,10 @@
-//! Slow implementation: all outcomes of a kernel that is finished and drained, by search over every schedule.
+//! Slow implementation: all outcomes of finished runs of a kernel, by search over every schedule.
 
 use super::kernel::{Refusal, check};
 use super::machines::{Machine, Program, State, Turn};
 use std::collections::BTreeSet;
 
-/// Registers of each lane and the memory values.
+/// Registers of each lane and the memory values where a run is finished.
 #[derive(Clone, Debug, PartialEq, Eq, PartialOrd, Ord)]
 pub struct Outcome {
     pub registers: Vec<[u32; 8]>,
@@ -51,8 +51,7 @@ fn search(program: &Program, lane_moves: impl Fn(&State, usize) -> Vec<State>) -
     let mut open = vec![program.start()];
     let mut found = BTreeSet::new();
     while let Some(state) = open.pop() {
-        let drained = state.lanes.iter().all(|lane| lane.pending.is_empty());
-        if drained && program.finished(&state) {
+        if program.finished(&state) {
             let registers = state.lanes.iter().map(|lane| lane.registers).collect();
             found.insert(Outcome { registers, memory: state.memory.clone() });
         }

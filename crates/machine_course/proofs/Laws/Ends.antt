@@ -78,7 +78,7 @@ module _ {s : List ℕ} {m : Machine} {mvs : List Move} {rows : List ℕ} {x : C
           ∙ rows-length (getD (x .count) t 0) (drop (getD (x .first) t 0) rows);
     })
 
-    -- f is what `ended` says
+    -- f is what `finished` says of the state
     pub finished-by : {f : Bool} → ((p : List (List Instr)) → Counts (countOf h 0) (x .count) p → f ≡ finished p
         (stateIn h))
         → f ≡ answerBy m s mvs .finished

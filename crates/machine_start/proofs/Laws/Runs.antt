@@ -99,7 +99,7 @@ module _ {m : Machine} {vol : ℕ → Bool} {rows first count : List ℕ} {mvs :
       pub small : Small (stateIn e)
       small = shaped-small law shaped
 
-      -- f is what `ended` says of the lanes' positions
+      -- f is what `finished` says of the state
       pub record-is : {f : Bool}
           → ((p : List (List Instr)) → Counts (countOf e 0) count p → f ≡ finished p (stateIn e))
           → recordOf f d w (stateIn e) ≡ stateBytes (runProgram m k mvs)

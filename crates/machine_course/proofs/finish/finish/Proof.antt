@@ -5,8 +5,8 @@ use borrow.Author.Needs.{needs}
 use Rattle.machine_course.proofs.finish.finish.Statement.{statement}
 use Rattle.machine_course.proofs.finish.finish.Tie as tie
 
-finished-requires : tie.Need-finished-requires
-finished-requires c κs = search needs
+answer-finished-requires : tie.Need-answer-finished-requires
+answer-finished-requires c κs = search needs
 
 end-of-requires : tie.Need-end-of-requires
 end-of-requires c κs = let so = c .before .pre .stands in (so .sized, stands-fits so)
@@ -16,10 +16,10 @@ returns c = λ s m mvs rows so. record {
   number = so .number;
   rec = so .rec;
   state = c .end-of .ensures ∙ so .state;
-  finished = c .before .finished .ensures s m mvs rows so;
+  finished = c .before .answer-finished .ensures s m mvs rows so;
   done = so .done;
   waited = so .waited;
 }
 
 pub finish-spec : {M : Type 1} → statement M
-finish-spec = tie.close (tie.spec finished-requires end-of-requires returns)
+finish-spec = tie.close (tie.spec answer-finished-requires end-of-requires returns)

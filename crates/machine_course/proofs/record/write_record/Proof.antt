@@ -7,8 +7,8 @@ use borrow.Author.Needs.{needs}
 use Rattle.machine_course.proofs.record.write_record.Statement.{statement}
 use Rattle.machine_course.proofs.record.write_record.Tie as tie
 
-finished-requires : tie.Need-finished-requires
-finished-requires c κs = search needs
+answer-finished-requires : tie.Need-answer-finished-requires
+answer-finished-requires c κs = search needs
 
 write-state-requires : tie.Need-write-state-requires
 write-state-requires c κs =
@@ -20,9 +20,9 @@ returns : tie.Need-returns
 returns c =
     let s = c .before .before .before .before .before .before in
     λ f m mvs rows so.
-    let done = c .before .before .before .before .finished .ensures f m mvs rows so in
+    let done = c .before .before .before .before .answer-finished .ensures f m mvs rows so in
     c .before .before .write-state .ensures
     ∙ λ i. over (recordOf (done i) (so .done i) (so .waited i) (so .state i)) (s .args .out .now)
 
 pub write-record-spec : {M : Type 1} → statement M
-write-record-spec = tie.close (tie.spec finished-requires write-state-requires (λ c. search needs) returns)
+write-record-spec = tie.close (tie.spec answer-finished-requires write-state-requires (λ c. search needs) returns)

@@ -4,7 +4,7 @@ use native.Mathlib.Omega.{arith}
 use lib.ListN.{getD}
 use Rattle.laws.proofs.Numbers.{below-more}
 use Rattle.machine_state.specs.States.{laneOf}
-use Rattle.machine_run.proofs.Laws.Ended.{position, all-ended, one-goes-on}
+use Rattle.machine_run.proofs.Laws.Finished.{position, all-ended, one-goes-on}
 use borrow.Author.Needs.{needs}
 use Rattle.machine_run.proofs.judge.ended.Statement.{statement}
 use Rattle.machine_run.proofs.judge.ended.Tie as tie

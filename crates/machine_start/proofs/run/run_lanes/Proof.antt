@@ -12,8 +12,8 @@ run-bytes-requires : tie.Need-run-bytes-requires
 run-bytes-requires c κs = let b = c .before .before .before .before .before .pre .1 .begins in
     (b .sized, begins-runnable b)
 
-ended-requires : tie.Need-ended-requires
-ended-requires c κs =
+finished-requires : tie.Need-finished-requires
+finished-requires c κs =
     let b = c .before .before .before .before .before .before .before .before .before .before .pre .1 .begins in
     let so = c .before .before .before .before .run-bytes .ensures _ (begins-run b) in
     (so .sized, few-ended b so)
@@ -38,10 +38,10 @@ returns-2 c =
     (λ i. (Wrote 2280, c .before .before .write-state .ensures i))
     ∙ ap (λ x. (Wrote 2280, over x (a .out .now))) (record-is b so
     (c .before .before .before .before .before .before .before .before .answer .given .1)
-    (c .before .before .before .before .before .ended .ensures))
+    (c .before .before .before .before .before .finished .ensures))
 
 pub run-lanes-spec : {M : Type 1} → statement M
 run-lanes-spec =
     tie.close
-    (tie.spec run-bytes-requires (λ c. search needs) (λ c. search needs) ended-requires write-state-requires returns
+    (tie.spec run-bytes-requires (λ c. search needs) (λ c. search needs) finished-requires write-state-requires returns
     (λ c. search needs) returns-2)
