@@ -8,11 +8,11 @@ use native.Mathlib.Omega.{arith}
 use lib.ListN.{getElem?, drop}
 use Rattle.laws.proofs.Lists.{getElem?-map}
 use Rattle.file_format.specs.declared.accepted.Op.{Op}
-use Rattle.file_format.specs.declared.accepted.Op.the-variants.{Set, Add, Load, Store, Lock, Unlock, Skip}
 use Rattle.barrier_placement.specs.declared.cookbook.Barrier.{Barrier}
 use Rattle.barrier_placement.specs.declared.cookbook.Barrier.the-variants.{LL, LS, SS, SL}
 use Rattle.barrier_placement.specs.Layout.{Placed, operations, start}
 use Rattle.sheet_format.specs.Layout.{Instr, op, barrier, aim, sheet}
+use Rattle.sheet_format.proofs.Laws.Aim.{aim-blind}
 use Rattle.machine_spec.specs.Entries.{Entry, isNil}
 use Rattle.machine_spec.specs.declared.Machine.the-variants.{Source, Target}
 use Rattle.machine_spec.specs.declared.Model.{Model}
@@ -26,20 +26,12 @@ use Rattle.claims.proofs.Laws.Pending.{oldest-commits}
 use Rattle.claims.proofs.Stuck.{free-permits, waits-permits}
 use Rattle.claims.proofs.Stands.{Stands}
 
-halted-aim : (locks : List ℕ) (r : ℕ → ℕ) (o : Op) → halted locks (some (op (aim r o))) ≡ halted locks (some (op o))
-halted-aim locks r (Set a n) = refl
-halted-aim locks r (Add a b) = refl
-halted-aim locks r (Load a x) = refl
-halted-aim locks r (Store a x) = refl
-halted-aim locks r (Lock l) = refl
-halted-aim locks r (Unlock l) = refl
-halted-aim locks r (Skip a t) = refl
-
 op-back : (m : Model) (vol : ℕ → Bool) (w : ℕ) (k i : Control) (c : Core) (r : ℕ → ℕ) → c .pending ≡ [] → (o : Op)
     → execute (Target m) vol w k c (some (op (aim r o))) ≡ waits → execute Source vol w i c (some (op o)) ≡ waits
 op-back m vol w k i c r nil o e =
     let f : permits Source vol c o ≡ false =
-    free-permits Source vol c nil o ∙ ap not (sym (halted-aim (c .locks) r o))
+    free-permits Source vol c nil o
+    ∙ ap not (sym (aim-blind (λ o. halted (c .locks) (some (op o))) (λ a t u. refl) r o))
     ∙ sym (free-permits (Target m) vol c nil (aim r o)) ∙ waits-permits (Target m) vol w k c (aim r o) e in
     rw f
 

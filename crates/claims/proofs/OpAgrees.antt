@@ -12,6 +12,7 @@ use Rattle.file_format.specs.declared.accepted.Op.the-variants.{Set, Add, Load,
 use Rattle.barrier_placement.specs.declared.cookbook.Barrier.the-variants.{SL}
 use Rattle.barrier_placement.specs.Layout.{Placed, start}
 use Rattle.sheet_format.specs.Layout.{op, aim}
+use Rattle.sheet_format.proofs.Laws.Aim.{aim-blind}
 use Rattle.machine_spec.specs.Entries.{write, release, anySync, isNil, appendEntry}
 use Rattle.machine_spec.specs.declared.Machine.the-variants.{Source, Target}
 use Rattle.machine_spec.specs.declared.Model.{Model}
@@ -94,15 +95,6 @@ module _ {m : Model} {vol : ℕ → Bool} {ps : List (Placed Op)} (f : AllFenced
   same-core w (Unlock l) e = refl
   same-core w (Skip a t) e = refl
 
-  same-holds : (w : ℕ) (o : Op) → holds w c (aim (start ps) o) ≡ holds w c o
-  same-holds w (Set a n) = refl
-  same-holds w (Add a b) = refl
-  same-holds w (Load a x) = refl
-  same-holds w (Store a x) = refl
-  same-holds w (Lock l) = refl
-  same-holds w (Unlock l) = refl
-  same-holds w (Skip a t) = refl
-
   -- where both lanes stand after the operation
   after-stands : (o : Op) → s .oper ≡ o → permits (Target m) vol c (aim (start ps) o) ≡ true
       → Stands m vol ps (next c o (i .pos)) (goto k (next c (aim (start ps) o) (k .pos)))
@@ -124,7 +116,7 @@ module _ {m : Model} {vol : ℕ → Bool} {ps : List (Placed Op)} (f : AllFenced
       → Agrees m vol ps (i .pos) c (effect (Target m) vol w k c (aim (start ps) o)) (effect Source vol w i c o)
   op-effect w o e h =
       both-act (holds w c o) (goto i (next c o (i .pos))) (goto k (next c (aim (start ps) o) (k .pos)))
-      (same-holds w o) (same-core w o e) (same-loads o e) (after-stands o e h)
+      (aim-blind (holds w c) (λ a t u. refl) (start ps) o) (same-core w o e) (same-loads o e) (after-stands o e h)
 
   pub op-agrees : (w : ℕ) (o : Op) → s .oper ≡ o
       → Agrees m vol ps (i .pos) c (execute (Target m) vol w k c (some (op (aim (start ps) o))))

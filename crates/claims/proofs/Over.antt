@@ -18,28 +18,28 @@ use Rattle.claims.proofs.Legal.{legal-append}
 use Rattle.claims.proofs.Demand3.{answered}
 
 -- a run that took place and is finished
-record Finished (m : Machine) (k : Program) (mvs : List Move) : Type 0 where
+record FinishedRun (m : Machine) (k : Program) (mvs : List Move) : Type 0 where
   lets : legal (length (k .lanes)) (limit m) mvs ≡ true
   end : Run
   ran-to : runOn m k mvs ≡ ran end
-  done : finished (programFor m k) (end .state) ≡ true
+  ends : finished (programFor m k) (end .state) ≡ true
 
 -- a refusal is not finished
-took-place : (m : Machine) (k : Program) (mvs : List Move) → runProgram m k mvs .finished ≡ true → Finished m k mvs
+took-place : (m : Machine) (k : Program) (mvs : List Move) → runProgram m k mvs .finished ≡ true → FinishedRun m k mvs
 took-place m k mvs f = go (legal (length (k .lanes)) (limit m) mvs) refl (runOn m k mvs) refl
   where
     go : (b : Bool) → legal (length (k .lanes)) (limit m) mvs ≡ b → (o : Outcome) → runOn m k mvs ≡ o
-        → Finished m k mvs
+        → FinishedRun m k mvs
     go false h o e = absurd (false≢true (rw h at f))
     go true h (refused t p) e = absurd (false≢true (rw (h, e) at f))
-    go true h (ran r) e = record { lets = h; end = r; ran-to = e; done = rw (h, e) at f }
+    go true h (ran r) e = record { lets = h; end = r; ran-to = e; ends = rw (h, e) at f }
 
 pub over : (s : List ℕ) (k : Program) → verdict s ≡ accepted k → Over s k
 over s k e m mvs more le =
     rw e (λ f. let x = took-place m k mvs f in
     let r = x .end in
     let on : runOn m k (mvs ++ more) ≡ ran (withWaited r (r .waited + length more)) =
-    rw (foldl-append, x .ran-to) (finished-over m (volatileIn k) (programFor m k) more r (x .done)) in
+    rw (foldl-append, x .ran-to) (finished-over m (volatileIn k) (programFor m k) more r (x .ends)) in
     rw (
       answered m k (mvs ++ more) (withWaited r (r .waited + length more))
           (legal-append (length (k .lanes)) (limit m) mvs more (x .lets) le) on,

@@ -12,7 +12,7 @@ ghost use Rattle.machine_state.specs.States.{countOf, stateIn, Sized};
 ghost use Rattle.machine_run.specs.Counts.{Counts};
 use machine_spec::Machine;
 use machine_spec::Model;
-use machine_state::held::count;
+use machine_state::held::count as pending_count;
 use machine_state::held::position;
 use machine_state::state::COUNTS;
 use machine_state::state::LANES;
@@ -79,7 +79,7 @@ pub fn drained(state: &State) -> bool
     let n = wide(state[SHARED][COUNTS][LANES]);
     let mut t = 0;
     while t < n {
-        if count(state, t) != 0 {
+        if pending_count(state, t) != 0 {
             return false;
         }
         t += 1;

@@ -14,6 +14,7 @@ use Rattle.barrier_placement.specs.Steps.{steps}
 use Rattle.barrier_placement.specs.Layout.{start}
 use Rattle.sheet_format.specs.Layout.{Instr, op, barrier, aim, sheet}
 use Rattle.sheet_format.specs.Levels.{placed, placedLanes, volatileIn}
+use Rattle.sheet_format.proofs.Laws.Aim.{aim-cases}
 use Rattle.sheet_format.proofs.Laws.Cells.{Each, cells-each, lane-length}
 use Rattle.machine_spec.specs.declared.Machine.{Machine}
 use Rattle.machine_spec.specs.State.{idle}
@@ -44,26 +45,16 @@ module _ (ls ks n p : ℕ) (wl : ls ≤ 16) (wk : ks ≤ 4) where
 
 -- wherever a SKIP is aimed
 ranged-aim : (r : ℕ → ℕ) (o : Op) → Ranged (op o) → Ranged (op (aim r o))
-ranged-aim r (Set a c) h = h
-ranged-aim r (Add a b) h = h
-ranged-aim r (Load a x) h = h
-ranged-aim r (Store a x) h = h
-ranged-aim r (Lock l) h = h
-ranged-aim r (Unlock l) h = h
-ranged-aim r (Skip a t) h = h
+ranged-aim = aim-cases (λ o q. Ranged (op q) → Ranged (op o)) (λ o h. h) (λ a t u h. h)
 
 -- a LOAD has a register
 abbrev Loads : Instr → Type 0
 Loads i = (a x : ℕ) → i ≡ op (Load a x) → a < 8
 
 load-aimed : (r : ℕ → ℕ) (o : Op) (a x : ℕ) → aim r o ≡ Load a x → o ≡ Load a x
-load-aimed r (Set b c) a x e = e
-load-aimed r (Add b c) a x e = e
-load-aimed r (Load b y) a x e = e
-load-aimed r (Store b y) a x e = e
-load-aimed r (Lock l) a x e = e
-load-aimed r (Unlock l) a x e = e
-load-aimed r (Skip b u) a x e = let z : _≡_ {A = ℕ} 0 1 = cc in absurd (omega arith)
+load-aimed =
+    aim-cases (λ o q. (a x : ℕ) → o ≡ Load a x → q ≡ Load a x) (λ o a x e. e)
+    (λ b t u a x e. let z : _≡_ {A = ℕ} 0 1 = cc in absurd (omega arith))
 
 module _ (k : Program) (w : Lawful k) (t : ℕ) where
   abbrev os : List Op

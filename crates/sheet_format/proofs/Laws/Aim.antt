@@ -1,7 +1,7 @@
 -- Laws of an operation whose target is renumbered.
 use Prim.Native.Nat.{ℕ}
 use mathlib.Core.Path.{_≡_, refl, ap}
-use mathlib.Core.Bool.{not}
+use mathlib.Core.Bool.{Bool, not}
 use mathlib.Core.Option.{some}
 use Rattle.file_format.specs.declared.accepted.Op.{Op}
 use Rattle.file_format.specs.declared.accepted.Op.the-variants.{Set, Add, Load, Store, Lock, Unlock, Skip}
@@ -33,20 +33,27 @@ aim-agrees f g (Lock l) h = refl
 aim-agrees f g (Unlock l) h = refl
 aim-agrees f g (Skip a t) h = ap (Skip a) (h t refl)
 
--- what a level keeps before an operation does not depend on its target
-drains-aim : (r : ℕ → ℕ) (o : Op) → drains (aim r o) ≡ drains o
-drains-aim r (Set a c) = refl
-drains-aim r (Add a b) = refl
-drains-aim r (Load a x) = refl
-drains-aim r (Store a x) = refl
-drains-aim r (Lock l) = refl
-drains-aim r (Unlock l) = refl
-drains-aim r (Skip a t) = refl
+-- an aimed operation is as it was, or both are a SKIP of the same register
+pub aim-cases : (P : Op → Op → Type 0) → ((o : Op) → P o o) → ((a t u : ℕ) → P (Skip a u) (Skip a t))
+    → (r : ℕ → ℕ) (o : Op) → P (aim r o) o
+aim-cases P same skips r (Set a c) = same (Set a c)
+aim-cases P same skips r (Add a b) = same (Add a b)
+aim-cases P same skips r (Load a x) = same (Load a x)
+aim-cases P same skips r (Store a x) = same (Store a x)
+aim-cases P same skips r (Lock l) = same (Lock l)
+aim-cases P same skips r (Unlock l) = same (Unlock l)
+aim-cases P same skips r (Skip a t) = skips a t (r t)
 
+-- so what does not look at a SKIP's target does not change with it
+pub aim-blind : (f : Op → Bool) → ((a t u : ℕ) → f (Skip a u) ≡ f (Skip a t)) → (r : ℕ → ℕ) (o : Op)
+    → f (aim r o) ≡ f o
+aim-blind f = aim-cases (λ o q. f o ≡ f q) (λ o. refl)
+
+-- what a level keeps before an operation
 pub keeps-aim : (l : Level) (r : ℕ → ℕ) (o : Op) (b : Barrier) → keeps l (aim r o) b ≡ keeps l o b
 keeps-aim Level0 r o b = refl
 keeps-aim Level1 r o b = refl
 keeps-aim Level2 r o LL = refl
 keeps-aim Level2 r o LS = refl
 keeps-aim Level2 r o SS = refl
-keeps-aim Level2 r o SL = ap not (drains-aim r o)
+keeps-aim Level2 r o SL = ap not (aim-blind drains (λ a t u. refl) r o)
