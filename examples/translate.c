@@ -1,10 +1,10 @@
-/* Lowers each kernel file named on the command line to both levels and runs it on both machines: prints instruction
- * counts, then how a fixed schedule ends, or the refusal. */
+/* Lowers each kernel file named on the command line to both levels, writes its pages and runs it on both machines:
+ * prints instruction counts, the number of pages, then how a fixed schedule ends, or the refusal. */
 #include "../include/lanes.h"
 
 #include <stdio.h>
 
-enum { ROUNDS = 16, MOST_LANES = 4, REGISTERS = 8 };
+enum { ROUNDS = 16, MOST_LANES = 4, REGISTERS = 8, LINE = 33 };
 
 typedef uint64_t lowering(const uint8_t *, size_t, uint8_t *, size_t);
 typedef uint64_t running(const uint8_t *, size_t, const uint8_t *, size_t, uint8_t *, size_t);
@@ -36,6 +36,19 @@ static void lower(lowering *call, const uint8_t *kernel, size_t length)
     for (int lane = 0; lane < sheet[0]; lane++)
         printf(" %u", word_at(sheet + 8 + 2 * lane));
     printf("\n");
+}
+
+/* A page begins with the one line that has a letter in its first column. */
+static void write_pages(const uint8_t *kernel, size_t length)
+{
+    uint8_t page[LANES_PAGE_MAX];
+    uint64_t answer = lanes_page(kernel, length, page, sizeof page);
+    unsigned pages = 0;
+    if (refused(answer))
+        return;
+    for (size_t at = 0; at < answer; at += LINE)
+        pages += page[at] == 'p';
+    printf("page: %u bytes, %u pages\n", (unsigned)answer, pages);
 }
 
 /* In each round every lane carries out an instruction, then commits its oldest entry; what cannot be done waits. */
@@ -89,6 +102,7 @@ int main(int argc, char **argv)
         printf("%s\n", argv[i]);
         lower(lanes_lower1, kernel, length);
         lower(lanes_lower2, kernel, length);
+        write_pages(kernel, length);
         run("source", lanes_run_source, kernel, length);
         run("tso", lanes_run_tso, kernel, length);
     }

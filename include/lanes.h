@@ -32,6 +32,9 @@ extern "C" {
 #define LANES_SHEET1_MAX 6160
 #define LANES_SHEET2_MAX 4112
 
+/* What the pages of every kernel fit in: at most 512 instructions on at most 10 pages, a line of 33 bytes for each. */
+#define LANES_PAGE_MAX 17226
+
 /* A state record has this many bytes. */
 #define LANES_STATE_SIZE 2280
 
@@ -46,6 +49,11 @@ extern "C" {
  * file. */
 uint64_t lanes_lower1(const uint8_t *kernel, size_t kernel_len, uint8_t *sheet, size_t sheet_len);
 uint64_t lanes_lower2(const uint8_t *kernel, size_t kernel_len, uint8_t *sheet, size_t sheet_len);
+
+/* The x86 sheet as pages of text for a binder: lines of 32 characters and a newline, on each page a heading and up to
+ * 55 instructions, each with its lane, position, name, fields and the record that it comes from. docs/FORMATS.md has
+ * the columns. */
+uint64_t lanes_page(const uint8_t *kernel, size_t kernel_len, uint8_t *page, size_t page_len);
 
 /* A schedule run from the start, on the source machine over the kernel and on the tso machine over its level 2 sheet. A
  * move is two bytes: the lane, then the choice, of which 0 carries out the lane's next instruction and k commits its

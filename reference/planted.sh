@@ -1,6 +1,6 @@
 # Tries the tester: plants one fault at a time in a copy of the reference, which stands in for the library (fast) and
-# for `lanetext` (slow), and expects `differ`, `listings` or `counts` to find it. Prints the rows of the table in
-# docs/TESTS.md. Run with bash. Argument: number of random cases for each fault.
+# for `lanetext` and `lanepage` (slow), and expects `differ`, `listings` or `counts` to find it. Prints the rows of the
+# table in docs/TESTS.md. Run with bash. Argument: number of random cases for each fault.
 set -eu
 cd "$(dirname "$0")"
 cases=${1:-3000}
@@ -16,10 +16,15 @@ restore() {
     cp -r src/fast src/slow "$copy/src/"
 }
 
-# build TESTER: the stand-ins, then the tester with them
+# build TESTER [PROGRAM]: the stand-in that it tries, the archive or the program, then the tester
 build() {
-    cargo build --quiet --offline -j1 --release --manifest-path "$copy/planted/Cargo.toml" 2>"$out/planted.log"
-    cargo build --quiet --offline -j1 --profile planted --features runs --bin "$1"
+    local stand_in=--lib features='--features runs'
+    if [ "$1" = listings ]; then
+        stand_in="--bin ${2##*/}" features=
+    fi
+    cargo build --quiet --offline -j1 --release --manifest-path "$copy/planted/Cargo.toml" $stand_in \
+        2>"$out/planted.log"
+    cargo build --quiet --offline -j1 --profile planted $features --bin "$1"
 }
 
 # fault NAME FILE SED [TESTER ARGUMENT..]: the sed script has to change the file, and the tester has to notice
@@ -36,7 +41,7 @@ fault() {
         missed=1
         return
     fi
-    build "$1"
+    build "$@"
     "$out/planted/$@" > "$out/tester.log" 2>&1 || true
     told=$(sed -n 's/.* DIFFERENCE in //p' "$out/tester.log" |
         sed -n '1s/^case \([0-9]*\): /\1 | /p; 1s/^[a-z]/- | &/p')
@@ -49,22 +54,26 @@ fault() {
 }
 
 restore
-listings="listings $LANES_LIB/lanetext"
+listings="listings $LANES_LIB/lanetext listing"
+pages="listings $LANES_LIB/lanepage page"
 build differ
 "$out/planted/differ" "$cases"
-build listings
-"$out/planted/"$listings "$cases"
+for program in "$listings" "$pages"; do
+    build $program
+    "$out/planted/"$program "$cases"
+done
 build counts
 "$out/planted/counts"
 
-check=src/fast/check.rs flow=src/fast/flow.rs sheet=src/fast/sheet.rs machine=src/fast/machine.rs
+check=src/fast/check.rs flow=src/fast/flow.rs sheet=src/fast/sheet.rs page=src/fast/page.rs machine=src/fast/machine.rs
+paged=src/slow/page.rs
 
 fault 'a barrier on one side of a SKIP covers the other' $flow 's/self.live |= other.live;//'
 fault 'cell VS, VS is empty' $flow 's/\[0, 0, SL, SS\]\]/[0, 0, SL, 0]]/'
 fault 'a plain store hides the volatile store before it' $flow 's/first == class {/first == class \&\& class != 1 {/'
-fault 'a SKIP lands behind its target'"'"'s barrier' $sheet \
-    's/position => plan.starts\[start + position\]/& + plan.barriers[start + position].count_ones() as u16/'
-fault 'a SKIP to the end lands at the start' $sheet 's/64 => plan.counts\[lane\]/64 => 0/'
+fault 'a SKIP lands behind its target'"'"'s barrier' $flow \
+    's/position => self.starts\[start + position\]/& + self.barriers[start + position].count_ones() as u16/'
+fault 'a SKIP to the end lands at the start' $flow 's/64 => self.counts\[lane\]/64 => 0/'
 fault 'the mask stays at level 2' $sheet 's/if LEVEL == 2/if LEVEL == 3/'
 fault 'MFENCE stays before a LOCK' $flow 's/\[0, 0, SL\]/[0; 3]/'
 fault 'level 1 leaves SL out before a LOCK as well' $flow 's/\[0, 0, SL\]/[0, SL, SL]/'
@@ -136,6 +145,52 @@ fault 'a SKIP beyond 63 listed as a SKIP to 0' src/slow/listing.rs \
 fault 'constants from 2^31 up listed as negative' src/slow/listing.rs \
     's/"SET {a} {word}"/"SET {a} {}", word as i32/' $listings "$cases"
 fault 'the last of 3,089 bytes is not read' src/slow/listing.rs 's/3089/3088/' $listings "$cases"
+fault '54 lines a page' $page 's/LINES: usize = 55/LINES: usize = 54/'
+fault '56 lines a page' $page 's/LINES: usize = 55/LINES: usize = 56/'
+fault 'a heading too many for 55 instructions' $page 's/count.div_ceil(LINES).max(1)/count \/ LINES + 1/'
+fault 'no heading for a kernel without instructions' $page 's/.div_ceil(LINES).max(1)/.div_ceil(LINES)/'
+fault 'pages numbered from 0' $page 's/zip(1..)/zip(0..)/'
+fault 'page numbers to the left' $page \
+    's/put(&mut page\[0\], NUMBER, number);/& while page[0][NUMBER] == 32 { page[0][NUMBER..32].rotate_left(1); }/'
+fault 'positions to the left' $page \
+    's/put(line, POSITION, position);/& while line[POSITION] == 32 { line[POSITION..5].rotate_left(1); }/'
+fault 'positions counted from the kernel'"'"'s first' $page 's/POSITION, position)/POSITION, index)/'
+fault 'the record of the next operation' $page \
+    's/for (name, standing) in/for (at, (name, standing)) in/
+    s/\.zip(&plan.barriers.*ends\[lane\]\.\.\])/&.enumerate()/
+    s/NUMBER, usize::from(\*name)/NUMBER, usize::from(*kernel.chain(lane).get(at + 1).unwrap_or(name))/'
+fault 'MFENCE with the record behind it' $page \
+    's/begin(lines, before, lane, position, 0);/put(&, NUMBER, usize::from(*name) + 1);/; s/, 0);, NUMBER/, 0), NUMBER/'
+fault 'UNLOCK under the name of LOCK' $page 's/prepared(b"UNLOCK", 6)/prepared(b"LOCK", 6)/'
+fault 'LOCK with a register' $page 's/prepared(b"LOCK", 6)/prepared(b"LOCK   0", 6)/'
+fault 'a constant one column to the left' $page 's/CONSTANT_END: usize = 28/CONSTANT_END: usize = 27/'
+fault 'a 0 within a constant left blank' $page \
+    's/line\[end - 2\] = .*/line[end - 2] = if pair < 10 { 32 } else { 48 + (pair \/ 10) as u8 };/'
+fault 'a SKIP'"'"'s position one column to the left' $page 's/TARGET: usize = 25/TARGET: usize = 24/'
+fault 'an operand one column to the right' $page 's/OPERAND: usize = 14/OPERAND: usize = 15/'
+fault 'a byte is written on refusal 9 of the page' $page \
+    's/let page = page.get_mut/if let Some(byte) = page.last_mut() { *byte = 1; }\n    &/'
+fault 'a byte is written past the pages' $page \
+    's/let page = page.get_mut/if let Some(byte) = page.get_mut(length) { *byte ^= 1; }\n    &/'
+fault 'each lane begins a page' $paged \
+    's/lines.chunks(LINES)/lines.chunk_by(|one, two| one[..1] == two[..1]).flat_map(|lane| lane.chunks(LINES))/' \
+    $pages "$cases"
+fault 'a heading on the first page alone' $paged \
+    's/heading(number) + /(if number == 1 { heading(1) } else { String::new() }) + /' $pages "$cases"
+fault 'a SKIP with its position at level 1' $paged \
+    's/let own = \(instructions(kernel, lane, Level::\)Two);/let mut own = \1Two); let first = \1One);\
+    let aimed = |record: usize| first.iter().find(|one| one.record == record).map_or(0, |one| one.word);\
+    own.iter_mut().filter(|own| own.record > 0).for_each(|own| own.word = aimed(own.record));/' $pages "$cases"
+fault 'names to the right' $paged 's/{text:<width\$}/{text:>width$}/' $pages "$cases"
+fault 'constants to the left' $paged \
+    's/right(19..=28, word)/left(19..=28, \&word.map_or(String::new(), |word| word.to_string()))/' $pages "$cases"
+fault 'a constant of 0 left blank' $paged \
+    's/Some(word), Some(record)/Some(word).filter(|word| *word > 0), Some(record)/' $pages "$cases"
+fault 'SKIP under the name of SET' $paged 's/("SKIP"/("SET"/' $pages "$cases"
+fault 'MFENCE with record 0' $paged 's/("MFENCE", None, None, None, None)/("MFENCE", None, None, None, Some(0))/' \
+    $pages "$cases"
+fault 'lines without the blanks at their ends' $paged 's/line + "\\n"/line.trim_end().to_string() + "\\n"/' \
+    $pages "$cases"
 
 # leave no faulty archive where a test could link it
 rm -rf "$copy" "$LANES_LIB"

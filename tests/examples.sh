@@ -1,4 +1,4 @@
-# The programs and the C example on the shipped kernels, held to the listings and counts of the reference.
+# The programs and the C example on the shipped kernels, held to the listings, pages and counts of the reference.
 set -eu
 cd "$(dirname "$0")/.."
 built=$(mktemp -d)
@@ -7,6 +7,8 @@ trap 'rm -rf "$built"' EXIT
 for kernel in examples/*.kernel; do
     target/bin/lanetext < "$kernel" > "$built/listing"
     cmp "$built/listing" "${kernel%.kernel}.listing"
+    target/bin/lanepage < "$kernel" > "$built/page"
+    cmp "$built/page" "${kernel%.kernel}.page"
 done
 
 # the end of the schedule for four lanes, on both machines
@@ -17,7 +19,8 @@ for machine in source tso; do
         cmp "$built/end" -
 done
 
-(cd reference && cargo run --release --offline --quiet --bin listings -- ../target/bin/lanetext 1000 1)
+(cd reference && cargo run --release --offline --quiet --bin listings -- ../target/bin/lanetext listing 1000 1)
+(cd reference && cargo run --release --offline --quiet --bin listings -- ../target/bin/lanepage page 1000 1)
 
 rt staticlib lanes > "$built/log" || { cat "$built/log"; exit 1; }
 cc -std=c99 -Wall -Wextra -Wpedantic -Werror -O2 examples/translate.c target/staticlib/liblanes.a -o "$built/translate"
@@ -30,9 +33,12 @@ cc -std=c11 -Wall -Wextra -Werror -O2 tests/stack.c target/staticlib/liblanes.a 
 
 # input that no kernel can be: nothing at all, and more than any kernel has
 printf 'refused 1 record 0\n' > "$built/truncated"
-target/bin/lanetext < /dev/null | cmp - "$built/truncated"
 printf 'refused 3 record 0\n' > "$built/long"
-{ cat examples/store-buffering-mask-3.kernel; head -c 100000 /dev/zero; } | target/bin/lanetext | cmp - "$built/long"
+for program in lanetext lanepage; do
+    target/bin/$program < /dev/null | cmp - "$built/truncated"
+    { cat examples/store-buffering-mask-3.kernel; head -c 100000 /dev/zero; } |
+        target/bin/$program | cmp - "$built/long"
+done
 # schedules by hand: a move that no machine has, a line that is no move, a refused kernel, a file that is not there
 last_line() {
     target/bin/lanerun "$1" "$2" "$3" | tail -n 1 | grep -Fxq "$4" || { echo "lanerun $1 $2 $3: not '$4'"; exit 1; }
@@ -46,4 +52,4 @@ last_line $kernel tso "$built/half.moves" 'schedule line 3 is not a move'
 last_line examples/damaged.kernel tso examples/store-buffering.moves 'refused 5 record 3'
 last_line $kernel tso "$built/none.moves" "cannot read $built/none.moves"
 last_line $kernel both examples/store-buffering.moves 'usage: lanerun KERNEL source|tso SCHEDULE'
-echo "examples: $(ls examples/*.kernel | wc -l) kernels listed, lowered and run as the reference has them"
+echo "examples: $(ls examples/*.kernel | wc -l) kernels listed, paged, lowered and run as the reference has them"

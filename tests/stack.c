@@ -10,7 +10,7 @@
 enum { STACK = 1 << 18, PAINT = 0xa5, RECORDS = 256, KERNEL = 16 + 12 * RECORDS, MOVES = 4096 };
 
 static _Alignas(4096) uint8_t stack[STACK];
-static uint8_t kernel[KERNEL + 1], moves[2 * MOVES], out[LANES_SHEET1_MAX];
+static uint8_t kernel[KERNEL + 1], moves[2 * MOVES], out[LANES_PAGE_MAX];
 static size_t kernel_len, moves_len;
 static uint64_t answer;
 
@@ -28,6 +28,12 @@ static void *lower1(void *unused)
 static void *lower2(void *unused)
 {
     answer = lanes_lower2(kernel, kernel_len, out, sizeof out);
+    return unused;
+}
+
+static void *page(void *unused)
+{
+    answer = lanes_page(kernel, kernel_len, out, sizeof out);
     return unused;
 }
 
@@ -104,6 +110,7 @@ int main(void)
     }
     moves_len = sizeof moves;
     int above = measure("lanes_lower1", lower1, own) + measure("lanes_lower2", lower2, own);
+    above += measure("lanes_page", page, own);
     above += measure("lanes_run_source", run_source, own) + measure("lanes_run_tso", run_tso, own);
     return above != 0;
 }

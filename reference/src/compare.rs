@@ -11,6 +11,7 @@ use std::process::ExitCode;
 pub struct Calls {
     pub lower1: Lower,
     pub lower2: Lower,
+    pub page: Lower,
     pub runs: Option<[Run; 2]>,
 }
 
@@ -89,15 +90,17 @@ impl Tally {
     fn try_lowering(&mut self, case: &mut Case, calls: &Calls) -> Result<(), String> {
         let Case { file, random, .. } = case;
         let mut lent_file = Lent::holding(file);
-        for (level, lower) in [(1, calls.lower1), (2, calls.lower2)] {
-            let result = slow::lowered(level, file);
+        let lower1 = ("lower1", slow::lowered(1, file), calls.lower1);
+        let lower2 = ("lower2", slow::lowered(2, file), calls.lower2);
+        let page = ("page", slow::paged(file), calls.page);
+        for (name, result, lower) in [lower1, lower2, page] {
             let length = result.as_ref().map_or(40, Vec::len);
             for room in [0, length - 1, length, length + 1, length + 1 + random.below(6400)] {
                 let expected = |out: &mut [u8]| slow::answer(slow::put_into(out, &result));
                 let given = |out: &mut [u8]| lower(lent_file.buffer(), out);
                 self.alike(random.byte(), room, expected, given)
                     .and_then(|()| lent_file.still(file))
-                    .map_err(|difference| format!("lower{level}, {room} bytes of room: {difference}"))?;
+                    .map_err(|difference| format!("{name}, {room} bytes of room: {difference}"))?;
             }
         }
         Ok(())

@@ -12,8 +12,17 @@ const FOUR_LANES: &str = "lock l1; r7=4294967295; x8=r7; r6=x15; unlock l1 \
     ‖ r7=4294967294; r3=x10; skip r3 D; r4=3000000000; r4+=r4; D:; lock l2; x12=r4; x13=r7; x14=r3; unlock l2; r5=x13 \
     ‖ r7=2147483647; skip r0 A; r7=0; A:; lock l3; x15=r7; x11=r7; unlock l3; r6=x15; skip r6 end; x8=r6";
 
+/// Lane 0 fills a table and raises a flag; lane 1 looks for it, adds the table up and answers. Level 2 has 59
+/// instructions.
+const TWO_PAGES: &str = "r0=1; x0=r0; r0+=r0; x1=r0; r0+=r0; x2=r0; r0+=r0; x3=r0; r0+=r0; x4=r0; r0+=r0; \
+    x5=r0; r0+=r0; x6=r0; r0+=r0; x7=r0; r0+=r0; x8=r0; r0+=r0; x9=r0; r0+=r0; x15=1; r1=x14; \
+    lock l; r2=x10; unlock l \
+    ‖ r0=x15; skip r0 end; r2=x0; r1+=r2; r2=x1; r1+=r2; r2=x2; r1+=r2; r2=x3; r1+=r2; r2=x4; r1+=r2; \
+    r2=x5; r1+=r2; r2=x6; r1+=r2; r2=x7; r1+=r2; r2=x8; r1+=r2; r2=x9; r1+=r2; \
+    lock l; r3=x10; r3+=r1; x10=r3; unlock l; x14=1; r4=x15";
+
 /// Name, locations, volatile ones, lanes.
-const EXAMPLES: [(&str, &str, &str, &str); 7] = [
+const EXAMPLES: [(&str, &str, &str, &str); 8] = [
     ("store-buffering-mask-3", "x y", "{x y}", STORE_BUFFERING),
     ("store-buffering-mask-1", "x y", "{x}", STORE_BUFFERING),
     ("store-buffering-mask-0", "x y", "{}", STORE_BUFFERING),
@@ -21,6 +30,7 @@ const EXAMPLES: [(&str, &str, &str, &str); 7] = [
     ("lock-hand-over", "x", "{}", "lock l; x=1; unlock l ‖ lock l; r0=x; unlock l"),
     ("skip-over-volatile-load", "x y z", "{x y}", "r1=z; x=1; skip r1 D; r2=y; D:; r3=y ‖ y=1; z=1"),
     ("four-lanes", SIXTEEN, "{x8 x10 x13 x15}", FOUR_LANES),
+    ("two-pages", SIXTEEN, "{x14 x15}", TWO_PAGES),
 ];
 
 /// The examples' kernel files by name.

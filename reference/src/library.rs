@@ -5,6 +5,7 @@ type LowerCall = unsafe extern "C" fn(*const u8, usize, *mut u8, usize) -> u64;
 unsafe extern "C" {
     fn lanes_lower1(kernel: *const u8, kernel_len: usize, sheet: *mut u8, sheet_len: usize) -> u64;
     fn lanes_lower2(kernel: *const u8, kernel_len: usize, sheet: *mut u8, sheet_len: usize) -> u64;
+    fn lanes_page(kernel: *const u8, kernel_len: usize, page: *mut u8, page_len: usize) -> u64;
 }
 
 pub fn lower1(kernel: &[u8], sheet: &mut [u8]) -> u64 {
@@ -15,9 +16,13 @@ pub fn lower2(kernel: &[u8], sheet: &mut [u8]) -> u64 {
     lower(lanes_lower2, kernel, sheet)
 }
 
-fn lower(call: LowerCall, kernel: &[u8], sheet: &mut [u8]) -> u64 {
+pub fn page(kernel: &[u8], page: &mut [u8]) -> u64 {
+    lower(lanes_page, kernel, page)
+}
+
+fn lower(call: LowerCall, kernel: &[u8], out: &mut [u8]) -> u64 {
     // SAFETY: both slices are borrowed for the call with their own lengths
-    unsafe { call(kernel.as_ptr(), kernel.len(), sheet.as_mut_ptr(), sheet.len()) }
+    unsafe { call(kernel.as_ptr(), kernel.len(), out.as_mut_ptr(), out.len()) }
 }
 
 #[cfg(feature = "runs")]

@@ -1,10 +1,11 @@
 //! Tests: the first 2,000 cases of seed 1 have every edge, and each edge is answered as its rule says; they have LOCKs
-//! without their MFENCE in every place.
+//! without their MFENCE in every place, and kernels at the end of a page.
 
 use reference::random::{Case, Cases};
 use reference::slow::kernel::{Kernel, LOAD, LOCK, Refusal, SKIP, STORE, UNLOCK, check};
 use reference::slow::machines::{Machine, Program, Turn};
 use reference::slow::placement::{Barrier, placement};
+use reference::slow::{lowered, paged};
 use std::collections::BTreeMap;
 
 const CASES: u64 = 2000;
@@ -147,4 +148,17 @@ fn locks_without_their_mfence() {
     });
     let rare: Vec<_> = met.iter().filter(|(_, count)| **count < 100).collect();
     assert!(met.len() == 6 && rare.is_empty(), "{met:?}");
+}
+
+/// Instructions and pages of the kernels that are made for a number of instructions.
+#[test]
+fn kernels_at_the_end_of_a_page() {
+    let mut met: BTreeMap<usize, usize> = BTreeMap::new();
+    for_each_case(&Cases::new(1), |case| {
+        let named = case.edge.and_then(|(edge, _)| edge.name.strip_suffix(" instructions at level 2"));
+        let Some(count) = named.and_then(|count| count.parse::<usize>().ok()) else { return };
+        assert_eq!(lowered(2, &case.file).map(|sheet| sheet.len()), Ok(16 + 8 * count));
+        *met.entry(count).or_default() = paged(&case.file).map_or(0, |pages| pages.len() / 33 - count);
+    });
+    assert_eq!(met, BTreeMap::from([(55, 1), (56, 2), (110, 2), (111, 3)]));
 }

@@ -1,4 +1,6 @@
 -- Checks: checks 1 to 4 passed, and checks 5 to 8.
 -- Size: how many bytes a file's rows take.
+-- Order: the records of a kernel in the order of its lanes.
 pub mod Checks
 pub mod Size
+pub mod Order

@@ -1,7 +1,7 @@
 // The refusal of a kernel file of whatever bytes, or that it is accepted, with its chains as rows.
 ghost use mathlib.Core.Path.{_≡_};
 ghost use Prim.Native.Nat.{_+_, _*_, _≤_, _<_};
-ghost use lib.ListN.{length, replicate};
+ghost use lib.ListN.{length, replicate, take};
 ghost use Rattle.file_format.specs.Fields.{recordCount};
 ghost use Rattle.file_format.specs.Structured.{Fielded};
 ghost use Rattle.file_format.specs.Accepted.{programOf};
@@ -12,6 +12,7 @@ ghost use Rattle.file_verdict.specs.Verdict.{verdict, accepted, refusalOf, fiel
 ghost use Rattle.sheet_format.specs.declared.Level.the-variants.{Level0};
 ghost use Rattle.sheet_format.specs.Bytes.{over, sheetBytes};
 ghost use Rattle.file_accept.specs.Checks.{linkedRefusal};
+ghost use Rattle.file_accept.specs.Order.{laneOrder};
 use file_chains::link::link;
 use file_chains::targets::bad_target;
 use file_chains::targets::too_long;
@@ -43,8 +44,8 @@ pub fn field_refusal(file: &[u8]) -> Refusal
     Refusal::Accepted
 }
 
-// The refusal of checks 5 to 8, on a file that checks 1 to 4 pass. Its chains are written once 5 to 7 have passed.
-// What it leaves in `order` and `place` is open.
+// The refusal of checks 5 to 8, on a file that checks 1 to 4 pass. Its chains are written, and the records stand in
+// `order` lane after lane, once 5 to 7 have passed. What it leaves in `place` is open.
 pub fn linked_refusal(file: &[u8], rows: &mut [u8], order: &mut [u16], place: &mut [u16]) -> Refusal
     requires fields { ⌜ Fielded (now file) ⌝ }
     requires room { ⌜ 16 + 8 * recordCount (now file) ≤ length (now rows) ⌝ }
@@ -55,6 +56,9 @@ pub fn linked_refusal(file: &[u8], rows: &mut [u8], order: &mut [u16], place: &m
         → badTarget (now (file .entry)) ≡ 0
         → (now (rows .exit) ≡ over (sheetBytes Level0 (programOf (now (file .entry)))) (now (rows .entry)))
         × (length (sheetBytes Level0 (programOf (now (file .entry)))) ≡ 16 + 8 * recordCount (now (file .entry)))) ⌝ }
+    ensures order { λ r. ⌜ (badLinkage (now (file .entry)) ≡ 0 → chainTooLong (now (file .entry)) ≡ 0
+        → badTarget (now (file .entry)) ≡ 0
+        → take (recordCount (now (file .entry))) (now (order .exit)) ≡ laneOrder (programOf (now (file .entry)))) ⌝ }
 {
     let linked = link(file, order, place);
     let linkage = linked.bad;

@@ -1,4 +1,4 @@
--- A kernel of one lane through each of the four calls, and runs of one that ends with a STORE, by computation from
+-- A kernel of one lane through each of the five calls, and runs of one that ends with a STORE, by computation from
 -- their bytes.
 use Prim.Native.Nat.{ℕ, _*_, _^_}
 use mathlib.Core.Path.{_≡_, refl}
@@ -19,7 +19,11 @@ use Rattle.machine_spec.specs.Moves.{movesIn}
 use Rattle.sheet_format.specs.Put.{inTurn}
 use Rattle.machine_record.specs.Lanes.{entriesBytes, stateLane}
 use Rattle.machine_record.specs.Record.{headBytes, recordOf}
-use Rattle.lanes_answers.specs.Interface.{callLower1, callLower2, callRunSource, callRunTso}
+use Rattle.text_put.specs.Decimal.{digits, decimal}
+use Rattle.text_page.specs.Columns.{blankLine, inColumn, inColumns, lineIn}
+use Rattle.text_page.specs.Lines.{instructionLine, laneLines, linesFrom, pageLines}
+use Rattle.text_page.specs.Pages.{headingLine, pageOf, pagesOf, pageText}
+use Rattle.lanes_answers.specs.Interface.{callLower1, callLower2, callPage, callRunSource, callRunTso}
 
 -- one lane, two locations of which location 1 is volatile, and one lock:
 -- SET 2 to 258, STORE 2 to location 1, LOCK 0, UNLOCK 0, LOAD 3 from location 1
@@ -120,8 +124,40 @@ calls =
             ∷ 255 ∷ [];
       },
     )
+    -- the kernel's page has a heading and 6 lines of 33 bytes
+    --   "page                           1"
+    --   "0   0 SET    2           258   1"
+    --   "0   1 STORE  2  1              2"
+    --   "0   2 LOCK      0              3"
+    --   "0   3 UNLOCK    0              4"
+    --   "0   4 MFENCE                    "
+    --   "0   5 LOAD   3  1              5"
+    ∷ (called (callPage kernel (output 230)), record { answer = 9 * 2 ^ 32; after = output 230 })
+    ∷ (
+      called (callPage kernel (output 232)),
+      record {
+        answer = 231;
+        after =
+            112 ∷ 97 ∷ 103 ∷ 101 ∷ 32 ∷ 32 ∷ 32 ∷ 32 ∷ 32 ∷ 32 ∷ 32 ∷ 32 ∷ 32 ∷ 32 ∷ 32 ∷ 32 ∷ 32 ∷ 32 ∷ 32
+            ∷ 32 ∷ 32 ∷ 32 ∷ 32 ∷ 32 ∷ 32 ∷ 32 ∷ 32 ∷ 32 ∷ 32 ∷ 32 ∷ 32 ∷ 49 ∷ 10
+            ∷ 48 ∷ 32 ∷ 32 ∷ 32 ∷ 48 ∷ 32 ∷ 83 ∷ 69 ∷ 84 ∷ 32 ∷ 32 ∷ 32 ∷ 32 ∷ 50 ∷ 32 ∷ 32 ∷ 32 ∷ 32 ∷ 32
+            ∷ 32 ∷ 32 ∷ 32 ∷ 32 ∷ 32 ∷ 32 ∷ 50 ∷ 53 ∷ 56 ∷ 32 ∷ 32 ∷ 32 ∷ 49 ∷ 10
+            ∷ 48 ∷ 32 ∷ 32 ∷ 32 ∷ 49 ∷ 32 ∷ 83 ∷ 84 ∷ 79 ∷ 82 ∷ 69 ∷ 32 ∷ 32 ∷ 50 ∷ 32 ∷ 32 ∷ 49 ∷ 32 ∷ 32
+            ∷ 32 ∷ 32 ∷ 32 ∷ 32 ∷ 32 ∷ 32 ∷ 32 ∷ 32 ∷ 32 ∷ 32 ∷ 32 ∷ 32 ∷ 50 ∷ 10
+            ∷ 48 ∷ 32 ∷ 32 ∷ 32 ∷ 50 ∷ 32 ∷ 76 ∷ 79 ∷ 67 ∷ 75 ∷ 32 ∷ 32 ∷ 32 ∷ 32 ∷ 32 ∷ 32 ∷ 48 ∷ 32 ∷ 32
+            ∷ 32 ∷ 32 ∷ 32 ∷ 32 ∷ 32 ∷ 32 ∷ 32 ∷ 32 ∷ 32 ∷ 32 ∷ 32 ∷ 32 ∷ 51 ∷ 10
+            ∷ 48 ∷ 32 ∷ 32 ∷ 32 ∷ 51 ∷ 32 ∷ 85 ∷ 78 ∷ 76 ∷ 79 ∷ 67 ∷ 75 ∷ 32 ∷ 32 ∷ 32 ∷ 32 ∷ 48 ∷ 32 ∷ 32
+            ∷ 32 ∷ 32 ∷ 32 ∷ 32 ∷ 32 ∷ 32 ∷ 32 ∷ 32 ∷ 32 ∷ 32 ∷ 32 ∷ 32 ∷ 52 ∷ 10
+            ∷ 48 ∷ 32 ∷ 32 ∷ 32 ∷ 52 ∷ 32 ∷ 77 ∷ 70 ∷ 69 ∷ 78 ∷ 67 ∷ 69 ∷ 32 ∷ 32 ∷ 32 ∷ 32 ∷ 32 ∷ 32 ∷ 32
+            ∷ 32 ∷ 32 ∷ 32 ∷ 32 ∷ 32 ∷ 32 ∷ 32 ∷ 32 ∷ 32 ∷ 32 ∷ 32 ∷ 32 ∷ 32 ∷ 10
+            ∷ 48 ∷ 32 ∷ 32 ∷ 32 ∷ 53 ∷ 32 ∷ 76 ∷ 79 ∷ 65 ∷ 68 ∷ 32 ∷ 32 ∷ 32 ∷ 51 ∷ 32 ∷ 32 ∷ 49 ∷ 32 ∷ 32
+            ∷ 32 ∷ 32 ∷ 32 ∷ 32 ∷ 32 ∷ 32 ∷ 32 ∷ 32 ∷ 32 ∷ 32 ∷ 32 ∷ 32 ∷ 53 ∷ 10
+            ∷ 255 ∷ [];
+      },
+    )
     -- refused by the file: number × 2^32 + record
     ∷ (called (callLower1 (replicate 15 0) (output 3)), record { answer = 2 ^ 32; after = output 3 })
+    ∷ (called (callPage (replicate 15 0) (output 3)), record { answer = 2 ^ 32; after = output 3 })
     -- a refused file, then 9, then 10
     ∷ (called (callRunTso (replicate 15 0) (0 ∷ []) (output 3)), record { answer = 2 ^ 32; after = output 3 })
     ∷ (called (callRunTso kernel (0 ∷ []) (output 3)), record { answer = 9 * 2 ^ 32; after = output 3 })
@@ -181,5 +217,6 @@ unfolding refusalOf structureThen fieldsThen headerRule headRule badRecord recor
     lockFault
     position
     opOf opsFrom recordAt faultPosition faultAt conflictBelow heldFrom same stands due dueAfter sheetBytes readSheet
-    movesIn inTurn entriesBytes stateLane headBytes recordOf kernel storing output calls
+    movesIn inTurn entriesBytes stateLane headBytes recordOf kernel storing output calls digits decimal blankLine
+    inColumn inColumns lineIn instructionLine headingLine laneLines linesFrom pageLines pageOf pagesOf pageText
 calls-hold = refl

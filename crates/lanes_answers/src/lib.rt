@@ -1,2 +1,2 @@
-// What the four C calls answer: the definitions, and an answer as one number.
+// What the five C calls answer: the definitions, and an answer as one number.
 pub mod packed;

@@ -1,10 +1,9 @@
 // Prints the level 2 sheet of the kernel file on standard input, or its refusal. Of a file that is longer than every
 // kernel, which is refused by its header or its length, the first 3,089 bytes are enough.
+use console::print::say_part;
 use sheet_format::WriteResult;
 
 const STDIN: i32 = 0;
-
-const STDOUT: i32 = 1;
 
 fn main() {
     let mut file = [0u8; 3089];
@@ -12,13 +11,7 @@ fn main() {
     let mut text = io::large_buffer();
     let answer = text_kernel::print_kernel(&file[..n], &mut text);
     match answer {
-        WriteResult::Wrote(size) => print(&text, size),
+        WriteResult::Wrote(size) => say_part(&text, size),
         WriteResult::Refuses(_, _) => return,
-    }
-}
-
-fn print(text: &[u8], size: usize) {
-    if size <= text.len() {
-        io::write_all(STDOUT, &text[..size]);
     }
 }

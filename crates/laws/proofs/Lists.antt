@@ -1,5 +1,5 @@
 -- Laws of what stands at a position of a list: of a part, a join, an image, an updated list.
-use Prim.Native.Nat.{ℕ, zero, suc, _≤_, _<_}
+use Prim.Native.Nat.{ℕ, zero, suc, _+_, _≤_, _<_}
 use mathlib.Core.Path.{_≡_, refl, sym, ap, _∙_}
 use mathlib.Core.Bool.{Bool, true, false, cond, true≢false}
 use mathlib.Core.List.{List, [], _∷_, _++_, map}
@@ -42,6 +42,12 @@ module _ {ℓ} {A : Type ℓ} where
   getElem?-left [] ys d i h = absurd (omega arith)
   getElem?-left (x ∷ xs) ys d zero h = refl
   getElem?-left (x ∷ xs) ys d (suc i) h = getElem?-left xs ys d i (omega arith)
+
+  pub at-behind : (xs ys : List A) (i : ℕ) → getElem? (xs ++ ys) (length xs + i) ≡ getElem? ys i
+  at-behind [] ys i = let e : 0 + i ≡ i = omega arith in ap (getElem? ys) e
+  at-behind (x ∷ xs) ys i =
+      let e : suc (length xs) + i ≡ suc (length xs + i) = omega arith in
+      ap (getElem? (x ∷ xs ++ ys)) e ∙ at-behind xs ys i
 
 -- row 0, which is 0, stands for every position that the list has not
 pub getD-within : (l : List ℕ) (n : ℕ) → length l ≡ n → getD l 0 0 ≡ 0 → (i : ℕ)

@@ -4,7 +4,7 @@ use mathlib.Core.Path.{_≡_, refl, sym, ap, _∙_}
 use mathlib.Core.List.{List, [], _∷_, _++_}
 use native.Mathlib.Omega.{arith}
 use lib.ListN.{length, getD, take, drop, set, replicate, length-drop}
-use lib.Seq.{sets, getD-drop, set-comm, set-set, take-all}
+use lib.Seq.{sets, getD-drop, set-comm, set-set, set-out, drop-set-lt, drop-set-add, take-all}
 
 -- the part of a list from n on, as `&xs[n..]` has it
 pub take-rest : (n : ℕ) (xs : List ℕ) → take (length xs - n) (drop n xs) ≡ drop n xs
@@ -27,6 +27,13 @@ pub take-replicate : {A : Type 0} (n m : ℕ) (a : A) → n ≤ m → take n (re
 take-replicate zero m a h = refl
 take-replicate (suc n) zero a h = absurd (omega arith)
 take-replicate (suc n) (suc m) a h = ap (λ l. a ∷ l) (take-replicate n m a (omega arith))
+
+pub drop-replicate : {A : Type 0} (n m : ℕ) (a : A) → drop n (replicate m a) ≡ replicate (m - n) a
+drop-replicate zero m a = let all : m ≡ m - 0 = omega arith in ap (λ k. replicate k a) all
+drop-replicate (suc n) zero a = let none : 0 ≡ 0 - suc n = omega arith in ap (λ k. replicate k a) none
+drop-replicate (suc n) (suc m) a =
+    let less : m - n ≡ suc m - suc n = omega arith in
+    drop-replicate n m a ∙ ap (λ k. replicate k a) less
 
 -- as many elements as a list's first part has are that part
 pub take-length-take : {A : Type 0} (m : ℕ) (l : List A) → take (length (take m l)) l ≡ take m l
@@ -58,3 +65,28 @@ sets-over l i (a ∷ x) (b ∷ y) h =
     ap (λ m. sets m (suc i) y)
     (before-sets (set l i a) (suc i) i x b (omega arith) ∙ ap (λ m. sets m (suc i) x) (set-set l i a b))
     ∙ sets-over (set l i b) (suc i) x y (omega arith)
+
+-- a run, seen in a part of the list
+pub take-sets : (n : ℕ) (l : List ℕ) (i : ℕ) (x : List ℕ) → take n (sets l i x) ≡ sets (take n l) i x
+take-sets n l i [] = refl
+take-sets n l i (a ∷ x) = take-sets n (set l i a) (suc i) x ∙ ap (λ m. sets m (suc i) x) (take-set n l i a)
+
+pub drop-sets : (n : ℕ) (l : List ℕ) (i : ℕ) (x : List ℕ) → drop n (sets l (n + i) x) ≡ sets (drop n l) i x
+drop-sets n l i [] = refl
+drop-sets n l i (a ∷ x) =
+    let next : suc (n + i) ≡ n + suc i = omega arith in
+    ap (λ k. drop n (sets (set l (n + i) a) k x)) next
+    ∙ drop-sets n (set l (n + i) a) (suc i) x
+    ∙ ap (λ m. sets m (suc i) x) (drop-set-add n l i a)
+
+-- the list behind the run is as it was
+pub drop-sets-le : (n : ℕ) (l : List ℕ) (i : ℕ) (x : List ℕ) → i + length x ≤ n → drop n (sets l i x) ≡ drop n l
+drop-sets-le n l i [] h = refl
+drop-sets-le n l i (a ∷ x) h =
+    drop-sets-le n (set l i a) (suc i) x (omega arith) ∙ drop-set-lt n l i a (omega arith)
+
+-- a run behind the list's end
+pub sets-out : (l : List ℕ) (i : ℕ) (x : List ℕ) → length l ≤ i → sets l i x ≡ l
+sets-out l i [] h = refl
+sets-out l i (a ∷ x) h =
+    ap (λ m. sets m (suc i) x) (set-out l i a h) ∙ sets-out l (suc i) x (omega arith)

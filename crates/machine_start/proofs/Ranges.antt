@@ -1,7 +1,7 @@
 -- The programs of an accepted kernel: each operand has a cell, each LOAD a register, and each lane is short.
-use Prim.Native.Nat.{ℕ, zero, suc, _≤_, _<_}
+use Prim.Native.Nat.{ℕ, _≤_, _<_}
 use mathlib.Core.Path.{_≡_, refl, sym, ap, subst, _∙_}
-use mathlib.Core.List.{List, [], _∷_}
+use mathlib.Core.List.{List, []}
 use mathlib.Core.Option.{some}
 use native.Mathlib.Omega.{arith}
 use lib.ListN.{length, getD, getElem?, List·getD-map}
@@ -15,7 +15,7 @@ use Rattle.barrier_placement.specs.Layout.{start}
 use Rattle.sheet_format.specs.Layout.{Instr, op, barrier, aim, sheet}
 use Rattle.sheet_format.specs.Levels.{placed, placedLanes, volatileIn}
 use Rattle.sheet_format.proofs.Laws.Aim.{aim-cases}
-use Rattle.sheet_format.proofs.Laws.Cells.{Each, cells-each, lane-length}
+use Rattle.sheet_format.proofs.Laws.Cells.{Each, each-at, cells-each, lane-length}
 use Rattle.machine_spec.specs.declared.Machine.{Machine}
 use Rattle.machine_spec.specs.State.{idle}
 use Rattle.machine_spec.specs.Run.{programFor, levelOf}
@@ -26,12 +26,6 @@ use Rattle.machine_state.specs.Ready.{Asks}
 -- an idle lane has what the instruction asks: its operand has a cell
 abbrev pub Ranged : Instr → Type 0
 Ranged i = Asks i idle
-
-module _ (P : Instr → Type 0) where
-  each-at : (is : List Instr) → Each P is → (p : ℕ) (i : Instr) → getElem? is p ≡ some i → P i
-  each-at [] h p i e = let z : _≡_ {A = ℕ} 0 1 = cc in absurd (omega arith)
-  each-at (x ∷ is) h zero i e = let same : x ≡ i = cc in subst P same (h .0)
-  each-at (x ∷ is) h (suc p) i e = each-at is (h .1) p i e
 
 module _ (ls ks n p : ℕ) (wl : ls ≤ 16) (wk : ks ≤ 4) where
   ranged-op : (o : Op) → Bounded ls ks n p o → Ranged (op o)

@@ -37,6 +37,10 @@ apart p =
     let clash : _≡_ {A = ℕ} 0 1 = ap (λ (z : WriteResult × List ℕ). kindOf (z .0)) p in
     absurd (omega arith)
 
+-- an answer of which it is known what it is
+pub told : {r x : WriteResult} {after : List ℕ} {y : WriteResult × List ℕ} → r ≡ x → (r, after) ≡ y → (x, after) ≡ y
+told {r} {x} {after} e p = (λ i. (sym e i, after)) ∙ p
+
 -- the file is accepted, and its kernel's bytes stand at the front of the buffer
 pub record BytesIn (bytes : Program → List ℕ) (s own after : List ℕ) : Type 0 where
   pub kernel : Program
@@ -75,6 +79,16 @@ module _ (bytes : Program → List ℕ) (s own : List ℕ) where
           ∙ ap₂ refused (ap (λ (z : WriteResult × List ℕ). numberIn (z .0)) (sym x))
           (ap (λ (z : WriteResult × List ℕ). recordIn (z .0)) (sym x))
       go (accepted k) e x = absurd (never k e x)
+
+  -- any but 9
+  pub refuses-any : {n r : ℕ} {after : List ℕ} → ¬ n ≡ 9 → (Refuses n r, after) ≡ answerBy bytes (verdict s) own
+      → verdict s ≡ refused n r
+  refuses-any {n} {r} {after} other =
+      refuses-but (λ k e x. other (by k (ltb (length own) (length (bytes k))) x))
+    where
+      by : (k : Program) (b : Bool) → _≡_ {A = WriteResult × List ℕ} (Refuses n r, after) (outcome k b) → n ≡ 9
+      by k true x = ap (λ (z : WriteResult × List ℕ). numberIn (z .0)) x
+      by k false x = absurd (apart (sym x))
 
 -- in a buffer that takes the bytes of every kernel
 module _
@@ -141,3 +155,15 @@ module _ (bytes : Program → List ℕ) (s buffer : List ℕ) where
       let v = refused-small s in
       subst (λ (z : WriteResult × List ℕ). (numberIn (z .0) ≤ 9) × (recordIn (z .0) ≤ 256)) (sym p)
       (answer-by (verdict s) (v .0) (v .1))
+
+  -- 9 is no refusal of a file
+  pub short-any : {r : ℕ} {after : List ℕ} → (Refuses 9 r, after) ≡ answerBy bytes (verdict s) buffer
+      → (k : Program) × (verdict s ≡ accepted k)
+  short-any {r} {after} = go (verdict s) refl
+    where
+      go : (v : Verdict) → verdict s ≡ v → (Refuses 9 r, after) ≡ answerBy bytes v buffer
+          → (k : Program) × (verdict s ≡ accepted k)
+      go (refused n q) e x =
+          let same : 9 ≡ n = ap (λ (z : WriteResult × List ℕ). numberIn (z .0)) x in
+          absurd (omega (arith, refused-small s .0, ap numberBy e))
+      go (accepted k) e x = (k, e)

@@ -1,2 +1,3 @@
 -- Laws by subject.
+pub mod Early
 pub mod Sheet

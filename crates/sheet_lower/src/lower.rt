@@ -1,10 +1,12 @@
 // A kernel file of whatever bytes, lowered into an output buffer of whatever length.
 ghost use mathlib.Core.Path.{_≡_};
 ghost use Prim.Native.Nat.{_+_, _*_, _≤_, _<_};
-ghost use lib.ListN.{length, replicate};
+ghost use lib.ListN.{length, replicate, take};
 ghost use Rattle.file_format.specs.Fields.{recordCount};
 ghost use Rattle.file_format.specs.Structured.{Fielded};
-ghost use Rattle.file_verdict.specs.Verdict.{verdict};
+ghost use Rattle.file_format.specs.Accepted.{programOf};
+ghost use Rattle.file_verdict.specs.Verdict.{verdict, accepted};
+ghost use Rattle.file_accept.specs.Order.{laneOrder};
 ghost use Rattle.sheet_format.specs.Bytes.{lowerBy, lower1 as lowered1, lower2 as lowered2};
 use crate::whole::write_sheet;
 use file_accept::accept::field_refusal;
@@ -29,7 +31,9 @@ fn lower_in(
         × (recordCount (now file) + 4 ≤ length (now plan)) ⌝ }
     requires order { ⌜ (recordCount (now file) ≤ length (now order)) × (recordCount (now file) < length (now place)) ⌝ }
     requires blank { ⌜ now place ≡ replicate (length (now place)) 0 ⌝ }
-    ensures { λ r. ⌜ (r, now (out .exit)) ≡ lowerBy level (verdict (now (file .entry))) (now (out .entry)) ⌝ }
+    ensures answer { λ r. ⌜ (r, now (out .exit)) ≡ lowerBy level (verdict (now (file .entry))) (now (out .entry)) ⌝ }
+    ensures order { λ r. ⌜ (verdict (now (file .entry)) ≡ accepted (programOf (now (file .entry)))
+        → take (recordCount (now (file .entry))) (now (order .exit)) ≡ laneOrder (programOf (now (file .entry)))) ⌝ }
 {
     let refusal = linked_refusal(file, rows, order, place);
     let number = number_of(refusal);
@@ -101,6 +105,25 @@ fn lower_long(level: Level, file: &[u8], out: &mut [u8]) -> WriteResult
         &mut place,
         &mut plan,
     )
+}
+
+// The sheet of a level, as `lower` writes it, and the records of an accepted file in the order of its lanes at the
+// front of `order`, which a refusal of the file leaves open.
+pub fn lower_ordered(level: Level, file: &[u8], out: &mut [u8], order: &mut [u16]) -> WriteResult
+    requires { ⌜ 256 ≤ length (now order) ⌝ }
+    ensures answer { λ r. ⌜ (r, now (out .exit)) ≡ lowerBy level (verdict (now (file .entry))) (now (out .entry)) ⌝ }
+    ensures order { λ r. ⌜ (verdict (now (file .entry)) ≡ accepted (programOf (now (file .entry)))
+        → take (recordCount (now (file .entry))) (now (order .exit)) ≡ laneOrder (programOf (now (file .entry)))) ⌝ }
+{
+    let fields = field_refusal(file);
+    let refused = number_of(fields);
+    if refused != 0 {
+        return WriteResult::Refuses(refused, record_of(fields));
+    }
+    let mut chains = [0u8; 2064];
+    let mut slots = [0u16; 257];
+    let mut plans = [0u32; 260];
+    lower_in(level, file, out, &mut chains, order, &mut slots, &mut plans)
 }
 
 // The sheet of a level at the front of `out`; a refusal, 9 for a buffer that is too short, leaves `out` as it was.

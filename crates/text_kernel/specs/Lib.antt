@@ -1,1 +1,2 @@
--- Nothing of its own: what is printed is `printed` of listing.
+-- What is printed of a kernel file: `printed` of text_listing, the listing; Printed: the pages.
+pub mod Printed

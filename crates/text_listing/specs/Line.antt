@@ -9,15 +9,15 @@ use Rattle.sheet_format.specs.Layout.{Instr, op, barrier}
 use Rattle.text_put.specs.Decimal.{decimal}
 use Rattle.text_put.specs.Words.{space, newline, named}
 
--- "SET ", "ADD ", "LOAD ", "STORE ", "LOCK ", "UNLOCK ", "SKIP "
+-- "SET", "ADD", "LOAD", "STORE", "LOCK", "UNLOCK", "SKIP"
 abbrev pub nameOf : Op → List ℕ
-nameOf (Set a c) = 83 ∷ 69 ∷ 84 ∷ space ∷ []
-nameOf (Add a b) = 65 ∷ 68 ∷ 68 ∷ space ∷ []
-nameOf (Load a x) = 76 ∷ 79 ∷ 65 ∷ 68 ∷ space ∷ []
-nameOf (Store a x) = 83 ∷ 84 ∷ 79 ∷ 82 ∷ 69 ∷ space ∷ []
-nameOf (Lock l) = 76 ∷ 79 ∷ 67 ∷ 75 ∷ space ∷ []
-nameOf (Unlock l) = 85 ∷ 78 ∷ 76 ∷ 79 ∷ 67 ∷ 75 ∷ space ∷ []
-nameOf (Skip a t) = 83 ∷ 75 ∷ 73 ∷ 80 ∷ space ∷ []
+nameOf (Set a c) = 83 ∷ 69 ∷ 84 ∷ []
+nameOf (Add a b) = 65 ∷ 68 ∷ 68 ∷ []
+nameOf (Load a x) = 76 ∷ 79 ∷ 65 ∷ 68 ∷ []
+nameOf (Store a x) = 83 ∷ 84 ∷ 79 ∷ 82 ∷ 69 ∷ []
+nameOf (Lock l) = 76 ∷ 79 ∷ 67 ∷ 75 ∷ []
+nameOf (Unlock l) = 85 ∷ 78 ∷ 76 ∷ 79 ∷ 67 ∷ 75 ∷ []
+nameOf (Skip a t) = 83 ∷ 75 ∷ 73 ∷ 80 ∷ []
 
 -- "LL", "LS", "SS", which a level 2 sheet does not have, and "MFENCE"
 abbrev pub barrierName : Barrier → List ℕ
@@ -25,6 +25,11 @@ barrierName LL = 76 ∷ 76 ∷ []
 barrierName LS = 76 ∷ 83 ∷ []
 barrierName SS = 83 ∷ 83 ∷ []
 barrierName SL = 77 ∷ 70 ∷ 69 ∷ 78 ∷ 67 ∷ 69 ∷ []
+
+-- the name of an instruction
+abbrev pub instrName : Instr → List ℕ
+instrName (op o) = nameOf o
+instrName (barrier b) = barrierName b
 
 -- two numbers with a space between them
 abbrev pub pair : ℕ → ℕ → List ℕ
@@ -40,9 +45,9 @@ operands (Lock l) = decimal l
 operands (Unlock l) = decimal l
 operands (Skip a t) = pair a t
 
--- the name, then the operands; MFENCE has none
+-- the name, then a space and the operands; MFENCE has none
 unfoldable pub instrText : Instr → List ℕ
-instrText (op o) = nameOf o ++ operands o
+instrText (op o) = nameOf o ++ space ∷ operands o
 instrText (barrier b) = barrierName b
 
 -- lane, position, then the instruction

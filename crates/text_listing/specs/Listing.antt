@@ -26,13 +26,13 @@ unfoldable pub listing : Program → List ℕ
 listing k =
     firstLine (length (k .lanes)) (k .locations) (ones (k .mask)) (k .locks) ++ sheetLines 0 (sheetLanes Level2 k)
 
--- what is printed of a kernel file
-abbrev pub printedBy : Verdict → List ℕ
-printedBy (refused number r) = refusalLine number r
-printedBy (accepted k) = listing k
+-- what is printed of a kernel file: the line of its refusal, or a text of the kernel
+abbrev pub printedBy : (Program → List ℕ) → Verdict → List ℕ
+printedBy text (refused number r) = refusalLine number r
+printedBy text (accepted k) = text k
 
 abbrev pub printed : List ℕ → List ℕ
-printed s = printedBy (verdict s)
+printed s = printedBy listing (verdict s)
 
 -- the same of the bytes of a sheet, which do not have the kernel's mask
 unfoldable pub sheetText : List ℕ → ℕ → List ℕ

@@ -25,7 +25,7 @@ use Rattle.machine_spec.specs.Schedule.{Move, limit, legal}
 use Rattle.machine_spec.specs.State.{Run, Outcome, ran, refused, advance}
 use Rattle.machine_spec.specs.Run.{Answer, answerOf, startOf, programFor, runOn, runBy}
 use Rattle.machine_state.specs.States.{Blocks}
-use Rattle.machine_step.proofs.Laws.Programs.{row-from}
+use Rattle.sheet_rows.proofs.Laws.Read.{row-from}
 use Rattle.machine_record.specs.Record.{stateBytes}
 use Rattle.machine_start.proofs.Answered.{not-refused}
 use Rattle.machine_start.proofs.Ranges.{program-loads}

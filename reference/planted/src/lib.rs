@@ -33,5 +33,6 @@ macro_rules! run {
 
 lower!(lanes_lower1, fast::lower1);
 lower!(lanes_lower2, fast::lower2);
+lower!(lanes_page, fast::page);
 run!(lanes_run_source, fast::run_source);
 run!(lanes_run_tso, fast::run_tso);

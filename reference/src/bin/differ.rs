@@ -11,7 +11,7 @@ const RUNS: Option<[Run; 2]> = None;
 
 fn main() -> ExitCode {
     let runs = RUNS.filter(|_| std::env::args().all(|word| word != "lower"));
-    let calls = Calls { lower1: library::lower1, lower2: library::lower2, runs };
+    let calls = Calls { lower1: library::lower1, lower2: library::lower2, page: library::page, runs };
     let short = report("differ: library and slow", compare(&Arguments::read(20_000), &calls));
     let long = report("differ: library and fast, long schedules", compare_long(&calls));
     if short == ExitCode::SUCCESS { long } else { short }

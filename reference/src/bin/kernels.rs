@@ -1,4 +1,5 @@
-//! Program: writes example kernel files. Arguments: the folder, then `listing` for their level 2 listings as well.
+//! Program: writes example kernel files. Arguments: the folder, then `listing` for their level 2 listings and pages as
+//! well.
 
 use reference::{examples, slow};
 use std::path::Path;
@@ -16,6 +17,7 @@ fn main() -> io::Result<()> {
         fs::write(path.with_extension("kernel"), &file)?;
         if listed {
             fs::write(path.with_extension("listing"), slow::listing(&file))?;
+            fs::write(path.with_extension("page"), slow::page_listing(&file))?;
         }
     }
     Ok(())

@@ -1,4 +1,5 @@
-//! Program: what the program `lanetext` prints, against the slow listing. Arguments: the program, cases, seed.
+//! Program: what the program `lanetext` or `lanepage` prints, against the slow text. Arguments: the program, `listing`
+//! or `page`, cases, seed.
 
 use reference::compare::Arguments;
 use reference::random::Cases;
@@ -7,12 +8,17 @@ use std::io::{self, Write};
 use std::process::{Command, ExitCode, Stdio};
 
 fn main() -> ExitCode {
-    let Some(program) = std::env::args().nth(1) else {
-        eprintln!("listings PROGRAM [CASES] [SEED]");
-        return ExitCode::FAILURE;
+    let words: Vec<String> = std::env::args().skip(1).collect();
+    let (program, text): (_, Text) = match &words[..] {
+        [program, word, ..] if word == "listing" => (program, slow::listing),
+        [program, word, ..] if word == "page" => (program, slow::page_listing),
+        _ => {
+            eprintln!("listings PROGRAM listing|page [CASES] [SEED]");
+            return ExitCode::FAILURE;
+        }
     };
-    match compare(&program, &Arguments::read(1000)) {
-        Ok(told) => println!("listings: {told}"),
+    match compare(program, text, &Arguments::read(1000)) {
+        Ok(told) => println!("listings: {program}, {told}"),
         Err(difference) => {
             println!("listings: DIFFERENCE in {difference}");
             return ExitCode::FAILURE;
@@ -21,20 +27,23 @@ fn main() -> ExitCode {
     ExitCode::SUCCESS
 }
 
-fn compare(program: &str, arguments: &Arguments) -> Result<String, String> {
+/// What is to be printed for a file.
+type Text = fn(&[u8]) -> Vec<u8>;
+
+fn compare(program: &str, text: Text, arguments: &Arguments) -> Result<String, String> {
     let cases = Cases::new(arguments.seed);
-    let (mut lists, mut lines) = (0, 0);
+    let (mut refused, mut lines) = (0, 0);
     for number in 0..arguments.cases {
         let file = cases.case(number).file;
-        let expected = String::from_utf8_lossy(&slow::listing(&file)).into_owned();
+        let expected = String::from_utf8_lossy(&text(&file)).into_owned();
         let printed = printed(program, &file).map_err(|fault| format!("case {number}: {program}: {fault}"))?;
         if printed != expected {
             return Err(format!("case {number}: {}", first_difference(&printed, &expected)));
         }
-        lists += u64::from(expected.starts_with("lanes"));
+        refused += u64::from(expected.starts_with("refused"));
         lines += expected.lines().count();
     }
-    let refused = arguments.cases - lists;
+    let lists = arguments.cases - refused;
     Ok(format!("{} kernels, {lists} listed and {refused} refused, {lines} lines alike", arguments.cases))
 }
 

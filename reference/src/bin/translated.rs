@@ -13,6 +13,7 @@ fn main() -> io::Result<()> {
         for level in [1, 2] {
             println!("{}", lowered(level, &kernel));
         }
+        println!("{}", paged(&kernel));
         for (name, machine) in [("source", Machine::Source), ("tso", Machine::Tso)] {
             println!("{}", ran(name, machine, &kernel));
         }
@@ -30,6 +31,16 @@ fn lowered(level: u8, kernel: &[u8]) -> String {
         .map(|lane| u16::from_le_bytes([sheet[8 + 2 * lane], sheet[9 + 2 * lane]]).to_string())
         .collect();
     format!("level {level}, {answer} bytes, instructions {}", counts.join(" "))
+}
+
+fn paged(kernel: &[u8]) -> String {
+    let mut page = [0; 20_000];
+    let answer = slow::page(kernel, &mut page);
+    if answer >> 32 != 0 {
+        return refused(answer);
+    }
+    let pages = page[..answer as usize].split(|byte| *byte == b'\n').filter(|line| line.starts_with(b"page")).count();
+    format!("page: {answer} bytes, {pages} pages")
 }
 
 fn ran(name: &str, machine: Machine, kernel: &[u8]) -> String {

@@ -102,6 +102,15 @@ impl Plan {
         found.map_or(0, |(name, _)| usize::from(*name) + 1)
     }
 
+    /// The position in its lane where a SKIP lands.
+    pub fn lands(&self, kernel: &Kernel, lane: usize, skip: &Record) -> u16 {
+        let start = kernel.ends[lane];
+        match kernel.landing(skip, start) {
+            64 => self.counts[lane],
+            position => self.starts[start + position],
+        }
+    }
+
     fn lay_lane<const LEVEL: usize>(&mut self, kernel: &Kernel, lane: usize) -> Result<(), Refusal> {
         let chain = kernel.chain(lane);
         let (start, mask) = (kernel.ends[lane], kernel.mask());

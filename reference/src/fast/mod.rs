@@ -1,8 +1,10 @@
-//! Fast implementation of paper 01, the yardstick of the benchmarks: no allocation, one forward pass, state in place.
+//! Fast implementation of paper 01 with requests 1 to 3 of paper 02, the yardstick of the benchmarks: no allocation,
+//! one forward pass, state in place.
 
 mod check;
 mod flow;
 mod machine;
+mod page;
 mod sheet;
 
 use check::Kernel;
@@ -28,12 +30,17 @@ impl Refusal {
 
 /// Lowers a kernel file to the barrier sheet.
 pub fn lower1(file: &[u8], sheet: &mut [u8]) -> u64 {
-    answer(lower::<1>(file, sheet))
+    answer(put_out::<1>(file, sheet, sheet::write::<1>))
 }
 
 /// Lowers a kernel file to the x86 sheet.
 pub fn lower2(file: &[u8], sheet: &mut [u8]) -> u64 {
-    answer(lower::<2>(file, sheet))
+    answer(put_out::<2>(file, sheet, sheet::write::<2>))
+}
+
+/// Writes the pages of the x86 sheet.
+pub fn page(file: &[u8], page: &mut [u8]) -> u64 {
+    answer(put_out::<2>(file, page, page::write))
 }
 
 /// Runs the source machine over the kernel's chains.
@@ -46,12 +53,17 @@ pub fn run_tso(file: &[u8], moves: &[u8], state: &mut [u8]) -> u64 {
     answer(machine::run::<2, 508, true>(file, moves, state))
 }
 
-fn lower<const LEVEL: usize>(file: &[u8], sheet: &mut [u8]) -> Result<usize, Refusal> {
+/// Checks a kernel file and lays it out; what is written of it is `write`'s.
+fn put_out<const LEVEL: usize>(
+    file: &[u8],
+    out: &mut [u8],
+    write: impl Fn(&Kernel, &Plan, &mut [u8]) -> Result<usize, Refusal>,
+) -> Result<usize, Refusal> {
     let mut kernel = Kernel::blank();
     let mut plan = Plan::blank();
     kernel.check(file)?;
     plan.lay::<LEVEL>(&kernel)?;
-    sheet::write::<LEVEL>(&kernel, &plan, sheet)
+    write(&kernel, &plan, out)
 }
 
 fn answer(result: Result<usize, Refusal>) -> u64 {

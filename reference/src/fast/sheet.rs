@@ -61,11 +61,7 @@ fn write_lane<const LEVEL: usize>(kernel: &Kernel, plan: &Plan, lane: usize, par
         let record = kernel.record(*name);
         let mut own = instruction(record);
         if record[0] == SKIP {
-            let position = match kernel.landing(record, start) {
-                64 => plan.counts[lane],
-                position => plan.starts[start + position],
-            };
-            own |= u64::from(position) << 32;
+            own |= u64::from(plan.lands(kernel, lane, record)) << 32;
         }
         part[at + count] = own.to_le_bytes();
         at += count + 1;

@@ -7,11 +7,16 @@ use super::sheets::{Instruction, Level, MFENCE, instructions};
 const READ: usize = 3089;
 
 pub fn listing(input: &[u8]) -> Vec<u8> {
-    let lines = match check(&input[..input.len().min(READ)]) {
-        Ok(kernel) => accepted(&kernel),
-        Err(Refusal { number, record }) => vec![format!("refused {number} record {record}")],
+    printed(input, |kernel| accepted(kernel).iter().map(|line| format!("{line}\n")).collect())
+}
+
+/// What a program prints for its input: the text of an accepted kernel, or the refusal.
+pub fn printed(input: &[u8], text: impl Fn(&Kernel) -> String) -> Vec<u8> {
+    let printed = match check(&input[..input.len().min(READ)]) {
+        Ok(kernel) => text(&kernel),
+        Err(Refusal { number, record }) => format!("refused {number} record {record}\n"),
     };
-    lines.iter().map(|line| format!("{line}\n")).collect::<String>().into_bytes()
+    printed.into_bytes()
 }
 
 fn accepted(kernel: &Kernel) -> Vec<String> {

@@ -1,15 +1,18 @@
-//! Slow implementation of paper 01: its sentences written down as directly as they can be run, with no care for speed.
+//! Slow implementation of paper 01 with requests 1 to 3 of paper 02: their sentences written down as directly as they
+//! can be run, with no care for speed.
 
 pub mod kernel;
 pub mod listing;
 pub mod machines;
 pub mod outcomes;
+pub mod page;
 pub mod placement;
 mod record;
 pub mod sheets;
 
 pub use listing::listing;
 pub use outcomes::{outcomes, straight_outcomes};
+pub use page::page_listing;
 pub use record::STATE;
 
 use kernel::{Refusal, check, refuse};
@@ -30,6 +33,11 @@ pub fn lower(level: u8, file: &[u8], out: &mut [u8]) -> u64 {
     answer(put_into(out, &lowered(level, file)))
 }
 
+/// Writes the pages of a kernel file into the output buffer.
+pub fn page(file: &[u8], out: &mut [u8]) -> u64 {
+    answer(put_into(out, &paged(file)))
+}
+
 /// Runs a kernel file on a schedule and writes the end state into the output buffer.
 pub fn run(machine: Machine, file: &[u8], moves: &[u8], out: &mut [u8]) -> u64 {
     let result = ran(machine, file, moves, out.len());
@@ -40,6 +48,11 @@ pub fn run(machine: Machine, file: &[u8], moves: &[u8], out: &mut [u8]) -> u64 {
 pub fn lowered(level: u8, file: &[u8]) -> Result<Vec<u8>, Refusal> {
     let level = if level == 1 { Level::One } else { Level::Two };
     check(file).map(|kernel| sheet(&kernel, level))
+}
+
+/// The pages, or a refusal of 1 to 8.
+pub fn paged(file: &[u8]) -> Result<Vec<u8>, Refusal> {
+    check(file).map(|kernel| page::pages(&kernel).into_bytes())
 }
 
 /// A result goes to the front of the output buffer, unless that is refusal 9.

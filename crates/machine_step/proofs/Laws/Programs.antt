@@ -19,22 +19,8 @@ use Rattle.machine_state.specs.States.{Blocks, laneOf, Sized}
 use Rattle.machine_step.specs.Turns.{carries, commits, turns, Took}
 use Rattle.machine_step.proofs.Laws.Turns.{took-wait}
 
--- row p of n
-row-of : (n : ℕ) (b : List ℕ) (p : ℕ) → p < n → getElem? (readRows n b) p ≡ some (readInstr (drop (8 * p) b))
-row-of zero b p h = absurd (omega arith)
-row-of (suc n) b zero h = refl
-row-of (suc n) b (suc p) h =
-    let on : 8 + 8 * p ≡ 8 * suc p = omega arith in
-    row-of n (drop 8 b) p (omega arith)
-    ∙ ap (λ x. some (readInstr x)) (drop-drop (8 * p) 8 b ∙ ap (λ k. drop k b) on)
-
 pub row-past : (n : ℕ) (b : List ℕ) (p : ℕ) → n ≤ p → getElem? (readRows n b) p ≡ none
 row-past n b p h = at-beyond (readRows n b) p (omega (arith, rows-length n b))
-
--- the row that begins at a byte
-pub row-from : (n first : ℕ) (s : List ℕ) (p : ℕ) → p < n
-    → getElem? (readRows n (drop first s)) p ≡ some (readInstr (drop (first + 8 * p) s))
-row-from n first s p h = row-of n (drop first s) p h ∙ ap (λ x. some (readInstr x)) (drop-drop (8 * p) first s)
 
 pub ready-at : {r : Blocks} {t : ℕ} {prog : List Instr} {i : Instr} → Movable r t prog
     → getElem? prog (laneOf r t .control .pos) ≡ some i → Ready r t i

@@ -2,7 +2,7 @@
 use Prim.Native.Nat.{ℕ, zero, suc, _*_, _≤_}
 use native.Mathlib.Nat.{suc-mul, mul-le-mul-right}
 use native.Mathlib.Omega.{arith}
-use mathlib.Core.Path.{_≡_, refl}
+use mathlib.Core.Path.{_≡_, refl, subst}
 use mathlib.Core.Bool.{Bool, true, false, _&&_}
 use mathlib.Core.List.{List, [], _∷_, _++_, map}
 use mathlib.Core.Option.{some}
@@ -25,6 +25,15 @@ use Rattle.sheet_format.specs.Levels.{keeps, widest, placeFrom, placed}
 abbrev pub Each : {A : Type 0} → (A → Type 0) → List A → Type 0
 Each P [] = Unit {0}
 Each P (x ∷ xs) = P x × Each P xs
+
+pub each-at : {A : Type 0} (P : A → Type 0) (xs : List A) → Each P xs → (p : ℕ) (x : A) → getElem? xs p ≡ some x → P x
+each-at P [] h p x e = let z : _≡_ {A = ℕ} 0 1 = cc in absurd (omega arith)
+each-at P (y ∷ xs) h zero x e = let same : y ≡ x = cc in subst P same (h .0)
+each-at P (y ∷ xs) h (suc p) x e = each-at P xs (h .1) p x e
+
+pub each-append : {A : Type 0} (P : A → Type 0) (xs ys : List A) → Each P xs → Each P ys → Each P (xs ++ ys)
+each-append P [] ys h g = g
+each-append P (x ∷ xs) ys h g = (h .0, each-append P xs ys (h .1) g)
 
 keep-length : (t : Bool) (b : Barrier) (bs : List Barrier) → length (keep t b bs) ≤ suc (length bs)
 keep-length true b bs = omega arith

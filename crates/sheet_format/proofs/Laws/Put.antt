@@ -7,7 +7,7 @@ use native.Mathlib.Omega.{arith}
 use lib.ListN.{length, getD, take, drop, length-append}
 use lib.Dec.{leb}
 use borrow.Author.Tests.{le-leb}
-use lib.Seq.{sets, sets-eq, length-sets, take-suc}
+use lib.Seq.{sets, sets-eq, length-sets, take-suc, take-append-seam}
 use Rattle.laws.proofs.Parts.{sets-on}
 use Rattle.sheet_format.specs.declared.WriteResult.the-variants.{Wrote, Refuses}
 use Rattle.sheet_format.specs.Bytes.{over, writeInto}
@@ -53,6 +53,12 @@ pub puts-front : {l m x : List ℕ} {j : ℕ} → length x ≤ length l → Puts
 puts-front {l} {m} {x} {j} h p =
     let e : 0 + length x ≡ length x = omega arith in
     p .bytes ∙ sets-eq x l 0 (omega arith) ∙ ap (λ n. x ++ drop n l) e
+
+-- and what is read back from the front
+pub puts-taken : {l m x : List ℕ} {j : ℕ} → length x ≤ length l → Puts l 0 x m j → take j m ≡ x
+puts-taken {l} {m} {x} {j} h p =
+    let e : j ≡ length x = omega (arith, p .behind) in
+    ap₂ take e (puts-front h p) ∙ take-append-seam x (drop (length x) l)
 
 -- one byte more of a text
 pub puts-next : (t : List ℕ) (i j : ℕ) {l m n : List ℕ} {k b : ℕ} → Puts l i (take j t) m (i + j) → j < length t

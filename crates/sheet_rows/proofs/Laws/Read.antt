@@ -1,9 +1,10 @@
 -- Laws of a sheet's fields: past the end they are 0, and a row's fields are those of the bytes from its front on.
-use Prim.Native.Nat.{ℕ, zero, suc, _+_, _*_, _≤_}
+use Prim.Native.Nat.{ℕ, zero, suc, _+_, _*_, _≤_, _<_}
 use mathlib.Core.Path.{_≡_, refl, sym, ap, _∙_}
 use mathlib.Core.List.{List, [], _∷_, _++_}
+use mathlib.Core.Option.{some}
 use native.Mathlib.Omega.{arith}
-use lib.ListN.{length, take, drop, List·getD-eq-default}
+use lib.ListN.{length, getElem?, take, drop, List·getD-eq-default}
 use lib.Seq.{drop-drop}
 use Rattle.laws.proofs.Parts.{getD-behind}
 use Rattle.file_format.specs.Fields.{byte, word, quad}
@@ -50,6 +51,20 @@ row-is s k eo ea eb ec =
 pub rows-length : (n : ℕ) (s : List ℕ) → length (readRows n s) ≡ n
 rows-length zero s = refl
 rows-length (suc n) s = ap suc (rows-length n (drop 8 s))
+
+-- row p of n
+pub row-of : (n : ℕ) (s : List ℕ) (p : ℕ) → p < n → getElem? (readRows n s) p ≡ some (readInstr (drop (8 * p) s))
+row-of zero s p h = absurd (omega arith)
+row-of (suc n) s zero h = refl
+row-of (suc n) s (suc p) h =
+    let on : 8 + 8 * p ≡ 8 * suc p = omega arith in
+    row-of n (drop 8 s) p (omega arith)
+    ∙ ap (λ x. some (readInstr x)) (drop-drop (8 * p) 8 s ∙ ap (λ k. drop k s) on)
+
+-- the row that begins at a byte
+pub row-from : (n first : ℕ) (s : List ℕ) (p : ℕ) → p < n
+    → getElem? (readRows n (drop first s)) p ≡ some (readInstr (drop (first + 8 * p) s))
+row-from n first s p h = row-of n (drop first s) p h ∙ ap (λ x. some (readInstr x)) (drop-drop (8 * p) first s)
 
 -- one row more
 pub rows-on : (n : ℕ) (s : List ℕ) → readRows (suc n) s ≡ readRows n s ++ readInstr (drop (8 * n) s) ∷ []

@@ -1,31 +1,83 @@
--- Laws of lines: the text of an instruction by its code, and how long it is at most.
+-- Laws of lines: the name and the text of an instruction by its code, and how long they are at most.
 use Prim.Native.Nat.{ℕ, suc, _+_, _^_, _≤_, _<_}
-use mathlib.Core.Path.{_≡_, refl, sym, ap, _∙_}
+use mathlib.Core.Path.{_≡_, refl, sym, ap, subst, _∙_}
+use mathlib.Core.Logic.{_⊎_, ⊎-elim}
 use mathlib.Core.Bool.{Bool, true, false, cond}
 use mathlib.Core.List.{List, [], _∷_, _++_}
 use native.Mathlib.Omega.{arith}
 use lib.Dec.{eqb}
 use lib.ListN.{length, length-append}
 use borrow.Author.Tests.{ne-eqb}
-use Rattle.barrier_placement.specs.declared.cookbook.Barrier.{Barrier}
+use Rattle.laws.proofs.Numbers.{lt-or-le}
+use Rattle.file_format.specs.declared.accepted.Op.the-variants.{Set, Add, Load, Store, Lock, Unlock, Skip}
 use Rattle.barrier_placement.specs.declared.cookbook.Barrier.the-variants.{LL, LS, SS, SL}
-use Rattle.sheet_format.specs.Layout.{Instr, barrier}
+use Rattle.sheet_format.specs.Layout.{Instr, op, barrier}
 use Rattle.sheet_format.specs.Read.{barrierBy, instrBy}
+use Rattle.sheet_format.specs.Put.{Puts}
 use Rattle.sheet_format.proofs.Laws.Codes.{by-code, other-code}
 use Rattle.text_put.specs.Decimal.{decimal}
-use Rattle.text_listing.specs.Line.{pair, instrText, lineOf, firstLine}
+use Rattle.text_put.specs.Words.{space}
+use Rattle.text_listing.specs.Line.{pair, instrName, instrText, lineOf, firstLine}
 use Rattle.text_put.proofs.Laws.Decimal.{decimal-few}
 
--- the text by a code that is known
-pub code-text : (k : ℕ) {o : ℕ} (a b c : ℕ) → o ≡ k → instrText (instrBy k a b c) ≡ instrText (instrBy o a b c)
-code-text k a b c e = ap instrText (by-code k a b c e)
+-- the name by a code that is known
+pub code-name : (k : ℕ) {o : ℕ} (a b c : ℕ) → o ≡ k → instrName (instrBy k a b c) ≡ instrName (instrBy o a b c)
+code-name k a b c e = ap instrName (by-code k a b c e)
 
 -- every other code
-pub other-text : (o a b c : ℕ) → (o ≡ 1 → ⊥) → (o ≡ 2 → ⊥) → (o ≡ 3 → ⊥) → (o ≡ 4 → ⊥) → (o ≡ 5 → ⊥) → (o ≡ 6 → ⊥)
-    → (o ≡ 7 → ⊥) → (o ≡ 11 → ⊥) → (o ≡ 12 → ⊥) → (o ≡ 13 → ⊥) → instrText (barrier SL) ≡ instrText (instrBy o a b c)
-other-text o a b c n1 n2 n3 n4 n5 n6 n7 n11 n12 n13 =
+pub other-name : (o a b c : ℕ) → (o ≡ 1 → ⊥) → (o ≡ 2 → ⊥) → (o ≡ 3 → ⊥) → (o ≡ 4 → ⊥) → (o ≡ 5 → ⊥) → (o ≡ 6 → ⊥)
+    → (o ≡ 7 → ⊥) → (o ≡ 11 → ⊥) → (o ≡ 12 → ⊥) → (o ≡ 13 → ⊥) → instrName (barrier SL) ≡ instrName (instrBy o a b c)
+other-name o a b c n1 n2 n3 n4 n5 n6 n7 n11 n12 n13 =
     let fence : barrierBy o ≡ SL = rw (ne-eqb o 11 n11, ne-eqb o 12 n12, ne-eqb o 13 n13) refl in
-    ap (λ x. instrText (barrier x)) (sym fence) ∙ ap instrText (other-code o a b c n1 n2 n3 n4 n5 n6 n7)
+    ap (λ x. instrName (barrier x)) (sym fence) ∙ ap instrName (other-code o a b c n1 n2 n3 n4 n5 n6 n7)
+
+pub name-few : (i : Instr) → length (instrName i) ≤ 6
+name-few (op (Set a c)) = omega arith
+name-few (op (Add a b)) = omega arith
+name-few (op (Load a x)) = omega arith
+name-few (op (Store a x)) = omega arith
+name-few (op (Lock l)) = omega arith
+name-few (op (Unlock l)) = omega arith
+name-few (op (Skip a t)) = omega arith
+name-few (barrier LL) = omega arith
+name-few (barrier LS) = omega arith
+name-few (barrier SS) = omega arith
+name-few (barrier SL) = omega arith
+
+-- a name that is laid ends at most six bytes on
+pub name-end : {l m : List ℕ} {i j : ℕ} (o : ℕ) → ((a b c : ℕ) → Puts l i (instrName (instrBy o a b c)) m j) → j ≤ i + 6
+name-end o p = omega (arith, p 0 0 0 .behind, name-few (instrBy o 0 0 0))
+
+-- what stands behind the name: a and the constant or the target, a and b, b alone, or nothing
+module _ (o a b c : ℕ) where
+  abbrev Behind : List ℕ → Type 0
+  Behind rest = instrName (instrBy o a b c) ++ rest ≡ instrText (instrBy o a b c)
+
+  by : (k : ℕ) (rest : List ℕ) → o ≡ k → instrName (instrBy k a b c) ++ rest ≡ instrText (instrBy k a b c) → Behind rest
+  by k rest e = subst (λ i. instrName i ++ rest ≡ instrText i) (by-code k a b c e)
+
+  pub word-behind : (o ≡ 1) ⊎ (o ≡ 7) → Behind (space ∷ pair a c)
+  unfolding instrText
+  word-behind = ⊎-elim (λ e. by 1 _ e refl) (λ e. by 7 _ e refl)
+
+  pub pair-behind : (o ≡ 1 → ⊥) → 1 ≤ o → o < 5 → Behind (space ∷ pair a b)
+  unfolding instrText
+  pair-behind n p q =
+      ⊎-elim (λ l. by 2 _ (omega arith) refl)
+      (λ g. ⊎-elim (λ l. by 3 _ (omega arith) refl) (λ h. by 4 _ (omega arith) refl) (lt-or-le o 4))
+      (lt-or-le o 3)
+
+  pub b-behind : 5 ≤ o → o < 7 → Behind (space ∷ decimal b)
+  unfolding instrText
+  b-behind p q = ⊎-elim (λ l. by 5 _ (omega arith) refl) (λ g. by 6 _ (omega arith) refl) (lt-or-le o 6)
+
+  pub none-behind : (1 ≤ o → o < 8 → ⊥) → instrName (instrBy o a b c) ≡ instrText (instrBy o a b c)
+  unfolding instrText
+  none-behind h =
+      subst (λ i. instrName i ≡ instrText i)
+      (other-code o a b c (λ e. h (omega arith) (omega arith)) (λ e. h (omega arith) (omega arith))
+      (λ e. h (omega arith) (omega arith)) (λ e. h (omega arith) (omega arith)) (λ e. h (omega arith) (omega arith))
+      (λ e. h (omega arith) (omega arith)) (λ e. h (omega arith) (omega arith))) refl
 
 pub pair-few : (a b : ℕ) → a < 2 ^ 32 → b < 2 ^ 32 → length (pair a b) ≤ 21
 pair-few a b ha hb =
@@ -37,13 +89,6 @@ Few i = length (instrText i) ≤ 28
 either : (t : Bool) (x y : Instr) → Few x → Few y → Few (cond t x y)
 either true x y p q = p
 either false x y p q = q
-
-name-few : (b : Barrier) → Few (barrier b)
-unfolding instrText
-name-few LL = omega arith
-name-few LS = omega arith
-name-few SS = omega arith
-name-few SL = omega arith
 
 pub instr-few : (o a b c : ℕ) → a < 2 ^ 32 → b < 2 ^ 32 → c < 2 ^ 32 → length (instrText (instrBy o a b c)) ≤ 28
 unfolding instrText
@@ -57,7 +102,7 @@ instr-few o a b c ha hb hc =
     (either (eqb o 4) _ _ (omega arith)
     (either (eqb o 5) _ _ (omega arith)
     (either (eqb o 6) _ _ (omega arith)
-    (either (eqb o 7) _ _ (omega arith) (name-few (barrierBy o))))))))
+    (either (eqb o 7) _ _ (omega arith) (omega (arith, name-few (barrier (barrierBy o))))))))))
 
 -- a line of operands of 32 bits
 pub line-few : (lane p o a b c : ℕ) → lane < 2 ^ 32 → p < 2 ^ 32 → a < 2 ^ 32 → b < 2 ^ 32 → c < 2 ^ 32

@@ -47,9 +47,12 @@ few (suc k) (suc f) n h =
     let small : n < 10 ^ suc k * 10 = subst (λ m. n < m) (pow-suc 10 (suc k)) h in
     few-by (ltb n 10) n (suc k) (digits f) (few k f (n / 10) (div-lt-iff-lt-mul (omega arith) .1 small))
 
-pub decimal-few : (n : ℕ) → n < 2 ^ 32 → length (decimal n) ≤ 10
+pub decimal-within : (k n : ℕ) → n < 10 ^ suc k → length (decimal n) ≤ suc k
 unfolding decimal
-decimal-few n h = few 9 n n (omega arith)
+decimal-within k n h = few k n n h
+
+pub decimal-few : (n : ℕ) → n < 2 ^ 32 → length (decimal n) ≤ 10
+decimal-few n h = decimal-within 9 n (omega arith)
 
 -- behind the first digits there is room for the last
 pub decimal-room : (n : ℕ) → 10 ≤ n → n < 2 ^ 32 → length (decimal (n / 10)) < 10

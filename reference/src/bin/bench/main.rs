@@ -14,6 +14,8 @@ use table::{print_head, print_row, time};
 const KERNELS: usize = 16;
 /// Room for the sheets of 256 records: no access has more than two barriers before it.
 const SHEET: usize = 8192;
+/// Room for their pages: 512 lines at most, and ten headings.
+const PAGE: usize = 17_226;
 
 fn main() {
     let rounds = std::env::args().nth(1).and_then(|word| word.parse().ok()).unwrap_or(301);
@@ -40,32 +42,36 @@ fn lowering(rounds: usize) {
         let files: Vec<Vec<u8>> = kernels(lengths).take(KERNELS).collect();
         let records: usize = lengths.iter().sum();
         both_levels(rounds, &format!("{records} records"), &files);
+        line::<PAGE>(rounds, &format!("page, {records} records"), &files, library::page, fast::page);
     }
 }
 
 /// A line for each level, of files that are accepted.
 fn both_levels(rounds: usize, what: &str, files: &[Vec<u8>]) {
-    let levels: [(u8, Lower, Lower); 2] = [(1, library::lower1, fast::lower1), (2, library::lower2, fast::lower2)];
-    for (level, library, fast) in levels {
-        assert_alike(files, 0, library, fast);
-        let sample = |lower: Lower| time(|| lower_all(files.iter(), lower)) / files.len() as f64;
-        print_row(&format!("level {level}, {what}"), rounds, || sample(library), || sample(fast));
-    }
+    line::<SHEET>(rounds, &format!("level 1, {what}"), files, library::lower1, fast::lower1);
+    line::<SHEET>(rounds, &format!("level 2, {what}"), files, library::lower2, fast::lower2);
 }
 
-fn lower_all<'a>(files: impl Iterator<Item = &'a Vec<u8>>, lower: Lower) {
-    let mut sheet = [0; SHEET];
+/// A line of files that are accepted, with an output buffer of this length.
+fn line<const ROOM: usize>(rounds: usize, name: &str, files: &[Vec<u8>], library: Lower, fast: Lower) {
+    assert_alike::<ROOM>(files, 0, library, fast);
+    let sample = |lower: Lower| time(|| lower_all::<ROOM>(files.iter(), lower)) / files.len() as f64;
+    print_row(name, rounds, || sample(library), || sample(fast));
+}
+
+fn lower_all<'a, const ROOM: usize>(files: impl Iterator<Item = &'a Vec<u8>>, lower: Lower) {
+    let mut out = [0; ROOM];
     files.for_each(|file| {
-        black_box(lower(black_box(file), &mut sheet));
+        black_box(lower(black_box(file), &mut out));
     });
 }
 
-/// Both sides answer every file with this refusal, or with the same sheet where it is 0.
-fn assert_alike(files: &[Vec<u8>], refusal: u64, library: Lower, fast: Lower) {
+/// Both sides answer every file with this refusal, or with the same output where it is 0.
+fn assert_alike<const ROOM: usize>(files: &[Vec<u8>], refusal: u64, library: Lower, fast: Lower) {
     for file in files {
         let answered = |lower: Lower| {
-            let mut sheet = [0; SHEET];
-            (lower(file, &mut sheet), sheet)
+            let mut out = [0; ROOM];
+            (lower(file, &mut out), out)
         };
         let (ours, theirs) = (answered(library), answered(fast));
         assert_eq!([ours.0 >> 32, theirs.0 >> 32], [refusal; 2]);

@@ -1,7 +1,7 @@
 //! Benchmark of the refusals of a header and of a length, by the lowering of level 2.
 
 use super::table::{print_row, time};
-use super::{KERNELS, assert_alike, kernels, lower_all};
+use super::{KERNELS, SHEET, assert_alike, kernels, lower_all};
 use reference::{Lower, fast, library};
 
 /// Calls of one go: clearing the sheet before it does not count beside so many.
@@ -17,8 +17,9 @@ pub fn refusals(rounds: usize) {
         for (refusal, change) in breaks {
             let mut files: Vec<Vec<u8>> = kernels(lengths).take(KERNELS).collect();
             files.iter_mut().for_each(change);
-            assert_alike(&files, refusal, library::lower2, fast::lower2);
-            let sample = |lower: Lower| time(|| lower_all(files.iter().cycle().take(CALLS), lower)) / CALLS as f64;
+            assert_alike::<SHEET>(&files, refusal, library::lower2, fast::lower2);
+            let calls = || files.iter().cycle().take(CALLS);
+            let sample = |lower: Lower| time(|| lower_all::<SHEET>(calls(), lower)) / CALLS as f64;
             let name = format!("refused {refusal}, {records} records");
             print_row(&name, rounds, || sample(library::lower2), || sample(fast::lower2));
         }

@@ -45,7 +45,7 @@ returns-2 c =
     let s = i .before .before .before .before .before .args .file .now in (
       l .linked-refusal .ensures .0 ∙ sym (fields-kept s (passed i)),
       λ v. let st = sound s (accepted-as s (programOf s) v .0) .0 in
-          l .linked-refusal .ensures .1 (st .linkage) (st .chains) (st .targets) .0,
+          l .linked-refusal .ensures .1 .0 (st .linkage) (st .chains) (st .targets) .0,
     )
 
 pub accept-spec : {M : Type 1} → statement M

@@ -11,6 +11,7 @@ use Rattle.sheet_format.specs.declared.Level.the-variants.{Level0}
 use Rattle.sheet_format.specs.Bytes.{sheetBytes}
 use Rattle.file_rows.proofs.Laws.Whole.{chains-counted}
 use Rattle.file_accept.proofs.Laws.Checks.{refuses5, refuses6, refuses7, refuses8, accepts}
+use Rattle.file_accept.proofs.Laws.Order.{front-is-lane-order}
 use borrow.Author.Needs.{needs}
 use Rattle.file_accept.proofs.accept.linked_refusal.Statement.{statement}
 use Rattle.file_accept.proofs.accept.linked_refusal.Tie as tie
@@ -64,7 +65,7 @@ returns : tie.Need-returns
 returns c =
     let bad = c .before .before .before .before .before .link .ensures .0 in (
       refuses5 _ bad (c .if1 .taken),
-      λ z5 z6 z7. absurd (c .if1 .taken (bad ∙ z5)),
+      (λ z5 z6 z7. absurd (c .if1 .taken (bad ∙ z5)), λ z5 z6 z7. absurd (c .if1 .taken (bad ∙ z5))),
     )
 
 too-long-requires : tie.Need-too-long-requires
@@ -76,7 +77,7 @@ returns-2 : tie.Need-returns-2
 returns-2 c =
     let long = c .before .too-long .ensures in (
       refuses6 _ (linked (c .before .before .before .before .before)) long (c .if2 .taken),
-      λ z5 z6 z7. absurd (c .if2 .taken (long ∙ z6)),
+      (λ z5 z6 z7. absurd (c .if2 .taken (long ∙ z6)), λ z5 z6 z7. absurd (c .if2 .taken (long ∙ z6))),
     )
 
 bad-target-requires : tie.Need-bad-target-requires
@@ -92,7 +93,7 @@ returns-3 c =
     let s = c .before .before .before .before in
     let target = c .before .bad-target .ensures in (
       refuses7 _ (linked (first s)) (short s) target (c .if3 .taken),
-      λ z5 z6 z7. absurd (c .if3 .taken (target ∙ z7)),
+      (λ z5 z6 z7. absurd (c .if3 .taken (target ∙ z7)), λ z5 z6 z7. absurd (c .if3 .taken (target ∙ z7))),
     )
 
 write-chains-requires : tie.Need-write-chains-requires
@@ -118,17 +119,27 @@ lock-fault-requires c κs =
 returns-4 : tie.Need-returns-4
 returns-4 c =
     let w = c .before .before .before .before .before .before .before in
-    let ok = structured (w .before .before .before .before .before) in (
+    let s = w .before .before .before .before .before in
+    let f = first (second s) in
+    let ok = structured s in (
       refuses8 _ (ok .linkage) (ok .chains) (ok .targets) (c .before .lock-fault .ensures) (c .if4 .taken),
-      λ z5 z6 z7. (w .write-chains .ensures, counted (w .before .before .before .before .before)),
+      (
+        λ z5 z6 z7. (w .write-chains .ensures, counted s),
+        λ z5 z6 z7. front-is-lane-order ok (walk f .link .ensures .1 (linked f)),
+      ),
     )
 
 returns-5 : tie.Need-returns-5
 returns-5 c =
     let w = c .before .before .before .before .before .before .before in
-    let ok = structured (w .before .before .before .before .before) in (
+    let s = w .before .before .before .before .before in
+    let f = first (second s) in
+    let ok = structured s in (
       accepts _ (ok .linkage) (ok .chains) (ok .targets) (c .before .lock-fault .ensures) (c .if4 .left),
-      λ z5 z6 z7. (w .write-chains .ensures, counted (w .before .before .before .before .before)),
+      (
+        λ z5 z6 z7. (w .write-chains .ensures, counted s),
+        λ z5 z6 z7. front-is-lane-order ok (walk f .link .ensures .1 (linked f)),
+      ),
     )
 
 pub linked-refusal-spec : {M : Type 1} → statement M

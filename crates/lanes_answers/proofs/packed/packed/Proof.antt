@@ -1,7 +1,7 @@
 -- `lanes_answers::packed::packed` meets its contract.
 use mathlib.Core.Path.{sym, ap, subst}
 use native.Mathlib.Omega.{arith}
-use Rattle.lanes_answers.specs.Interface.{Small, packedLowering}
+use Rattle.lanes_answers.specs.Interface.{Small, packedAnswer}
 use borrow.Author.Needs.{needs}
 use Rattle.lanes_answers.proofs.packed.packed.Statement.{statement}
 use Rattle.lanes_answers.proofs.packed.packed.Tie as tie
@@ -20,7 +20,7 @@ returns : tie.Need-returns
 returns c = search needs
 
 returns-2 : tie.Need-returns-2
-returns-2 c = sym (ap packedLowering (c .before .answer2 .given .1))
+returns-2 c = sym (ap packedAnswer (c .before .answer2 .given .1))
 
 pub packed-spec : {M : Type 1} → statement M
 packed-spec =

@@ -2,9 +2,10 @@
 use mathlib.Core.Path.{ap, sym, _∙_}
 use lib.ListN.{getElem?, drop}
 use Rattle.sheet_format.specs.Read.{readRows}
+use Rattle.sheet_rows.proofs.Laws.Read.{row-from}
 use Rattle.machine_lane.specs.Lanes.{flags}
 use Rattle.machine_step.proofs.Laws.Codes.{of-row, ready-as, carried-as}
-use Rattle.machine_step.proofs.Laws.Programs.{row-past, row-from, ready-at, made-carry, made-wait}
+use Rattle.machine_step.proofs.Laws.Programs.{row-past, ready-at, made-carry, made-wait}
 use borrow.Author.Needs.{needs}
 use Rattle.machine_step.proofs.step.carry_next.Statement.{statement}
 use Rattle.machine_step.proofs.step.carry_next.Tie as tie

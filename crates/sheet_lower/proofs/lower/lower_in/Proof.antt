@@ -5,9 +5,10 @@ use mathlib.Core.List.{List}
 use native.Mathlib.Omega.{arith}
 use lib.ListN.{length}
 use Rattle.file_format.specs.Accepted.{programOf}
+use Rattle.file_format.specs.Structured.{Structured}
 use Rattle.file_verdict.specs.Verdict.{numberOf, recordOf, verdict, accepted}
 use Rattle.file_verdict.proofs.Laws.Verdict.{sound, accepted-as}
-use Rattle.file_accept.proofs.Laws.Checks.{fields-kept}
+use Rattle.file_accept.proofs.Laws.Checks.{fields-kept, not-accepted}
 use Rattle.sheet_format.specs.declared.WriteResult.the-variants.{Refuses}
 use Rattle.sheet_format.specs.declared.Level.{Level}
 use Rattle.sheet_format.specs.Bytes.{sheetBytes}
@@ -40,6 +41,9 @@ ok s =
     let answer = judged s .linked-refusal .ensures .0 ∙ sym (fields-kept (file s) (start s .pre .0)) in
     accepted-by (file s) (omega (arith, s .before .number-of .ensures ∙ ap numberOf answer, s .if1 .left))
 
+structured : (s : tie.Else1) → Structured (file s)
+structured s = sound (file s) (accepted-as (file s) (programOf (file s)) (ok s) .0) .0
+
 -- ## the needs
 
 linked-refusal-requires : tie.Need-linked-refusal-requires
@@ -56,17 +60,19 @@ returns c =
     let answer = x .linked-refusal .ensures .0 ∙ sym (fields-kept file (a .pre .0)) in
     let number = n .number-of .ensures ∙ ap numberOf answer in
     let record-is = c .record-of .ensures ∙ ap recordOf answer in
-    (λ i. (Refuses (number i) (record-is i), a .args .out .now))
-    ∙ sym (refused-by file (sheetBytes (a .args .level)) (a .args .out .now)
-    (omega (arith, number, c .before .if1 .taken)))
+    let some = c .before .if1 .taken in (
+      (λ i. (Refuses (number i) (record-is i), a .args .out .now))
+          ∙ sym (refused-by file (sheetBytes (a .args .level)) (a .args .out .now) (omega (arith, number, some))),
+      λ v. absurd (not-accepted file answer (omega (arith, n .number-of .ensures, some)) v),
+    )
 
 write-sheet-requires : tie.Need-write-sheet-requires
 write-sheet-requires c κs =
     let s = c .before .before .before in
     let a = start s in
     let own = a .args .rows .now in
-    let st = sound (file s) (accepted-as (file s) (programOf (file s)) (ok s) .0) .0 in
-    let wrote = judged s .linked-refusal .ensures .1 (st .linkage) (st .chains) (st .targets) in (
+    let st = structured s in
+    let wrote = judged s .linked-refusal .ensures .1 .0 (st .linkage) (st .chains) (st .targets) in (
       ok s,
       (
         record {
@@ -86,8 +92,11 @@ returns-2 c =
     let put = w .write-sheet .ensures in
     let bytes = sheetOf (level s) (file s) in
     let long = ap length (put .1) ∙ written-length bytes (out s) in
-    answer-short bytes (out s) (put .1) (omega (arith, put .0, long, c .if2 .taken))
-    ∙ answered-by (file s) (ok s) (sheetBytes (level s)) (out s)
+    let st = structured s in (
+      answer-short bytes (out s) (put .1) (omega (arith, put .0, long, c .if2 .taken))
+          ∙ answered-by (file s) (ok s) (sheetBytes (level s)) (out s),
+      λ v. judged s .linked-refusal .ensures .1 .1 (st .linkage) (st .chains) (st .targets),
+    )
 
 returns-3 : tie.Need-returns-3
 returns-3 c =
@@ -96,8 +105,11 @@ returns-3 c =
     let put = w .write-sheet .ensures in
     let bytes = sheetOf (level s) (file s) in
     let long = ap length (put .1) ∙ written-length bytes (out s) in
-    answer-full bytes (out s) (put .1) (put .0) (omega (arith, put .0, long, c .if2 .left))
-    ∙ answered-by (file s) (ok s) (sheetBytes (level s)) (out s)
+    let st = structured s in (
+      answer-full bytes (out s) (put .1) (put .0) (omega (arith, put .0, long, c .if2 .left))
+          ∙ answered-by (file s) (ok s) (sheetBytes (level s)) (out s),
+      λ v. judged s .linked-refusal .ensures .1 .1 (st .linkage) (st .chains) (st .targets),
+    )
 
 pub lower-in-spec : {M : Type 1} → statement M
 lower-in-spec =

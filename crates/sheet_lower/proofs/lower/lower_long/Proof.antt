@@ -18,7 +18,7 @@ lower-in-requires c κs =
     )
 
 returns : tie.Need-returns
-returns c = c .before .before .before .before .before .before .lower-in .ensures
+returns c = c .before .before .before .before .before .before .lower-in .ensures .0
 
 pub lower-long-spec : {M : Type 1} → statement M
 lower-long-spec =

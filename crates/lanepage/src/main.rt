@@ -1,0 +1,17 @@
+// Prints the pages of the kernel file on standard input, or its refusal. Of a file that is longer than every kernel,
+// which is refused by its header or its length, the first 3,089 bytes are enough.
+use console::print::say_part;
+use sheet_format::WriteResult;
+
+const STDIN: i32 = 0;
+
+fn main() {
+    let mut file = [0u8; 3089];
+    let n = io::read_full(STDIN, &mut file);
+    let mut pages = io::large_buffer();
+    let answer = text_kernel::print_pages(&file[..n], &mut pages);
+    match answer {
+        WriteResult::Wrote(size) => say_part(&pages, size),
+        WriteResult::Refuses(_, _) => return,
+    }
+}
