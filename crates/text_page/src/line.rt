@@ -3,14 +3,13 @@ ghost use mathlib.Core.Path.{_≡_};
 ghost use mathlib.Core.List.{_∷_, [], _++_};
 ghost use Prim.Native.Nat.{ℕ, _+_, _≤_, _^_};
 ghost use lib.ListN.{length, drop};
-ghost use Rattle.file_format.specs.declared.accepted.Op.the-variants.{Set, Add, Lock};
-ghost use Rattle.sheet_format.specs.Layout.{op};
 ghost use Rattle.sheet_format.specs.Put.{Puts};
 ghost use Rattle.sheet_format.specs.Read.{instrBy};
+ghost use Rattle.text_put.specs.Decimal.{decimal};
 ghost use Rattle.text_put.specs.Words.{newline};
 ghost use Rattle.text_listing.specs.Line.{instrName};
-ghost use Rattle.text_page.specs.declared.column.Side.the-variants.{Left};
-ghost use Rattle.text_page.specs.Columns.{column, inColumn, inColumns};
+ghost use Rattle.text_page.specs.declared.column.Side.the-variants.{Left, Right};
+ghost use Rattle.text_page.specs.Columns.{column, inColumn, inColumns, InLine};
 ghost use Rattle.text_page.specs.Lines.{columns, fieldTexts, instructionLine};
 ghost use Rattle.text_page.specs.Pages.{headingLine};
 ghost use Rattle.text_page.specs.Given.{headed};
@@ -101,30 +100,21 @@ fn name_in(line: &mut [u8], code: u32)
     put_in(line, NAME, &name[..size]);
 }
 
-// Register a, the constant or skip position, and the record.
-fn word_in(line: &mut [u8], a: u32, word: u32, rec: u32)
-    ensures { λ r. ⌜ now (line .exit) ≡ inColumns (now (line .entry)) (drop 3 columns)
-        (fieldTexts (op (Set a word)) rec) ⌝ }
+// Register a, another number in its own column, and the record.
+fn pair_in(line: &mut [u8], a: u32, second: Column, n: u32, rec: u32)
+    requires { ⌜ InLine second ⌝ }
+    ensures { λ r. ⌜ now (line .exit) ≡ inColumns (now (line .entry))
+        (column 14 1 Right ∷ second ∷ column 30 3 Right ∷ []) (decimal a ∷ decimal n ∷ decimal rec ∷ []) ⌝ }
 {
     put_number(line, REGISTER, a);
-    put_number(line, CONSTANT, word);
-    put_number(line, RECORD, rec);
-}
-
-// Register a, operand b, and the record.
-fn pair_in(line: &mut [u8], a: u32, b: u32, rec: u32)
-    ensures { λ r. ⌜ now (line .exit) ≡ inColumns (now (line .entry)) (drop 3 columns)
-        (fieldTexts (op (Add a b)) rec) ⌝ }
-{
-    put_number(line, REGISTER, a);
-    put_number(line, OPERAND, b);
+    put_number(line, second, n);
     put_number(line, RECORD, rec);
 }
 
 // Operand b alone, and the record.
 fn lock_in(line: &mut [u8], b: u32, rec: u32)
-    ensures { λ r. ⌜ now (line .exit) ≡ inColumns (now (line .entry)) (drop 3 columns)
-        (fieldTexts (op (Lock b)) rec) ⌝ }
+    ensures { λ r. ⌜ now (line .exit) ≡ inColumns (now (line .entry))
+        (column 16 2 Right ∷ column 30 3 Right ∷ []) (decimal b ∷ decimal rec ∷ []) ⌝ }
 {
     put_number(line, OPERAND, b);
     put_number(line, RECORD, rec);
@@ -136,13 +126,13 @@ fn fields_in(line: &mut [u8], code: u32, a: u32, b: u32, word: u32, rec: u32)
         (fieldTexts (instrBy code a b word) rec) ⌝ }
 {
     match code {
-        1 => word_in(line, a, word, rec),
-        2 => pair_in(line, a, b, rec),
-        3 => pair_in(line, a, b, rec),
-        4 => pair_in(line, a, b, rec),
+        1 => pair_in(line, a, CONSTANT, word, rec),
+        2 => pair_in(line, a, OPERAND, b, rec),
+        3 => pair_in(line, a, OPERAND, b, rec),
+        4 => pair_in(line, a, OPERAND, b, rec),
         5 => lock_in(line, b, rec),
         6 => lock_in(line, b, rec),
-        7 => word_in(line, a, word, rec),
+        7 => pair_in(line, a, CONSTANT, word, rec),
         _ => return,
     }
 }

@@ -8,7 +8,7 @@ use Rattle.text_page.proofs.line.lock_in.Statement.{statement}
 use Rattle.text_page.proofs.line.lock_in.Tie as tie
 
 returns : tie.Need-returns
-unfolding inColumn inColumns
+unfolding inColumns
 returns c =
     let second = c .before .before in
     let first = second .before .before .before .before in

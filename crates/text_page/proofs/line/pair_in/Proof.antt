@@ -8,7 +8,7 @@ use Rattle.text_page.proofs.line.pair_in.Statement.{statement}
 use Rattle.text_page.proofs.line.pair_in.Tie as tie
 
 returns : tie.Need-returns
-unfolding inColumn inColumns
+unfolding inColumns
 returns c =
     let third = c .before .before in
     let second = third .before .before .before .before in
@@ -16,8 +16,7 @@ returns c =
     let a = first .before .before .before .args in
     third .put-number3 .ensures
     ∙ ap (λ l. inColumn l (column 30 3 Right) (decimal (a .rec)))
-    (second .put-number2 .ensures
-    ∙ ap (λ l. inColumn l (column 16 2 Right) (decimal (a .b))) (first .put-number .ensures))
+    (second .put-number2 .ensures ∙ ap (λ l. inColumn l (a .second) (decimal (a .n))) (first .put-number .ensures))
 
 pub pair-in-spec : {M : Type 1} → statement M
 pair-in-spec =
