@@ -122,7 +122,7 @@ unfolding digits decimal blankLine inColumn inColumns lineIn instructionLine hea
     pageOf pagesOf pageText inTurn stands due dueAfter kernel
 kernel-holds = refl
 
--- records i, i + 1, .., of n operations; the lines of n operations SET 0 to 5, from lane t on
+-- the n records from record i on
 abbrev upward : ℕ → ℕ → List ℕ
 upward zero i = []
 upward (suc n) i = i ∷ upward n (suc i)

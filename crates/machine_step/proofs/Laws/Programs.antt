@@ -1,16 +1,15 @@
 -- Laws of a lane's program in the bytes of a sheet, and of a choice that the lane makes of it.
-use Prim.Native.Nat.{ℕ, zero, suc, _+_, _*_, _-_, _≤_, _<_}
-use mathlib.Core.Path.{_≡_, refl, ap, sym, subst, _∙_}
+use Prim.Native.Nat.{ℕ, zero, suc, _-_, _≤_}
+use mathlib.Core.Path.{_≡_, refl, sym, subst}
 use mathlib.Core.Bool.{Bool}
 use mathlib.Core.List.{List}
 use mathlib.Core.Option.{Option, none, some}
 use native.Mathlib.Omega.{arith}
-use lib.ListN.{getElem?, drop}
-use lib.Seq.{drop-drop}
+use lib.ListN.{getElem?}
 use Rattle.laws.proofs.Lists.{at-beyond}
 use Rattle.sheet_rows.proofs.Laws.Read.{rows-length}
 use Rattle.sheet_format.specs.Layout.{Instr}
-use Rattle.sheet_format.specs.Read.{readInstr, readRows}
+use Rattle.sheet_format.specs.Read.{readRows}
 use Rattle.machine_spec.specs.declared.Machine.{Machine}
 use Rattle.machine_state.specs.declared.state.Moved.{Moved}
 use Rattle.machine_state.specs.declared.state.Moved.the-variants.{Waited}

@@ -1,12 +1,12 @@
 -- Laws of what is printed: a refusal's line is the file's, and so are the text of its level 2 sheet and its pages.
 use Prim.Native.Nat.{ℕ, _≤_}
-use mathlib.Core.Path.{_≡_, refl, sym, ap, ap₂, _∙_}
+use mathlib.Core.Path.{_≡_, sym, ap, ap₂, _∙_}
 use mathlib.Core.List.{List}
 use native.Mathlib.Omega.{arith}
 use lib.ListN.{length, drop}
 use Rattle.file_format.specs.Fields.{mask}
 use Rattle.file_format.specs.Accepted.{Program}
-use Rattle.file_verdict.specs.Verdict.{Verdict, refused, accepted, verdict}
+use Rattle.file_verdict.specs.Verdict.{accepted, verdict}
 use Rattle.file_verdict.proofs.Laws.Verdict.{accepted-as}
 use Rattle.sheet_format.specs.declared.WriteResult.{WriteResult}
 use Rattle.sheet_format.specs.declared.WriteResult.the-variants.{Wrote, Refuses}

@@ -23,7 +23,7 @@ use Rattle.text_page.specs.Given.{takes}
 
 -- ## how many operations stand before a position
 
-rank-none : (xs : List Instr) → rank xs 0 ≡ 0
+pub rank-none : (xs : List Instr) → rank xs 0 ≡ 0
 rank-none [] = refl
 rank-none (x ∷ xs) = refl
 

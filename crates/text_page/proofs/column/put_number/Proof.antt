@@ -1,7 +1,7 @@
 -- `text_page::column::put_number` meets its contract: the number's digits are laid into a buffer of their own first.
-use mathlib.Core.Path.{_≡_, ap, sym, _∙_}
+use mathlib.Core.Path.{ap, _∙_}
 use native.Mathlib.Omega.{arith}
-use lib.ListN.{length, length-take}
+use lib.ListN.{length}
 use Rattle.sheet_format.proofs.Laws.Put.{puts-taken}
 use Rattle.text_put.proofs.Laws.Decimal.{decimal-few}
 use Rattle.text_page.specs.Columns.{inColumn}

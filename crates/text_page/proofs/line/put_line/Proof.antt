@@ -1,5 +1,4 @@
 -- `text_page::line::put_line` meets its contract.
-use native.Mathlib.Omega.{arith}
 use Rattle.sheet_format.proofs.Laws.Put.{puts-on}
 use borrow.Author.Needs.{needs}
 use Rattle.text_page.proofs.line.put_line.Statement.{statement}

@@ -1,13 +1,12 @@
 -- `text_page::lines::put_lines` meets its contract. What is laid so far are the first i lines with their headings, and
 -- the next record is that behind those of the operations before row i.
-use Prim.Native.Nat.{ℕ, _+_, _*_, _-_, _≤_}
-use mathlib.Core.Path.{_≡_, refl, ap, _∙_}
-use mathlib.Core.List.{List, [], _∷_}
+use Prim.Native.Nat.{_+_, _*_, _-_, _≤_}
+use mathlib.Core.Path.{_≡_, refl, sym, ap, _∙_}
 use native.Mathlib.Omega.{arith}
 use lib.ListN.{length, take, drop}
 use lib.Seq.{take-all}
 use Rattle.file_format.specs.Accepted.{Program}
-use Rattle.sheet_format.specs.Layout.{Instr, rank}
+use Rattle.sheet_format.specs.Layout.{rank}
 use Rattle.sheet_format.specs.Put.{Puts}
 use Rattle.sheet_format.specs.Read.{instrBy, readRows}
 use Rattle.sheet_format.proofs.Laws.Put.{puts-none, puts-as, puts-length}
@@ -17,6 +16,7 @@ use Rattle.text_page.specs.Given.{paged, Given}
 use Rattle.text_page.proofs.Laws.Columns.{instruction-length}
 use Rattle.text_page.proofs.Laws.Pages.{headed-few}
 use Rattle.text_page.proofs.Laws.Given.{few-given, rows-given, laid-next, record-next}
+use Rattle.text_page.proofs.Laws.Ranks.{rank-none}
 use borrow.Author.Needs.{needs}
 use Rattle.text_page.proofs.lines.put_lines.Statement.{statement}
 use Rattle.text_page.proofs.lines.put_lines.Tie as tie
@@ -30,10 +30,6 @@ Inv-loop out₀ sheet order n parts at₀ next₀ i₀ out at next i =
 abbrev μ-loop : tie.MeasureT-loop
 μ-loop out₀ sheet order n parts at₀ next₀ i₀ out at next i = n - i
 
-rank-start : (is : List Instr) → 0 ≡ rank is 0
-rank-start [] = refl
-rank-start (i ∷ is) = refl
-
 abbrev start : tie.In-loop Inv-loop μ-loop → tie.Start Inv-loop μ-loop
 start l = l .before .before .before .before .before .before
 
@@ -44,7 +40,7 @@ loop-holds : tie.Need-loop-holds Inv-loop μ-loop
 unfolding paged
 loop-holds c =
     let a = c .before .before .before .before .args in
-    let none = rank-start (readRows (a .n) (drop 16 (a .sheet .now))) in
+    let none = sym (rank-none (readRows (a .n) (drop 16 (a .sheet .now)))) in
     (omega arith, refl, omega arith, omega arith, none, λ k g. puts-none)
 
 mul-row-at : tie.Need-mul-row-at Inv-loop μ-loop

@@ -1,6 +1,6 @@
 -- `text_page::lines::takes` meets its contract: codes 1 to 7 are operations, and every other code is a barrier's.
 use Prim.Native.Nat.{ℕ, zero, suc, _≤_, _<_}
-use mathlib.Core.Path.{_≡_, refl, ap, sym, _∙_}
+use mathlib.Core.Path.{_≡_, refl, ap}
 use native.Mathlib.Omega.{arith}
 use Rattle.laws.proofs.Numbers.{values-at}
 use Rattle.sheet_format.specs.Read.{instrBy}
