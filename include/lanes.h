@@ -2,8 +2,8 @@
  *
  * A kernel file, a schedule and an output buffer are each a pointer and a length in bytes. A pointer is never NULL,
  * also where the length is 0. The buffers of one call do not overlap. A call keeps no pointer and needs no memory but
- * stack: measured on x86-64 and the longest kernel, lanes_lower1 and lanes_lower2 5,136 bytes, lanes_page 9,280,
- * lanes_run_source 12,344 and lanes_run_tso 14,336.
+ * stack: measured on x86-64 and the longest kernel, lanes_lower1 and lanes_lower2 5,280 bytes, lanes_page 11,576,
+ * lanes_run_source 9,472 and lanes_run_tso 14,480.
  *
  * Answer: a success is the number of bytes written, below 2^32. A refusal is number * 2^32 + record, the record being
  * 0 where none is named. After a refusal the output buffer is as it was; after a success the bytes behind the result
@@ -51,8 +51,8 @@ uint64_t lanes_lower1(const uint8_t *kernel, size_t kernel_len, uint8_t *sheet, 
 uint64_t lanes_lower2(const uint8_t *kernel, size_t kernel_len, uint8_t *sheet, size_t sheet_len);
 
 /* The x86 sheet as pages of text for a binder: lines of 32 characters and a newline, on each page a heading and up to
- * 55 instructions, each with its lane, position, name, fields and the record that it comes from. docs/FORMATS.md has
- * the columns. */
+ * 55 instructions, each with its lane, position, name and fields, and an operation with the record that it comes from.
+ * docs/FORMATS.md has the columns. */
 uint64_t lanes_page(const uint8_t *kernel, size_t kernel_len, uint8_t *page, size_t page_len);
 
 /* A schedule run from the start, on the source machine over the kernel and on the tso machine over its level 2 sheet. A

@@ -87,28 +87,21 @@ fn lower_medium(level: Level, file: &[u8], out: &mut [u8]) -> WriteResult
     )
 }
 
-// A file of up to 256 records.
-fn lower_long(level: Level, file: &[u8], out: &mut [u8]) -> WriteResult
-    requires { ⌜ Fielded (now file) ⌝ }
-    ensures { λ r. ⌜ (r, now (out .exit)) ≡ lowerBy level (verdict (now (file .entry))) (now (out .entry)) ⌝ }
+// A file of up to 256 records, which stand in `order` lane after lane if it is accepted.
+fn lower_long(level: Level, file: &[u8], out: &mut [u8], order: &mut [u16]) -> WriteResult
+    requires { ⌜ Fielded (now file) × (256 ≤ length (now order)) ⌝ }
+    ensures answer { λ r. ⌜ (r, now (out .exit)) ≡ lowerBy level (verdict (now (file .entry))) (now (out .entry)) ⌝ }
+    ensures order { λ r. ⌜ (verdict (now (file .entry)) ≡ accepted (programOf (now (file .entry)))
+        → take (recordCount (now (file .entry))) (now (order .exit)) ≡ laneOrder (programOf (now (file .entry)))) ⌝ }
 {
     let mut rows = [0u8; 2064];
-    let mut order = [0u16; 256];
     let mut place = [0u16; 257];
     let mut plan = [0u32; 260];
-    lower_in(
-        level,
-        file,
-        out,
-        &mut rows,
-        &mut order,
-        &mut place,
-        &mut plan,
-    )
+    lower_in(level, file, out, &mut rows, order, &mut place, &mut plan)
 }
 
 // The sheet of a level, as `lower` writes it, and the records of an accepted file in the order of its lanes at the
-// front of `order`, which a refusal of the file leaves open.
+// front of `order`. What stands behind them, and all of `order` where the file is refused, is open.
 pub fn lower_ordered(level: Level, file: &[u8], out: &mut [u8], order: &mut [u16]) -> WriteResult
     requires { ⌜ 256 ≤ length (now order) ⌝ }
     ensures answer { λ r. ⌜ (r, now (out .exit)) ≡ lowerBy level (verdict (now (file .entry))) (now (out .entry)) ⌝ }
@@ -120,10 +113,7 @@ pub fn lower_ordered(level: Level, file: &[u8], out: &mut [u8], order: &mut [u16
     if refused != 0 {
         return WriteResult::Refuses(refused, record_of(fields));
     }
-    let mut chains = [0u8; 2064];
-    let mut slots = [0u16; 257];
-    let mut plans = [0u32; 260];
-    lower_in(level, file, out, &mut chains, order, &mut slots, &mut plans)
+    lower_long(level, file, out, order)
 }
 
 // The sheet of a level at the front of `out`; a refusal, 9 for a buffer that is too short, leaves `out` as it was.
@@ -142,7 +132,8 @@ pub fn lower(level: Level, file: &[u8], out: &mut [u8]) -> WriteResult
     if file.len() <= 784 {
         return lower_medium(level, file, out);
     }
-    lower_long(level, file, out)
+    let mut order = [0u16; 256];
+    lower_long(level, file, out, &mut order)
 }
 
 // The level 1 sheet at the front of `out`; a refusal, 9 for a buffer that is too short, leaves `out` as it was.

@@ -8,9 +8,9 @@ use lib.Seq.{length-take-le, split-at, take-at, drop-at, take-all}
 use Rattle.laws.proofs.Lists.{at-some}
 use Rattle.sheet_format.proofs.Laws.Cells.{each-at}
 use Rattle.text_page.specs.Pages.{headingLine, pageCount, pagesOf}
-use Rattle.text_page.specs.Given.{headed, paged}
+use Rattle.text_page.specs.Given.{heading, headed, paged}
 use Rattle.text_page.proofs.Laws.Columns.{heading-length}
-use Rattle.text_page.proofs.Laws.Pages.{Whole, heading, headed-by, heading-first, heading-takes, paged-append}
+use Rattle.text_page.proofs.Laws.Pages.{Whole, headed-by, heading-first, heading-takes, paged-append}
 use Rattle.text_page.proofs.Laws.Pages.{paged-length, pages-paged, pages-none, pages-begun}
 
 whole-take : (i : ℕ) (ls : List (List ℕ)) → Whole ls → Whole (take i ls)

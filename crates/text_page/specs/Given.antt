@@ -8,7 +8,6 @@ use lib.Dec.{eqb}
 use lib.ListN.{length, getD}
 use Rattle.file_format.specs.Accepted.{Program}
 use Rattle.file_format.specs.Lawful.{Lawful}
-use Rattle.sheet_format.specs.Layout.{Instr, op, barrier}
 use Rattle.sheet_format.specs.declared.Level.the-variants.{Level2}
 use Rattle.sheet_format.specs.Bytes.{sheetBytes}
 use Rattle.file_accept.specs.Order.{laneOrder}
@@ -16,19 +15,17 @@ use Rattle.sheet_rows.specs.Rows.{partsIn}
 use Rattle.text_page.specs.Pages.{headingLine}
 use Rattle.text_page.specs.Lines.{pageLines}
 
--- line n, from 0, behind the heading of the page that it begins
+-- what stands before line n, from 0: the heading of the page that it begins
+unfoldable pub heading : ℕ → List ℕ
+heading n = cond (eqb (n % 55) 0) (headingLine (n / 55 + 1)) []
+
 unfoldable pub headed : ℕ → List ℕ → List ℕ
-headed n l = cond (eqb (n % 55) 0) (headingLine (n / 55 + 1) ++ l) l
+headed n l = heading n ++ l
 
 -- lines with their headings, the first of which is line n
 unfoldable pub paged : ℕ → List (List ℕ) → List ℕ
 paged n [] = []
 paged n (l ∷ ls) = headed n l ++ paged (suc n) ls
-
--- an operation takes a record, a barrier none
-abbrev pub takes : Instr → ℕ
-takes (op o) = 1
-takes (barrier b) = 0
 
 -- row i of a sheet, from 0, is that of the instruction of lane t at position p
 pub record RowAt (sheet : List ℕ) (i t p : ℕ) : Type 0 where

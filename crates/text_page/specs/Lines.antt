@@ -47,16 +47,16 @@ unfoldable pub instructionLine : ℕ → ℕ → Instr → ℕ → List ℕ
 instructionLine lane position i r =
     lineIn columns (decimal lane ∷ decimal position ∷ instrName i ∷ fieldTexts i r)
 
--- the records behind those that an instruction comes from
-abbrev pub recordsBehind : Instr → List ℕ → List ℕ
-recordsBehind (op o) rs = drop 1 rs
-recordsBehind (barrier b) rs = rs
+-- an operation takes a record, a barrier none
+abbrev pub takes : Instr → ℕ
+takes (op o) = 1
+takes (barrier b) = 0
 
 -- the lines of a lane's instructions, the first of which stands at a position; its operations have these records
 unfoldable pub laneLines : ℕ → ℕ → List ℕ → List Instr → List (List ℕ)
 laneLines lane position rs [] = []
 laneLines lane position rs (i ∷ is) =
-    instructionLine lane position i (getD rs 0 0) ∷ laneLines lane (suc position) (recordsBehind i rs) is
+    instructionLine lane position i (getD rs 0 0) ∷ laneLines lane (suc position) (drop (takes i) rs) is
 
 -- lane after lane, each from position 0
 unfoldable pub linesFrom : ℕ → List (List ℕ) → List (List Instr) → List (List ℕ)

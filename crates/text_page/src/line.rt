@@ -1,7 +1,7 @@
 // The line of an instruction and the heading of a page, laid into a buffer.
 ghost use mathlib.Core.Path.{_≡_};
 ghost use mathlib.Core.List.{_∷_, [], _++_};
-ghost use Prim.Native.Nat.{ℕ, _+_, _≤_, _^_};
+ghost use Prim.Native.Nat.{ℕ, _+_, _≤_, _<_, _^_};
 ghost use lib.ListN.{length, drop};
 ghost use Rattle.sheet_format.specs.Put.{Puts};
 ghost use Rattle.sheet_format.specs.Read.{instrBy};
@@ -126,13 +126,9 @@ fn fields_in(line: &mut [u8], code: u32, a: u32, b: u32, word: u32, rec: u32)
         (fieldTexts (instrBy code a b word) rec) ⌝ }
 {
     match code {
-        1 => pair_in(line, a, CONSTANT, word, rec),
-        2 => pair_in(line, a, OPERAND, b, rec),
-        3 => pair_in(line, a, OPERAND, b, rec),
-        4 => pair_in(line, a, OPERAND, b, rec),
-        5 => lock_in(line, b, rec),
-        6 => lock_in(line, b, rec),
-        7 => pair_in(line, a, CONSTANT, word, rec),
+        1 | 7 => pair_in(line, a, CONSTANT, word, rec),
+        2 | 3 | 4 => pair_in(line, a, OPERAND, b, rec),
+        5 | 6 => lock_in(line, b, rec),
         _ => return,
     }
 }
@@ -179,7 +175,7 @@ pub(crate) fn put_row(
     row: Row,
     rec: u32,
 ) -> usize
-    requires { ⌜ (at + 66 ≤ 2 ^ 62) × (i ≤ 262140) ⌝ }
+    requires { ⌜ (at + 66 ≤ 2 ^ 62) × (i < 512) ⌝ }
     ensures { λ r. ⌜ Puts (now (out .entry)) at
         (headed i (instructionLine lane position (instrBy (row .code) (row .a) (row .b) (row .word)) rec))
         (now (out .exit)) r ⌝ }

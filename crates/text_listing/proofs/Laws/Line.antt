@@ -1,20 +1,19 @@
 -- Laws of lines: the name and the text of an instruction by its code, and how long they are at most.
 use Prim.Native.Nat.{ℕ, suc, _+_, _^_, _≤_, _<_}
-use mathlib.Core.Path.{_≡_, refl, sym, ap, subst, _∙_}
-use mathlib.Core.Logic.{_⊎_, ⊎-elim}
+use mathlib.Core.Path.{_≡_, refl, sym, ap, _∙_}
+use mathlib.Core.Logic.{_⊎_}
 use mathlib.Core.Bool.{Bool, true, false, cond}
 use mathlib.Core.List.{List, [], _∷_, _++_}
 use native.Mathlib.Omega.{arith}
 use lib.Dec.{eqb}
 use lib.ListN.{length, length-append}
 use borrow.Author.Tests.{ne-eqb}
-use Rattle.laws.proofs.Numbers.{lt-or-le}
 use Rattle.file_format.specs.declared.accepted.Op.the-variants.{Set, Add, Load, Store, Lock, Unlock, Skip}
 use Rattle.barrier_placement.specs.declared.cookbook.Barrier.the-variants.{LL, LS, SS, SL}
 use Rattle.sheet_format.specs.Layout.{Instr, op, barrier}
 use Rattle.sheet_format.specs.Read.{barrierBy, instrBy}
 use Rattle.sheet_format.specs.Put.{Puts}
-use Rattle.sheet_format.proofs.Laws.Codes.{by-code, other-code}
+use Rattle.sheet_format.proofs.Laws.Codes.{by-code, other-code, word-codes, pair-codes, lock-codes, barrier-codes}
 use Rattle.text_put.specs.Decimal.{decimal}
 use Rattle.text_put.specs.Words.{space}
 use Rattle.text_listing.specs.Line.{pair, instrName, instrText, lineOf, firstLine}
@@ -50,34 +49,24 @@ name-end o p = omega (arith, p 0 0 0 .behind, name-few (instrBy o 0 0 0))
 
 -- what stands behind the name: a and the constant or the target, a and b, b alone, or nothing
 module _ (o a b c : ℕ) where
-  abbrev Behind : List ℕ → Type 0
-  Behind rest = instrName (instrBy o a b c) ++ rest ≡ instrText (instrBy o a b c)
+  abbrev Behind : List ℕ → Instr → Type 0
+  Behind rest i = instrName i ++ rest ≡ instrText i
 
-  by : (k : ℕ) (rest : List ℕ) → o ≡ k → instrName (instrBy k a b c) ++ rest ≡ instrText (instrBy k a b c) → Behind rest
-  by k rest e = subst (λ i. instrName i ++ rest ≡ instrText i) (by-code k a b c e)
-
-  pub word-behind : (o ≡ 1) ⊎ (o ≡ 7) → Behind (space ∷ pair a c)
+  pub word-behind : (o ≡ 1) ⊎ (o ≡ 7) → Behind (space ∷ pair a c) (instrBy o a b c)
   unfolding instrText
-  word-behind = ⊎-elim (λ e. by 1 _ e refl) (λ e. by 7 _ e refl)
+  word-behind k = word-codes (Behind (space ∷ pair a c)) o a b c k refl refl
 
-  pub pair-behind : (o ≡ 1 → ⊥) → 1 ≤ o → o < 5 → Behind (space ∷ pair a b)
+  pub pair-behind : (o ≡ 1 → ⊥) → 1 ≤ o → o < 5 → Behind (space ∷ pair a b) (instrBy o a b c)
   unfolding instrText
-  pair-behind n p q =
-      ⊎-elim (λ l. by 2 _ (omega arith) refl)
-      (λ g. ⊎-elim (λ l. by 3 _ (omega arith) refl) (λ h. by 4 _ (omega arith) refl) (lt-or-le o 4))
-      (lt-or-le o 3)
+  pair-behind n p q = pair-codes (Behind (space ∷ pair a b)) o a b c n p q refl refl refl
 
-  pub b-behind : 5 ≤ o → o < 7 → Behind (space ∷ decimal b)
+  pub b-behind : 5 ≤ o → o < 7 → Behind (space ∷ decimal b) (instrBy o a b c)
   unfolding instrText
-  b-behind p q = ⊎-elim (λ l. by 5 _ (omega arith) refl) (λ g. by 6 _ (omega arith) refl) (lt-or-le o 6)
+  b-behind p q = lock-codes (Behind (space ∷ decimal b)) o a b c p q refl refl
 
   pub none-behind : (1 ≤ o → o < 8 → ⊥) → instrName (instrBy o a b c) ≡ instrText (instrBy o a b c)
   unfolding instrText
-  none-behind h =
-      subst (λ i. instrName i ≡ instrText i)
-      (other-code o a b c (λ e. h (omega arith) (omega arith)) (λ e. h (omega arith) (omega arith))
-      (λ e. h (omega arith) (omega arith)) (λ e. h (omega arith) (omega arith)) (λ e. h (omega arith) (omega arith))
-      (λ e. h (omega arith) (omega arith)) (λ e. h (omega arith) (omega arith))) refl
+  none-behind h = barrier-codes (λ i. instrName i ≡ instrText i) o a b c h refl
 
 pub pair-few : (a b : ℕ) → a < 2 ^ 32 → b < 2 ^ 32 → length (pair a b) ≤ 21
 pair-few a b ha hb =

@@ -24,8 +24,8 @@ use Rattle.file_accept.specs.Order.{laneOrder}
 use Rattle.sheet_rows.specs.Rows.{partsIn}
 use Rattle.sheet_rows.proofs.Laws.Parts.{before, begins, lane-rows}
 use Rattle.sheet_rows.proofs.Laws.Read.{rows-length, row-from, row-of}
-use Rattle.text_page.specs.Lines.{instructionLine, pageLines}
-use Rattle.text_page.specs.Given.{takes, RowAt, headed, paged, Given}
+use Rattle.text_page.specs.Lines.{takes, instructionLine, pageLines}
+use Rattle.text_page.specs.Given.{RowAt, headed, paged, Given}
 use Rattle.text_page.proofs.Laws.Pages.{paged-next}
 use Rattle.text_page.proofs.Laws.Lines.{lines-length, lines-few, line-of}
 use Rattle.text_page.proofs.Laws.Ranks.{rank-on, lane-records, lanes-count, together, order-at}

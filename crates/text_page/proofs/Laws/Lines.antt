@@ -1,27 +1,29 @@
 -- Laws of a kernel's lines: how many there are, what holds of each, and which instruction and record a line is of.
 use Prim.Native.Nat.{ℕ, zero, suc, _+_, _≤_}
-use mathlib.Core.Path.{_≡_, refl, ap, ap₂, _∙_}
+use mathlib.Core.Path.{_≡_, refl, sym, ap, ap₂, _∙_}
 use mathlib.Core.List.{List, [], _∷_, _++_}
 use mathlib.Core.Option.{some}
 use native.Mathlib.Omega.{arith}
 use lib.ListN.{length, getD, getElem?, take, drop, length-append}
+use lib.Seq.{getD-drop}
 use Rattle.laws.proofs.Lists.{some-at, getElem?-left, at-behind}
 use Rattle.file_format.specs.Accepted.{Program}
 use Rattle.file_format.specs.Lawful.{Lawful}
-use Rattle.sheet_format.specs.Layout.{Instr, op, barrier, rank}
+use Rattle.sheet_format.specs.Layout.{Instr, rank}
 use Rattle.sheet_format.specs.declared.Level.the-variants.{Level2}
 use Rattle.sheet_format.specs.Levels.{sheetLanes}
 use Rattle.sheet_format.proofs.Laws.Cells.{Each, each-append}
 use Rattle.sheet_format.proofs.Laws.Rows.{total}
 use Rattle.sheet_format.proofs.Sizes.{sheet-size, sheet-small}
-use Rattle.text_page.specs.Lines.{instructionLine, recordsBehind, laneLines, linesFrom, pageLines}
+use Rattle.text_page.specs.Lines.{takes, instructionLine, laneLines, linesFrom, pageLines}
+use Rattle.text_page.proofs.Laws.Ranks.{rank-first}
 
 -- ## as many lines as instructions
 
 lane-length : (t p : ℕ) (rs : List ℕ) (is : List Instr) → length (laneLines t p rs is) ≡ length is
 unfolding laneLines
 lane-length t p rs [] = refl
-lane-length t p rs (i ∷ is) = ap suc (lane-length t (suc p) (recordsBehind i rs) is)
+lane-length t p rs (i ∷ is) = ap suc (lane-length t (suc p) (drop (takes i) rs) is)
 
 from-length : (t : ℕ) (rss : List (List ℕ)) (xs : List (List Instr)) → length (linesFrom t rss xs) ≡ total xs
 unfolding linesFrom
@@ -47,7 +49,7 @@ module _ (P : List ℕ → Type 0) (h : (t p : ℕ) (i : Instr) (r : ℕ) → P 
   lane-each : (t p : ℕ) (rs : List ℕ) (is : List Instr) → Each P (laneLines t p rs is)
   unfolding laneLines
   lane-each t p rs [] = tt
-  lane-each t p rs (i ∷ is) = (h t p i (getD rs 0 0), lane-each t (suc p) (recordsBehind i rs) is)
+  lane-each t p rs (i ∷ is) = (h t p i (getD rs 0 0), lane-each t (suc p) (drop (takes i) rs) is)
 
   from-each : (t : ℕ) (rss : List (List ℕ)) (xs : List (List Instr)) → Each P (linesFrom t rss xs)
   unfolding linesFrom
@@ -64,10 +66,6 @@ lines-each P h k = from-each P h 0 (k .records) (sheetLanes Level2 k)
 
 -- ## the line of an instruction
 
-next-at : {A : Type 0} (l : List A) (i : ℕ) (d : A) → getD (drop 1 l) i d ≡ getD l (suc i) d
-next-at [] i d = refl
-next-at (x ∷ l) i d = refl
-
 -- within a lane whose first instruction stands at q: the record is the one behind those of the operations before
 lane-at : (t q : ℕ) (rs : List ℕ) (is : List Instr) (p : ℕ) (i : Instr) → getElem? is p ≡ some i
     → getElem? (laneLines t q rs is) p ≡ some (instructionLine t (q + p) i (getD rs (rank is p) 0))
@@ -76,13 +74,11 @@ lane-at t q rs [] p i e = let z : _≡_ {A = ℕ} 0 1 = cc in absurd (omega arit
 lane-at t q rs (j ∷ is) zero i e =
     let here : q + 0 ≡ q = omega arith in
     rw here cc
-lane-at t q rs (op o ∷ is) (suc p) i e =
+lane-at t q rs (j ∷ is) (suc p) i e =
     let on : suc q + p ≡ q + suc p = omega arith in
-    lane-at t (suc q) (drop 1 rs) is p i e
-    ∙ ap₂ (λ x r. some (instructionLine t x i r)) on (next-at rs (rank is p) 0)
-lane-at t q rs (barrier b ∷ is) (suc p) i e =
-    let on : suc q + p ≡ q + suc p = omega arith in
-    lane-at t (suc q) rs is p i e ∙ ap (λ x. some (instructionLine t x i (getD rs (rank is p) 0))) on
+    lane-at t (suc q) (drop (takes j) rs) is p i e
+    ∙ ap₂ (λ x r. some (instructionLine t x i r)) on
+    (getD-drop (takes j) rs (rank is p) 0 ∙ ap (λ n. getD rs n 0) (sym (rank-first j is p)))
 
 -- within the lanes from lane s on
 from-at : (s : ℕ) (rss : List (List ℕ)) (xs : List (List Instr)) (t p : ℕ) (i : Instr)
@@ -106,9 +102,11 @@ from-at s rss (x ∷ xs) (suc t) p i e =
     let on : length x + total (take t xs) + p ≡ length here + (total (take t xs) + p) =
     omega (arith, lane-length s 0 (getD rss 0 []) x) in
     let lane : suc s + t ≡ s + suc t = omega arith in
+    let next : 1 + t ≡ suc t = omega arith in
     ap (getElem? (here ++ there)) on ∙ at-behind here there (total (take t xs) + p)
     ∙ from-at (suc s) (drop 1 rss) xs t p i e
-    ∙ ap₂ (λ l (rs : List ℕ). some (instructionLine l p i (getD rs (rank (getD xs t []) p) 0))) lane (next-at rss t [])
+    ∙ ap₂ (λ l (rs : List ℕ). some (instructionLine l p i (getD rs (rank (getD xs t []) p) 0))) lane
+    (getD-drop 1 rss t [] ∙ ap (λ n. getD rss n []) next)
 
 -- The line of lane t's instruction at position p: the lanes one after the other, and each operation with its own record
 -- of the kernel.

@@ -1,11 +1,10 @@
 -- Laws of lines on pages.
 use Prim.Native.Nat.{ℕ, zero, suc, _+_, _*_, _/_, _%_, _≤_, _<_, max}
 use mathlib.Core.Path.{_≡_, refl, sym, ap, ap₂, _∙_}
-use mathlib.Core.Bool.{Bool, true, false, cond}
 use mathlib.Core.List.{List, [], _∷_, _++_, append-assoc, append-nil}
 use native.Mathlib.Omega.{arith}
 use native.Mathlib.Decide.{ℕ-discrete}
-use lib.Dec.{eqb, eqb·suc-zero}
+use lib.Dec.{eqb·suc-zero}
 use lib.ListN.{length, getD, take, drop, length-append, length-drop, length-take}
 use lib.Seq.{length-take-le, take-suc, take-add, take-all}
 use borrow.Author.Tests.{eq-eqb, ne-eqb}
@@ -14,7 +13,7 @@ use Rattle.sheet_format.specs.Bytes.{joined}
 use Rattle.sheet_format.specs.Put.{inTurn}
 use Rattle.sheet_format.proofs.Laws.Cells.{Each}
 use Rattle.text_page.specs.Pages.{headingLine, pageCount, pageOf, pagesOf}
-use Rattle.text_page.specs.Given.{headed, paged}
+use Rattle.text_page.specs.Given.{heading, headed, paged}
 use Rattle.text_page.proofs.Laws.Columns.{heading-length}
 
 -- ## how many pages
@@ -36,17 +35,9 @@ pages-few n h = omega (arith, page-count n)
 
 -- ## line after line
 
--- what stands before line n
-unfoldable pub heading : ℕ → List ℕ
-heading n = cond (eqb (n % 55) 0) (headingLine (n / 55 + 1)) []
-
 pub headed-by : (n : ℕ) (l : List ℕ) → headed n l ≡ heading n ++ l
-unfolding headed heading
-headed-by n l = go (eqb (n % 55) 0)
-  where
-    go : (b : Bool) → cond b (headingLine (n / 55 + 1) ++ l) l ≡ cond b (headingLine (n / 55 + 1)) [] ++ l
-    go true = refl
-    go false = refl
+unfolding headed
+headed-by n l = refl
 
 pub heading-first : (n : ℕ) → n % 55 ≡ 0 → heading n ≡ headingLine (n / 55 + 1)
 unfolding heading

@@ -19,7 +19,7 @@ use Rattle.sheet_format.specs.Levels.{placed, placedLanes, sheetLanes, volatile
 use Rattle.sheet_format.specs.Bytes.{joined}
 use Rattle.sheet_format.proofs.Laws.Rows.{total}
 use Rattle.sheet_format.proofs.PlacedLanes.{placed-count}
-use Rattle.text_page.specs.Given.{takes}
+use Rattle.text_page.specs.Lines.{takes}
 
 -- ## how many operations stand before a position
 
@@ -27,7 +27,7 @@ pub rank-none : (xs : List Instr) → rank xs 0 ≡ 0
 rank-none [] = refl
 rank-none (x ∷ xs) = refl
 
-rank-first : (x : Instr) (xs : List Instr) (p : ℕ) → rank (x ∷ xs) (suc p) ≡ takes x + rank xs p
+pub rank-first : (x : Instr) (xs : List Instr) (p : ℕ) → rank (x ∷ xs) (suc p) ≡ takes x + rank xs p
 rank-first (op o) xs p = omega arith
 rank-first (barrier b) xs p = omega arith
 

@@ -1,4 +1,5 @@
 -- `sheet_lower::lower::lower` meets its contract.
+use native.Mathlib.Omega.{arith}
 use Rattle.file_format.specs.Structured.{Fielded}
 use borrow.Author.Needs.{needs}
 use Rattle.sheet_lower.proofs.Laws.Early.{fielded, refused-early}
@@ -23,11 +24,14 @@ lower-medium-requires : tie.Need-lower-medium-requires
 lower-medium-requires c κs = (passed (c .before .before .before), c .before .if3 .taken)
 
 lower-long-requires : tie.Need-lower-long-requires
-lower-long-requires c κs = passed (c .before .before .before)
+lower-long-requires c κs = (passed (c .before .before .before .before), omega arith)
+
+returns-4 : tie.Need-returns-4
+returns-4 c = c .before .before .before .lower-long .ensures .0
 
 pub lower-spec : {M : Type 1} → statement M
 lower-spec =
     tie.close
     (tie.spec (λ c κs. search needs) (λ c κs. search needs) (λ c κs. search needs) returns lower-short-requires
     (λ c. search needs) (λ c. search needs) lower-medium-requires (λ c. search needs) (λ c. search needs)
-    lower-long-requires (λ c. search needs) (λ c. search needs))
+    (λ c. search needs) lower-long-requires (λ c. search needs) returns-4)

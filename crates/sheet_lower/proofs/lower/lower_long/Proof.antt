@@ -1,4 +1,4 @@
--- `sheet_lower::lower::lower_long` meets its contract: the buffers have room for the file's records.
+-- `sheet_lower::lower::lower_long` meets its contract: the buffers have room for the records of any file.
 use mathlib.Core.Path.{refl}
 use native.Mathlib.Omega.{arith}
 use Rattle.file_format.proofs.Laws.Rules.{few-records}
@@ -8,20 +8,15 @@ use Rattle.sheet_lower.proofs.lower.lower_long.Tie as tie
 
 lower-in-requires : tie.Need-lower-in-requires
 lower-in-requires c κs =
-    let s = c .before .before .before .before .before .before .before in
-    let few = few-records _ (s .pre .header) in (
-      s .pre,
-      (
-        (omega (arith, few), omega (arith, few)),
-        ((omega (arith, few), omega (arith, few)), refl),
-      ),
-    )
+    let s = c .before .before .before .before .before .before .before .before in
+    let few = few-records _ (s .pre .0 .header) in
+    (s .pre .0, ((omega arith, omega arith), ((omega (arith, s .pre .1), omega arith), refl)))
 
 returns : tie.Need-returns
-returns c = c .before .before .before .before .before .before .lower-in .ensures .0
+returns c = c .before .before .before .before .before .before .before .lower-in .ensures
 
 pub lower-long-spec : {M : Type 1} → statement M
 lower-long-spec =
     tie.close
-    (tie.spec (λ c. search needs) (λ c. search needs) (λ c. search needs) (λ c. search needs) lower-in-requires
+    (tie.spec (λ c. search needs) (λ c. search needs) (λ c. search needs) lower-in-requires (λ c. search needs)
     (λ c. search needs) returns)

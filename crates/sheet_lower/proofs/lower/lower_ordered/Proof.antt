@@ -1,8 +1,5 @@
--- `sheet_lower::lower::lower_ordered` meets its contract: the buffers have room for the records of any file.
-use mathlib.Core.Path.{refl}
-use native.Mathlib.Omega.{arith}
+-- `sheet_lower::lower::lower_ordered` meets its contract.
 use Rattle.file_format.specs.Structured.{Fielded}
-use Rattle.file_format.proofs.Laws.Rules.{few-records}
 use borrow.Author.Needs.{needs}
 use Rattle.sheet_lower.proofs.Laws.Early.{fielded, refused-early, unaccepted-early}
 use Rattle.sheet_lower.proofs.lower.lower_ordered.Statement.{statement}
@@ -26,18 +23,16 @@ returns c =
       λ v. absurd (unaccepted-early (a .file .now) is number some v),
     )
 
-lower-in-requires : tie.Need-lower-in-requires
-lower-in-requires c κs =
-    let s = c .before .before .before .before .before in
-    let f = passed s in
-    let few = few-records _ (f .header) in
-    (f, ((omega arith, omega arith), ((omega (arith, start s .pre), omega arith), refl)))
+lower-long-requires : tie.Need-lower-long-requires
+lower-long-requires c κs =
+    let s = c .before .before in
+    (passed s, start s .pre)
 
 returns-2 : tie.Need-returns-2
-returns-2 c = c .before .before .before .before .before .before .before .lower-in .ensures
+returns-2 c = c .before .before .before .before .lower-long .ensures
 
 pub lower-ordered-spec : {M : Type 1} → statement M
 lower-ordered-spec =
     tie.close
-    (tie.spec (λ c κs. search needs) (λ c κs. search needs) (λ c κs. search needs) returns (λ c. search needs)
-    (λ c. search needs) (λ c. search needs) lower-in-requires (λ c. search needs) (λ c. search needs) returns-2)
+    (tie.spec (λ c κs. search needs) (λ c κs. search needs) (λ c κs. search needs) returns lower-long-requires
+    (λ c. search needs) (λ c. search needs) returns-2)

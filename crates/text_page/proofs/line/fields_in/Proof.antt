@@ -1,38 +1,35 @@
--- `text_page::line::fields_in` meets its contract, code by code.
+-- `text_page::line::fields_in` meets its contract, by the codes whose instructions have the same fields.
 use Prim.Native.Nat.{ℕ}
-use mathlib.Core.Path.{_≡_, ap, _∙_}
+use mathlib.Core.Path.{_≡_, refl}
+use mathlib.Core.Logic.{inl, inr}
 use mathlib.Core.List.{List}
+use native.Mathlib.Omega.{arith}
 use lib.ListN.{drop}
-use Rattle.sheet_format.specs.Read.{instrBy}
-use Rattle.sheet_format.proofs.Laws.Codes.{by-code, other-code}
+use Rattle.sheet_format.specs.Layout.{Instr}
+use Rattle.sheet_format.proofs.Laws.Codes.{word-codes, pair-codes, lock-codes, barrier-codes}
 use Rattle.text_page.specs.Columns.{inColumn, inColumns}
 use Rattle.text_page.specs.Lines.{columns, fieldTexts}
 use borrow.Author.Needs.{needs}
 use Rattle.text_page.proofs.line.fields_in.Statement.{statement}
 use Rattle.text_page.proofs.line.fields_in.Tie as tie
 
--- the fields by a code that is known
-code-fields : (n : ℕ) {o : ℕ} (line : List ℕ) (a b c r : ℕ) → o ≡ n
-    → inColumns line (drop 3 columns) (fieldTexts (instrBy n a b c) r)
-    ≡ inColumns line (drop 3 columns) (fieldTexts (instrBy o a b c) r)
-code-fields n line a b c r e = ap (λ i. inColumns line (drop 3 columns) (fieldTexts i r)) (by-code n a b c e)
+-- an instruction's fields and record r laid into a line
+abbrev Laid : List ℕ → List ℕ → ℕ → Instr → Type 0
+Laid line after r i = after ≡ inColumns line (drop 3 columns) (fieldTexts i r)
 
 returns : tie.Need-returns
 unfolding inColumns
 returns c =
-    let r = c .match .rest in
-    let a = c .before .before .args in
-    ap (λ i. inColumns (a .line .now) (drop 3 columns) (fieldTexts i (a .rec)))
-    (other-code (a .code) (a .a) (a .b) (a .word) (r .0 .0 .0 .0 .0 .0 .1) (r .0 .0 .0 .0 .0 .1) (r .0 .0 .0 .0 .1)
-    (r .0 .0 .0 .1) (r .0 .0 .1) (r .0 .1) (r .1))
+    let a = c .before .before .before .args in
+    barrier-codes (Laid (a .line .now) _ (a .rec)) (a .code) (a .a) (a .b) (a .word) (λ p q. omega arith) refl
 
 returns-2 : tie.Need-returns-2
-unfolding inColumn inColumns
+unfolding inColumns
 returns-2 c =
-    let w = c .before .before in
-    let m = w .before .before in
+    let m = c .before .before .before in
     let a = m .before .before .args in
-    w .pair-in .ensures ∙ code-fields 1 (a .line .now) (a .a) (a .b) (a .word) (a .rec) (m .match .keys1)
+    barrier-codes (Laid (a .line .now) _ (a .rec)) (a .code) (a .a) (a .b) (a .word)
+    (λ p q. m .match .rest .1 (inr (omega arith))) refl
 
 returns-3 : tie.Need-returns-3
 unfolding inColumn inColumns
@@ -40,52 +37,32 @@ returns-3 c =
     let w = c .before .before in
     let m = w .before .before in
     let a = m .before .before .args in
-    w .pair-in2 .ensures ∙ code-fields 2 (a .line .now) (a .a) (a .b) (a .word) (a .rec) (m .match .keys2)
+    let laid = w .pair-in .ensures in
+    word-codes (Laid (a .line .now) _ (a .rec)) (a .code) (a .a) (a .b) (a .word) (m .match .keys1) laid laid
 
 returns-4 : tie.Need-returns-4
 unfolding inColumn inColumns
 returns-4 c =
     let w = c .before .before in
-    let m = w .before .before in
+    let i = w .before .before in
+    let m = i .before .before in
     let a = m .before .before .args in
-    w .pair-in3 .ensures ∙ code-fields 3 (a .line .now) (a .a) (a .b) (a .word) (a .rec) (m .match .keys3)
+    let laid = w .pair-in2 .ensures in
+    pair-codes (Laid (a .line .now) _ (a .rec)) (a .code) (a .a) (a .b) (a .word) (λ e. m .match .rest .1 (inl e))
+    (i .before .if1 .left) (i .if2 .taken) laid laid laid
 
 returns-5 : tie.Need-returns-5
 unfolding inColumn inColumns
 returns-5 c =
     let w = c .before .before in
-    let m = w .before .before in
-    let a = m .before .before .args in
-    w .pair-in4 .ensures ∙ code-fields 4 (a .line .now) (a .a) (a .b) (a .word) (a .rec) (m .match .keys4)
-
-returns-6 : tie.Need-returns-6
-unfolding inColumn inColumns
-returns-6 c =
-    let w = c .before .before in
-    let m = w .before .before in
-    let a = m .before .before .args in
-    w .lock-in .ensures ∙ code-fields 5 (a .line .now) (a .a) (a .b) (a .word) (a .rec) (m .match .keys5)
-
-returns-7 : tie.Need-returns-7
-unfolding inColumn inColumns
-returns-7 c =
-    let w = c .before .before in
-    let m = w .before .before in
-    let a = m .before .before .args in
-    w .lock-in2 .ensures ∙ code-fields 6 (a .line .now) (a .a) (a .b) (a .word) (a .rec) (m .match .keys6)
-
-returns-8 : tie.Need-returns-8
-unfolding inColumn inColumns
-returns-8 c =
-    let w = c .before .before in
-    let m = w .before .before in
-    let a = m .before .before .args in
-    w .pair-in5 .ensures ∙ code-fields 7 (a .line .now) (a .a) (a .b) (a .word) (a .rec) (m .match .keys7)
+    let i = w .before .before in
+    let a = i .before .before .before .before .before .args in
+    let laid = w .lock-in .ensures in
+    lock-codes (Laid (a .line .now) _ (a .rec)) (a .code) (a .a) (a .b) (a .word) (i .before .if2 .left)
+    (i .if3 .taken) laid laid
 
 pub fields-in-spec : {M : Type 1} → statement M
 fields-in-spec =
     tie.close
-    (tie.spec (λ c κs. search needs) (λ c κs. search needs) (λ c κs. search needs) (λ c κs. search needs)
-    (λ c κs. search needs) (λ c κs. search needs) (λ c κs. search needs) returns (λ c. search needs) returns-2
-    (λ c. search needs) returns-3 (λ c. search needs) returns-4 (λ c. search needs) returns-5 (λ c. search needs)
-    returns-6 (λ c. search needs) returns-7 (λ c. search needs) returns-8)
+    (tie.spec (λ c κs. search needs) (λ c κs. search needs) (λ c κs. search needs) returns returns-2 (λ c. search needs)
+    returns-3 (λ c. search needs) returns-4 (λ c. search needs) returns-5)

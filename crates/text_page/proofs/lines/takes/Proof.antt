@@ -5,7 +5,7 @@ use native.Mathlib.Omega.{arith}
 use Rattle.laws.proofs.Numbers.{values-at}
 use Rattle.sheet_format.specs.Read.{instrBy}
 use Rattle.sheet_format.proofs.Laws.Codes.{other-code}
-use Rattle.text_page.specs.Given.{takes}
+use Rattle.text_page.specs.Lines.{takes}
 use Rattle.text_page.proofs.lines.takes.Statement.{statement}
 use Rattle.text_page.proofs.lines.takes.Tie as tie
 
