@@ -1,4 +1,4 @@
-/* Lowers each kernel file named on the command line to both levels, writes its pages and runs it on both machines:
+/* Lowers each kernel file named on the command line to every level, writes its pages and runs it on every machine:
  * prints instruction counts, the number of pages, then how a fixed schedule ends, or the refusal. */
 #include "../include/lanes.h"
 
@@ -102,9 +102,11 @@ int main(int argc, char **argv)
         printf("%s\n", argv[i]);
         lower(lanes_lower1, kernel, length);
         lower(lanes_lower2, kernel, length);
+        lower(lanes_lower3, kernel, length);
         write_pages(kernel, length);
         run("source", lanes_run_source, kernel, length);
         run("tso", lanes_run_tso, kernel, length);
+        run("pso", lanes_run_pso, kernel, length);
     }
     return 0;
 }

@@ -1,9 +1,11 @@
-# Tries the tester: plants one fault at a time in a copy of the reference, which stands in for the library (fast) and
-# for `lanetext` and `lanepage` (slow), and expects `differ`, `listings` or `counts` to find it. Prints the rows of the
-# table in docs/TESTS.md. Run with bash. Argument: number of random cases for each fault.
+# Tries the tester: plants one fault at a time in a copy of the reference, which stands in for the library (fast, or
+# slow where the fault is in it) and for `lanetext` and `lanepage` (slow), and expects `differ`, `listings` or `counts`
+# to find it. Prints the rows of the table in docs/TESTS.md. Run with bash. Arguments: number of random cases for each
+# fault; a word, to try only the faults whose name has it.
 set -eu
 cd "$(dirname "$0")"
 cases=${1:-3000}
+only=${2:-}
 out=$(realpath -m ../target/planted)
 copy=$out/copy
 export CARGO_TARGET_DIR=$out LANES_LIB=$out/release
@@ -21,6 +23,8 @@ build() {
     local stand_in=--lib features='--features runs'
     if [ "$1" = listings ]; then
         stand_in="--bin ${2##*/}" features=
+    elif [ "$planted_in" = slow ]; then
+        stand_in='--lib --features slow'
     fi
     cargo build --quiet --offline -j1 --release --manifest-path "$copy/planted/Cargo.toml" $stand_in \
         2>"$out/planted.log"
@@ -31,6 +35,8 @@ build() {
 fault() {
     local name=$1 file=$2 sed=$3
     shift 3
+    case $name in *"$only"*) ;; *) return ;; esac
+    case $file in src/slow/*) planted_in=slow ;; *) planted_in=fast ;; esac
     if [ $# = 0 ]; then
         set -- differ "$cases"
     fi
@@ -54,10 +60,13 @@ fault() {
 }
 
 restore
+planted_in=fast
 listings="listings $LANES_LIB/lanetext listing"
 pages="listings $LANES_LIB/lanepage page"
-build differ
-"$out/planted/differ" "$cases"
+for planted_in in slow fast; do
+    build differ
+    "$out/planted/differ" "$cases"
+done
 for program in "$listings" "$pages"; do
     build $program
     "$out/planted/"$program "$cases"
@@ -66,7 +75,7 @@ build counts
 "$out/planted/counts"
 
 check=src/fast/check.rs flow=src/fast/flow.rs sheet=src/fast/sheet.rs page=src/fast/page.rs machine=src/fast/machine.rs
-paged=src/slow/page.rs
+paged=src/slow/page.rs pending=src/slow/pending.rs
 
 fault 'a barrier on one side of a SKIP covers the other' $flow 's/self.live |= other.live;//'
 fault 'cell VS, VS is empty' $flow 's/\[0, 0, SL, SS\]\]/[0, 0, SL, 0]]/'
@@ -74,9 +83,9 @@ fault 'a plain store hides the volatile store before it' $flow 's/first == class
 fault 'a SKIP lands behind its target'"'"'s barrier' $flow \
     's/position => self.starts\[start + position\]/& + self.barriers[start + position].count_ones() as u16/'
 fault 'a SKIP to the end lands at the start' $flow 's/64 => self.counts\[lane\]/64 => 0/'
-fault 'the mask stays at level 2' $sheet 's/if LEVEL == 2/if LEVEL == 3/'
-fault 'MFENCE stays before a LOCK' $flow 's/\[0, 0, SL\]/[0; 3]/'
-fault 'level 1 leaves SL out before a LOCK as well' $flow 's/\[0, 0, SL\]/[0, SL, SL]/'
+fault 'the mask stays at level 2' $sheet 's/if LEVEL >= 2/if LEVEL == 3/'
+fault 'MFENCE stays before a LOCK' $flow 's/\[0, 0, SL, SL\]/[0, 0, 0, SL]/'
+fault 'level 1 leaves SL out before a LOCK as well' $flow 's/\[0, 0, SL, SL\]/[0, SL, SL, SL]/'
 fault 'no MFENCE before a volatile load either' $flow 's/(record\[0\] == LOCK)/(matches!(record[0], LOCK | LOAD))/'
 fault 'MFENCE before a volatile load that a LOCK parts from the store' $flow \
     's/ways.live = pass.live;/ways.live = pass.live | ways.live \& u8::from(LEVEL == 2 \&\& record[0] == LOCK) << 5;/'
@@ -115,14 +124,15 @@ fault 'a byte of the kernel file is written' planted/src/lib.rs \
 fault 'bytes are written past the output buffer' planted/src/lib.rs \
     's/unsafe { $lower(/unsafe { *sheet.add(sl) ^= 1; $lower(/'
 fault 'a volatile load on the source machine goes on' $machine 's/else if own.ordered > 0/else if own.ordered > 64/'
-fault 'an UNLOCK commits ahead of an older plain store' $machine 's/TSO || ordered || older/TSO || older/'
-fault 'a plain store overtakes one to its location' $machine 's/ || older.iter().any(same)//'
-fault 'LOCK of the tso machine with a pending list' $machine 's/if TSO { self.first < self.last }/if TSO { false }/'
+fault 'an UNLOCK commits ahead of an older plain store' $machine 's/SOURCE => ordered || older/SOURCE => older/'
+fault 'a plain store overtakes one to its location' $machine 's/ordered || older.iter().any(same)/ordered/'
+fault 'LOCK of the tso machine with a pending list' $machine \
+    's/if LEVEL == SOURCE { self.ordered > 0 }/if LEVEL == TSO { false } else &/'
 fault 'MFENCE does not wait' $machine 's/_ if own.first < own.last => return Turn::Waits,//'
 fault 'a load takes the oldest own value' $machine 's/.iter().rev().find(stored)/.iter().find(stored)/'
 fault 'only the first move is looked at for 10' $machine 's/moves.iter().fold/moves.iter().take(1).fold/'
 fault 'choice 64 of the source machine is refused' $machine 's/else { 64 }/else { 63 }/'
-fault 'choice 2 of the tso machine passes' $machine 's/if TSO { 1 }/if TSO { 2 }/'
+fault 'choice 2 of the tso machine passes' $machine 's/if LEVEL == TSO { 1 }/if LEVEL == TSO { 2 }/'
 fault 'lane T passes' $machine 's/named\[0\] >= kernel/named[0] > kernel/'
 fault 'an odd byte passes' $machine 's/!odd.is_empty() ||//'
 fault 'the 64th entry does not commit' $machine 's/.get(index) else/.get(index).filter(|_| index < 63) else/'
@@ -191,6 +201,47 @@ fault 'MFENCE with record 0' $paged 's/("MFENCE", None, None, None, None)/("MFEN
     $pages "$cases"
 fault 'lines without the blanks at their ends' $paged 's/line + "\\n"/line.trim_end().to_string() + "\\n"/' \
     $pages "$cases"
+
+fault 'level 3 drops SS' $flow 's/SL, SS | SL\]/SL, SL]/'
+fault 'level 3 keeps LS too' $flow 's/SL, SS | SL\]/SL, LS | SS | SL]/'
+fault 'SL stays before a LOCK at level 3' $flow 's/\[0, 0, SL, SL\]/[0, 0, SL, 0]/'
+fault 'SS is left out before an UNLOCK at level 3' $flow \
+    's/let standing = pass.standing/let dropped = if LEVEL == 3 \&\& record[0] == UNLOCK { SS } else { 0 };\
+    let standing = pass.standing \& !dropped/'
+fault 'the mask stays at level 3' $sheet 's/if LEVEL >= 2/if LEVEL == 2/'
+fault 'MFENCE at level 3' $sheet 's/\[0, 0, SS, SL\]\]/[0, 0, SS, MFENCE]]/'
+fault 'level byte 2 at level 3' $sheet 's/= LEVEL as u8/= LEVEL.min(2) as u8/'
+fault 'pso commits past a mark' $machine 's/own.marked(index) || older/older/'
+fault 'pso commits past its own location' $machine \
+    's/own.marked(index) || older.iter().any(same)/own.marked(index)/'
+fault 'pso commits only the oldest' $machine 's/PSO => own.marked(index)/PSO => true/'
+fault 'a mark holds back the entry before it' $machine 's/(1 << older) - 1/(2 << older) - 1/'
+fault 'a mark goes with the entry before it' $machine \
+    's/own.first += 1;/own.marks \&= !(1 << (own.first + index)); &/'
+fault 'a mark moves one entry on with each commit' $machine 's/own.first += 1;/own.marks <<= 1; &/'
+fault 'SS leaves no mark' $machine 's/=> own.mark(),/=> {}/'
+fault 'SS waits as SL does' $machine 's/SS if LEVEL == PSO => own.mark(),//'
+fault 'marks behind the 32nd entry and later are lost' $machine \
+    's/1 << (self.last - 1)/u64::from(1u32.unbounded_shl(self.last as u32 - 1)) \& 0x7fff_ffff/'
+fault 'no mark behind the 63rd entry' $machine 's/1 << (self.last - 1)/1 << (self.last - 1) \& !(1 << 62)/'
+fault 'SL of the pso machine passes with stores pending' $machine \
+    's/_ if own.first < own.last =>/_ if LEVEL != PSO \&\& own.first < own.last =>/'
+fault 'LOCK of the pso machine with a pending list' $machine \
+    's/if LEVEL == SOURCE { self.ordered > 0 }/if LEVEL == PSO { false } else &/'
+fault 'LOCK of the pso machine as on the source machine' $machine 's/LEVEL == SOURCE { self/LEVEL != TSO { self/'
+fault 'a load reads memory where a mark is pending' $machine \
+    's/own.newest(b).unwrap_or(memory)/own.newest(b).filter(|_| own.marks == 0).unwrap_or(memory)/'
+fault 'choice 2 of the pso machine is refused' $machine 's/if LEVEL == TSO { 1 }/if LEVEL != SOURCE { 1 }/'
+fault 'choice 64 of the pso machine is refused' $machine 's/TSO { 1 }/& else if LEVEL == PSO { 63 }/'
+fault 'choice 65 of the pso machine passes' $machine 's/TSO { 1 }/& else if LEVEL == PSO { 65 }/'
+fault 'no mark in the record' $machine 's/entry | (self.marks >> at & 1) << 16/*entry/; s/(\*entry)/entry/'
+fault 'a mark in the record on the entry behind it' $machine 's/self.marks >> at & 1/self.marks << 1 >> at \& 1/'
+fault 'a mark in the record on the oldest entry' $machine \
+    's/self.marks >> at & 1/u64::from(at == self.first \&\& self.marks >> at > 0)/'
+fault 'SS leaves a mark with nothing pending' $pending 's/if !self.is_empty() \&\& !after_a_mark/if !after_a_mark/'
+fault 'a mark that becomes the oldest stays' $pending 's/while self.items.first()/while false \&\& self.items.first()/'
+fault 'a mark vanishes with the first entry before it' $pending \
+    's/while self.items.first() ==/while self.items.get(1) ==/; s/self.items.remove(0)/self.items.remove(1)/'
 
 # leave no faulty archive where a test could link it
 rm -rf "$copy" "$LANES_LIB"

@@ -11,8 +11,8 @@ for kernel in examples/*.kernel; do
     cmp "$built/page" "${kernel%.kernel}.page"
 done
 
-# the end of the schedule for four lanes, on both machines
-for machine in source tso; do
+# the end of the schedule for four lanes, on the three machines
+for machine in source tso pso; do
     target/bin/lanerun examples/four-lanes.kernel $machine examples/four-lanes.moves > "$built/told"
     sed -n '/^done /,$p' "$built/told" > "$built/end"
     { sed "1,/^four-lanes.moves $machine\$/d; /^four-lanes.moves /,\$d" crates/vectors/stdout; echo ran; } |
@@ -51,5 +51,5 @@ last_line $kernel tso "$built/third-lane.moves" 'refused 10 record 0'
 last_line $kernel tso "$built/half.moves" 'schedule line 3 is not a move'
 last_line examples/damaged.kernel tso examples/store-buffering.moves 'refused 5 record 3'
 last_line $kernel tso "$built/none.moves" "cannot read $built/none.moves"
-last_line $kernel both examples/store-buffering.moves 'usage: lanerun KERNEL source|tso SCHEDULE'
+last_line $kernel both examples/store-buffering.moves 'usage: lanerun KERNEL source|tso|pso SCHEDULE'
 echo "examples: $(ls examples/*.kernel | wc -l) kernels listed, paged, lowered and run as the reference has them"

@@ -31,6 +31,12 @@ static void *lower2(void *unused)
     return unused;
 }
 
+static void *lower3(void *unused)
+{
+    answer = lanes_lower3(kernel, kernel_len, out, sizeof out);
+    return unused;
+}
+
 static void *page(void *unused)
 {
     answer = lanes_page(kernel, kernel_len, out, sizeof out);
@@ -46,6 +52,12 @@ static void *run_source(void *unused)
 static void *run_tso(void *unused)
 {
     answer = lanes_run_tso(kernel, kernel_len, moves, moves_len, out, sizeof out);
+    return unused;
+}
+
+static void *run_pso(void *unused)
+{
+    answer = lanes_run_pso(kernel, kernel_len, moves, moves_len, out, sizeof out);
     return unused;
 }
 
@@ -110,7 +122,8 @@ int main(void)
     }
     moves_len = sizeof moves;
     int above = measure("lanes_lower1", lower1, own) + measure("lanes_lower2", lower2, own);
-    above += measure("lanes_page", page, own);
+    above += measure("lanes_lower3", lower3, own) + measure("lanes_page", page, own);
     above += measure("lanes_run_source", run_source, own) + measure("lanes_run_tso", run_tso, own);
+    above += measure("lanes_run_pso", run_pso, own);
     return above != 0;
 }

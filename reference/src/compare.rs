@@ -7,12 +7,13 @@ use std::collections::BTreeMap;
 use std::fmt;
 use std::process::ExitCode;
 
-/// The calls under test; the two runs may be left out.
+/// The calls under test; the runs, one for each machine, may be left out.
 pub struct Calls {
     pub lower1: Lower,
     pub lower2: Lower,
+    pub lower3: Lower,
     pub page: Lower,
-    pub runs: Option<[Run; 2]>,
+    pub runs: Option<[Run; 3]>,
 }
 
 /// Cases and seed from the command line.
@@ -63,8 +64,8 @@ pub fn compare_long(calls: &Calls) -> Result<Tally, String> {
     let mut random = Random::new(1);
     let draft = random::draft_of(&mut random, &[64; 4]);
     let file = random::numbered(&mut random, &draft);
-    let own = [(Machine::Source, fast::run_source as Run), (Machine::Tso, fast::run_tso as Run)];
-    for ((machine, fast), run) in own.into_iter().zip(calls.runs.iter().flatten()) {
+    let own = Machine::ALL.into_iter().zip(fast::RUNS);
+    for ((machine, fast), run) in own.zip(calls.runs.iter().flatten()) {
         let mut moves = random::long_schedule(&mut random, 4, 8_000_000, machine.highest_choice());
         for last in [0, 4] {
             *moves.last_chunk_mut::<2>().expect("there are moves") = [last, 0];
@@ -92,8 +93,9 @@ impl Tally {
         let mut lent_file = Lent::holding(file);
         let lower1 = ("lower1", slow::lowered(1, file), calls.lower1);
         let lower2 = ("lower2", slow::lowered(2, file), calls.lower2);
+        let lower3 = ("lower3", slow::lowered(3, file), calls.lower3);
         let page = ("page", slow::paged(file), calls.page);
-        for (name, result, lower) in [lower1, lower2, page] {
+        for (name, result, lower) in [lower1, lower2, lower3, page] {
             let length = result.as_ref().map_or(40, Vec::len);
             for room in [0, length - 1, length, length + 1, length + 1 + random.below(6400)] {
                 let expected = |out: &mut [u8]| slow::answer(slow::put_into(out, &result));
@@ -109,9 +111,9 @@ impl Tally {
     fn try_runs(&mut self, case: &mut Case, calls: &Calls) -> Result<(), String> {
         let Case { file, random, schedules, .. } = case;
         let mut lent_file = Lent::holding(file);
-        let Some([source, tso]) = calls.runs else { return Ok(()) };
+        let Some(runs) = calls.runs else { return Ok(()) };
         for (machine, moves) in schedules {
-            let (machine, run) = (*machine, if *machine == Machine::Source { source } else { tso });
+            let (machine, run) = (*machine, runs[*machine as usize]);
             let mut lent_moves = Lent::holding(moves);
             for room in [0, STATE - 1, STATE, STATE + 1 + random.below(100)] {
                 let expected = |out: &mut [u8]| slow::run(machine, file, moves, out);

@@ -1,10 +1,12 @@
 //! Tests: the first 2,000 cases of seed 1 have every edge, and each edge is answered as its rule says; they have LOCKs
-//! without their MFENCE in every place, and kernels at the end of a page.
+//! without their MFENCE in every place, kernels at the end of a page, and moves of the pso machine about its marks.
 
 use reference::random::{Case, Cases};
 use reference::slow::kernel::{Kernel, LOAD, LOCK, Refusal, SKIP, STORE, UNLOCK, check};
-use reference::slow::machines::{Machine, Program, Turn};
+use reference::slow::machines::{Machine, Program, State, Turn};
+use reference::slow::pending::{Item, Pending};
 use reference::slow::placement::{Barrier, placement};
+use reference::slow::sheets::{Level, SL, SS, instructions};
 use reference::slow::{lowered, paged};
 use std::collections::BTreeMap;
 
@@ -60,7 +62,7 @@ fn schedule_edges(machine: Machine, lanes: u8, moves: &[u8]) -> Vec<&'static str
 
 #[test]
 fn every_schedule_edge() {
-    for machine in [Machine::Source, Machine::Tso] {
+    for machine in Machine::ALL {
         let mut met: BTreeMap<&str, usize> = BTreeMap::new();
         for_each_case(&Cases::new(1), |case| {
             if check(&case.file).is_err() {
@@ -77,6 +79,11 @@ fn every_schedule_edge() {
     }
 }
 
+/// Whether no move names a lane or a choice that there is not; highest is 64.
+fn lawful(moves: &[u8], lanes: u8) -> bool {
+    moves.as_chunks::<2>().0.iter().all(|[lane, choice]| *lane < lanes && *choice <= 64)
+}
+
 /// The highest choice of the source machine that a schedule's moves carried out, and the longest list.
 fn reached(kernel: &Kernel, moves: &[u8]) -> (u8, usize) {
     let program = Program::new(Machine::Source, kernel);
@@ -85,7 +92,7 @@ fn reached(kernel: &Kernel, moves: &[u8]) -> (u8, usize) {
         if let Turn::Done(next, _) = program.turn(&state, usize::from(*lane), usize::from(*chosen)) {
             state = next;
             choice = choice.max(*chosen);
-            list = list.max(state.lanes[usize::from(*lane)].pending.len());
+            list = list.max(state.lanes[usize::from(*lane)].pending.count());
         }
     }
     (choice, list)
@@ -96,8 +103,7 @@ fn a_full_list_and_its_64th_entry() {
     let (mut full, mut committed) = (0, 0);
     for_each_case(&Cases::new(1), |case| {
         let Ok(kernel) = check(&case.file) else { return };
-        let lawful =
-            |moves: &[u8]| moves.as_chunks::<2>().0.iter().all(|[lane, choice]| *lane < case.file[0] && *choice <= 64);
+        let lawful = |moves: &[u8]| lawful(moves, case.file[0]);
         if case.edge.is_none() || !kernel.chains.iter().any(|chain| chain.len() == 64) {
             return;
         }
@@ -161,4 +167,72 @@ fn kernels_at_the_end_of_a_page() {
         *met.entry(count).or_default() = paged(&case.file).map_or(0, |pages| pages.len() / 33 - count);
     });
     assert_eq!(met, BTreeMap::from([(55, 1), (56, 2), (110, 2), (111, 3)]));
+}
+
+/// What a commit of the pso machine is about: by what it is held back, or what it leaves.
+fn commit_kind(before: &Pending, index: usize, after: Option<&Pending>) -> Option<&'static str> {
+    let (older, entry) = before.nth(index)?;
+    let marked = older.contains(&Item::Mark);
+    let same = older.iter().any(|item| matches!(item, Item::Entry(other) if other.same(entry)));
+    let behind = |list: &Pending| list.marked().iter().filter(|(_, mark)| *mark).count();
+    Some(match (after, marked, same) {
+        (None, true, false) => "held back by a mark",
+        (None, false, true) => "held back by its location",
+        (None, _, _) => "held back by both",
+        (Some(after), _, _) if behind(after) < behind(before) => "a mark vanishes",
+        _ if before.marked()[index].1 => "its mark goes to the entry before",
+        _ if index > 0 => "past older entries",
+        _ => "the oldest, no mark behind it",
+    })
+}
+
+/// What a move of the pso machine is about.
+fn kind(before: &State, after: Option<&State>, lane: usize, choice: usize, operation: u8) -> Option<&'static str> {
+    let list = &before.lanes[lane].pending;
+    match (choice, operation, list.count()) {
+        (0, SS, 0) => Some("SS with nothing pending"),
+        (0, SS, 31) => Some("SS behind 31"),
+        (0, SS, 32) => Some("SS behind 32"),
+        (0, SS, 63) => Some("SS behind 63"),
+        (0, SS, _) => Some("SS behind others"),
+        (0, SL, 1..) => Some("SL waits"),
+        (0, LOCK, 1..) => Some("LOCK waits for the list"),
+        (0, LOAD, 1..) => Some("LOAD with a list"),
+        (0, _, _) => None,
+        (64, _, 64) if after.is_some() => Some("the 64th commits"),
+        (64, _, 64) => Some("the 64th is held back"),
+        (64, _, _) => Some("choice 64 beyond the list"),
+        (k, _, count) if k == count + 1 => Some("one beyond the list"),
+        (k, _, _) => commit_kind(list, k - 1, after.map(|after| &after.lanes[lane].pending)),
+    }
+}
+
+#[test]
+fn moves_about_marks() {
+    let mut met: BTreeMap<&str, usize> = BTreeMap::new();
+    for_each_case(&Cases::new(1), |case| {
+        let Ok(kernel) = check(&case.file) else { return };
+        let program = Program::new(Machine::Pso, &kernel);
+        let parts: Vec<_> = (0..kernel.header.lanes).map(|lane| instructions(&kernel, lane, Level::Three)).collect();
+        for (_, moves) in case.schedules.iter().filter(|(machine, _)| *machine == Machine::Pso) {
+            if !lawful(moves, case.file[0]) {
+                continue;
+            }
+            let mut state = program.start();
+            for [lane, choice] in moves.as_chunks::<2>().0 {
+                let (lane, choice) = (usize::from(*lane), usize::from(*choice));
+                let operation = parts[lane].get(state.lanes[lane].position).map_or(0, |next| next.operation);
+                let after = match program.turn(&state, lane, choice) {
+                    Turn::Done(after, _) => Some(after),
+                    _ => None,
+                };
+                if let Some(kind) = kind(&state, after.as_ref(), lane, choice, operation) {
+                    *met.entry(kind).or_default() += 1;
+                }
+                state = after.unwrap_or(state);
+            }
+        }
+    });
+    let rare: Vec<_> = met.iter().filter(|(_, count)| **count < 3).collect();
+    assert!(met.len() == 19 && rare.is_empty(), "{} kinds, {met:?}", met.len());
 }

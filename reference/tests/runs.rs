@@ -8,6 +8,7 @@ use reference::{Run, fast};
 
 const SOURCE: [Run; 2] = [|file, moves, state| slow::run(Machine::Source, file, moves, state), fast::run_source];
 const TSO: [Run; 2] = [|file, moves, state| slow::run(Machine::Tso, file, moves, state), fast::run_tso];
+const PSO: [Run; 2] = [|file, moves, state| slow::run(Machine::Pso, file, moves, state), fast::run_pso];
 
 fn kernel(locations: &str, volatile: &str, lanes: &str) -> Vec<u8> {
     let assembled = assemble(locations, lanes).unwrap();
@@ -42,7 +43,7 @@ fn memory(state: &[u8], location: usize) -> u8 {
 fn both_zero_in_store_buffering() {
     for (mask, possible) in [("{x y}", false), ("{x}", true)] {
         let file = kernel("x y", mask, "r0=1; x=r0; r1=y ‖ r0=1; y=r0; r1=x");
-        for machine in [Machine::Source, Machine::Tso] {
+        for machine in Machine::ALL {
             let outcomes = slow::outcomes(machine, &file).unwrap();
             let zero = outcomes.iter().any(|outcome| outcome.registers.iter().all(|lane| lane[1] == 0));
             assert_eq!(zero, possible);
@@ -78,7 +79,7 @@ fn a_volatile_load_waits_for_the_own_volatile_store() {
 #[test]
 fn a_plain_load_takes_the_newest_own_value() {
     let file = kernel("x", "{}", "x=5; x=6; r1=x");
-    for runs in [SOURCE, TSO] {
+    for runs in [SOURCE, TSO, PSO] {
         let end = state(runs, &file, &[[0, 0]; 5]);
         assert_eq!((counts(&end), register(&end, 0, 1), memory(&end, 0)), ((5, 0), 6, 0));
     }
@@ -101,7 +102,7 @@ fn commits_of_the_house_machine() {
 #[test]
 fn a_lock_is_handed_over_by_the_commit() {
     let file = kernel("x", "{}", "lock l; unlock l ‖ lock l; unlock l");
-    for runs in [SOURCE, TSO] {
+    for runs in [SOURCE, TSO, PSO] {
         let waits = state(runs, &file, &[[0, 0], [1, 0], [0, 0], [1, 0]]);
         assert_eq!((counts(&waits), waits[4]), ((2, 2), 1));
         let takes = state(runs, &file, &[[0, 0], [0, 0], [0, 1], [1, 0]]);
@@ -120,17 +121,17 @@ fn a_lock_and_the_own_list() {
 #[test]
 fn skips_and_sums() {
     let file = kernel("x", "{}", "r1=-1; r2=3; r1+=r2; skip r0 D; r3=9; D:; skip r1 end; r4=4");
-    for runs in [SOURCE, TSO] {
+    for runs in [SOURCE, TSO, PSO] {
         let end = state(runs, &file, &[[0, 0]; 7]);
         let registers: Vec<u8> = (0..5).map(|number| register(&end, 0, number)).collect();
         assert_eq!((counts(&end), registers, end[0]), ((6, 1), vec![0, 2, 3, 0, 4], 1));
     }
 }
 
-/// Byte 0 on both machines, which have to agree.
+/// Byte 0 on the machines, which have to agree.
 fn finished(file: &[u8], moves: &[[u8; 2]]) -> u8 {
-    let [source, tso] = [SOURCE, TSO].map(|runs| state(runs, file, moves)[0]);
-    assert_eq!(source, tso);
+    let [source, tso, pso] = [SOURCE, TSO, PSO].map(|runs| state(runs, file, moves)[0]);
+    assert_eq!([source, source], [tso, pso]);
     source
 }
 
@@ -183,7 +184,7 @@ fn a_pending_release_counts_as_pending() {
 fn both_zero_in_store_buffering_finished_by_its_commits() {
     let file = kernel("x y", "{x}", "r0=1; x=r0; r1=y ‖ r0=1; y=r0; r1=x");
     let moves = [[0, 0], [0, 0], [0, 0], [1, 0], [1, 0], [1, 0], [0, 1], [1, 1]];
-    for runs in [SOURCE, TSO] {
+    for runs in [SOURCE, TSO, PSO] {
         for (count, finished) in [(6, 0), (7, 0), (8, 1)] {
             let end = state(runs, &file, &moves[..count]);
             assert_eq!((counts(&end), end[0]), ((count as u8, 0), finished));

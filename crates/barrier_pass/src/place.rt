@@ -68,9 +68,9 @@ fn plan_set(code: u8, stood: u16) -> u32
 
 // Writes position p of the plan, which begins at `at`; where the next position begins.
 fn plan_step(widths: &[u32; 32], plan: &mut [u32], p: usize, at: u32, set: u32) -> u32
-    requires { ⌜ Widths (now widths) × (p < length (now plan)) × (at ≤ 16544 * p) × (p < 64) × (set < 32) ⌝ }
+    requires { ⌜ Widths (now widths) × (p < length (now plan)) × (at ≤ 6308000 * p) × (p < 64) × (set < 32) ⌝ }
     ensures plan { λ r. ⌜ now (plan .exit) ≡ update (now (plan .entry)) p (at + set) ⌝ }
-    ensures next { λ r. ⌜ (r ≡ at + getD (now (widths .entry)) set 0) × (r ≤ 16544 * (p + 1)) ⌝ }
+    ensures next { λ r. ⌜ (r ≡ at + getD (now (widths .entry)) set 0) × (r ≤ 6308000 * (p + 1)) ⌝ }
 {
     plan[p] = at + set;
     at + widths[set as usize]

@@ -19,7 +19,7 @@ use Rattle.machine_spec.specs.Rules.{mayCommit}
 use Rattle.machine_spec.specs.Step.{Control, Core, Turn, waits, refuses, passes, does, goto, reg, permits, holds}
 use Rattle.machine_spec.specs.Step.{valueOf}
 use Rattle.machine_spec.specs.Step.{loads, after, next, emit, locked, coreAfter, effect, execute, landed, freed, settle}
-use Rattle.machine_spec.specs.Step.{commit, turn}
+use Rattle.machine_spec.specs.Step.{committed, commit, turn}
 use Rattle.machine_spec.specs.Shape.{EntrySmall, AllSmall}
 
 -- ## pending lists
@@ -226,10 +226,10 @@ module _ (n ls ks : ℕ) (os : List Op) (w : LawfulLane ls ks os) (vol : ℕ →
   turn-keeps (suc x) = go (getElem? (c .pending) x) refl
     where
       act : (e : Entry) → getElem? (c .pending) x ≡ some e → (b : Bool)
-          → Keeps n ls ks (length os) (cond b (does i (settle c (without x (c .pending)) e) none) waits)
+          → Keeps n ls ks (length os) (cond b (does (committed i) (settle c (without x (c .pending)) e) none) waits)
       act e k true = settle-fit x e (all-at ls ks x (c .pending) e k (h .entries))
       act e k false = tt
 
       go : (e : Option Entry) → getElem? (c .pending) x ≡ e → Keeps n ls ks (length os) (commit Source vol i c x e)
       go none k = tt
-      go (some e) k = act e k (mayCommit Source vol (take x (c .pending)) e)
+      go (some e) k = act e k (mayCommit Source vol (i .marks) (take x (c .pending)) e)

@@ -17,8 +17,8 @@ use Rattle.machine_spec.specs.Entries.{Entry, isNil}
 use Rattle.machine_spec.specs.declared.Machine.the-variants.{Source, Target}
 use Rattle.machine_spec.specs.declared.Model.{Model}
 use Rattle.machine_spec.specs.Rules.{mayCommit}
-use Rattle.machine_spec.specs.Step.{Control, Core, Turn, waits, refuses, passes, does, goto, permits, holds, effect}
-use Rattle.machine_spec.specs.Step.{execute, commit}
+use Rattle.machine_spec.specs.Step.{Control, Core, Turn, waits, refuses, passes, does, permits, holds, effect}
+use Rattle.machine_spec.specs.Step.{passed, execute, commit}
 use Rattle.claims.specs.Schedules.{leading}
 use Rattle.claims.specs.Stuck.{halted}
 use Rattle.claims.proofs.Laws.Sheets.{Here, end, ahead, meet, here}
@@ -69,7 +69,7 @@ execute-back m vol ps w i k c nil st e x =
 pub commit-back : (m : Model) (vol : ℕ → Bool) (k i : Control) (c : Core) (e : Option Entry)
     → commit (Target m) vol k c 0 e ≡ waits → commit Source vol i c 0 e ≡ waits
 commit-back m vol k i c none x = refl
-commit-back m vol k i c (some e) x = cc (oldest-commits (Target m) vol [] e refl)
+commit-back m vol k i c (some e) x = cc (oldest-commits (Target m) vol (k .marks) [] e refl)
 
 unfoldable pub isPass : Turn → Bool
 isPass waits = false
@@ -85,7 +85,7 @@ pub commit-not-pass : (m : Model) (vol : ℕ → Bool) (k : Control) (c : Core) 
     → isPass (commit (Target m) vol k c 0 e) ≡ false
 unfolding isPass
 commit-not-pass m vol k c none = refl
-commit-not-pass m vol k c (some e) = cond-not-pass (mayCommit (Target m) vol [] e) _ waits refl refl
+commit-not-pass m vol k c (some e) = cond-not-pass (mayCommit (Target m) vol (k .marks) [] e) _ waits refl refl
 
 -- an operation is no barrier
 effect-not-pass : (m : Model) (vol : ℕ → Bool) (w : ℕ) (k : Control) (c : Core) (o : Op)
@@ -104,7 +104,7 @@ passes-barrier m vol w k c (some (barrier b)) e = (b, refl)
 
 -- with nothing pending each barrier is passed
 pub drained-passes : (m : Model) (vol : ℕ → Bool) (w : ℕ) (k : Control) (c : Core) → c .pending ≡ [] → (b : Barrier)
-    → execute (Target m) vol w k c (some (barrier b)) ≡ passes (goto k (suc (k .pos))) c
+    → execute (Target m) vol w k c (some (barrier b)) ≡ passes (passed (Target m) k c b) c
 drained-passes m vol w k c nil LL = refl
 drained-passes m vol w k c nil LS = refl
 drained-passes m vol w k c nil SS = refl

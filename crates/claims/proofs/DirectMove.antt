@@ -11,7 +11,7 @@ use Rattle.barrier_placement.specs.Layout.{Placed}
 use Rattle.sheet_format.specs.Layout.{barrier, sheet, rank}
 use Rattle.machine_spec.specs.declared.Machine.the-variants.{Source, Target}
 use Rattle.machine_spec.specs.declared.Model.{Model}
-use Rattle.machine_spec.specs.Step.{Control, Core, Turn, waits, refuses, passes, does, goto}
+use Rattle.machine_spec.specs.Step.{Control, Core, Turn, waits, refuses, passes, does, passed}
 use Rattle.machine_spec.specs.Schedule.{Move, move}
 use Rattle.machine_spec.specs.State.{Run, ran, laneAt, posAt, coreOf, laneOf, setLane, doneMore, applyTurn, moveTurn}
 use Rattle.machine_spec.specs.State.{advance, run}
@@ -97,7 +97,7 @@ module _ (m : Model) (vol : ℕ → Bool) (ks : List (List (Placed Op)))
       ahead-of = fetch-barrier (getD (sheetProgram ks) t []) q n lead
 
       k₁ : Control
-      k₁ = goto (laneAt (s .state) t .control) (suc (posAt (s .state) t))
+      k₁ = passed (Target m) (laneAt (s .state) t .control) c (ahead-of .0)
 
       s₁ : Run
       s₁ = doneMore s (setLane (s .state) t k₁ c) (s .row)

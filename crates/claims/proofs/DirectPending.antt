@@ -101,7 +101,7 @@ module _ (vol : ℕ → Bool) (w : ℕ) (k : Control) (c : Core) where
       go : (es : List Entry) → c .pending ≡ es → length es ≡ 1
           → After (λ es. length es ≡ 0) (c .pending) (commit Source vol k c 0 (getElem? (c .pending) 0))
       go [] h e = absurd (omega arith)
-      go (x ∷ []) h e = rw (h, oldest-commits Source vol [] x refl)
+      go (x ∷ []) h e = rw (h, oldest-commits Source vol (k .marks) [] x refl)
       go (x ∷ y ∷ es) h e = absurd (omega arith)
 
 due-other : (d : Bool) (t i : ℕ) → i ≢ t → due (cond d (some t) none) i ≡ 0

@@ -16,6 +16,7 @@ use Rattle.sheet_format.specs.Levels.{drains, keeps}
 use Rattle.machine_spec.specs.declared.Machine.the-variants.{Target}
 use Rattle.machine_spec.specs.declared.Model.{Model}
 use Rattle.machine_spec.specs.Run.{levelOf}
+use Rattle.claims.specs.Direct.{appends}
 
 -- the programs of the source machine and of a target, of lanes with their barriers
 abbrev pub kernelProgram : List (List (Placed Op)) → List (List Instr)
@@ -48,14 +49,14 @@ acquires vol (Skip a t) = false
 abbrev pub opens : Barrier → (ℕ → Bool) → Op → Bool
 opens LL vol o = false
 opens LS vol o = false
-opens SS vol o = false
+opens SS vol o = appends o
 opens SL vol o = publishes vol o
 
 -- is it the later one; LOCK, which drains, apart
 abbrev pub needs : Barrier → (ℕ → Bool) → Op → Bool
 needs LL vol o = false
 needs LS vol o = false
-needs SS vol o = false
+needs SS vol o = publishes vol o
 needs SL vol o = acquires vol o
 
 -- a way of one step from position p

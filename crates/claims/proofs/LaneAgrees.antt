@@ -18,10 +18,10 @@ use Rattle.machine_spec.specs.Entries.{Entry, without}
 use Rattle.machine_spec.specs.declared.Machine.the-variants.{Source, Target}
 use Rattle.machine_spec.specs.declared.Model.{Model}
 use Rattle.machine_spec.specs.Rules.{mayCommit, mayPass}
-use Rattle.machine_spec.specs.Step.{Control, Core, Turn, waits, passes, goto, execute, commit, turn}
+use Rattle.machine_spec.specs.Step.{Control, Core, Turn, waits, passes, passed, committed, execute, commit, turn}
 use Rattle.claims.proofs.Fenced.{AllFenced}
 use Rattle.claims.proofs.Laws.Sheets.{has-snoc, chain-at, barrier-at, op-at}
-use Rattle.claims.proofs.Exposed.{exposed-without, exposed-pass, source-commits}
+use Rattle.claims.proofs.Exposed.{exposed-without, exposed-pass, ordered-pass, ordered-commit, source-commits}
 use Rattle.claims.proofs.Stands.{Safe, Stands}
 use Rattle.claims.proofs.OpAgrees.{Agrees, wait, passed-by, act, op-agrees}
 
@@ -30,19 +30,21 @@ module _ (m : Model) (vol : ℕ → Bool) (ps : List (Placed Op)) where
       → Stands m vol ps (i .pos) k (c .pending)
       → Agrees m vol ps (i .pos) c (commit (Target m) vol k c n e) (commit Source vol i c n e)
   commit-agrees i k c n none at st = wait
-  commit-agrees i k c n (some e) at st = go (mayCommit (Target m) vol (take n (c .pending)) e) refl
+  commit-agrees i k c n (some e) at st = go (mayCommit (Target m) vol (k .marks) (take n (c .pending)) e) refl
     where
-      go : (b : Bool) → mayCommit (Target m) vol (take n (c .pending)) e ≡ b
+      go : (b : Bool) → mayCommit (Target m) vol (k .marks) (take n (c .pending)) e ≡ b
           → Agrees m vol ps (i .pos) c (commit (Target m) vol k c n (some e)) (commit Source vol i c n (some e))
       go false h = rw h wait
-      go true h = rw (h, source-commits m vol (take n (c .pending)) e h) (act left)
+      go true h =
+          rw (h, source-commits vol (k .marks) (c .pending) n e at m (i .marks) h (st .ordered)) (act left)
         where
-          left : Stands m vol ps (i .pos) k (without n (c .pending))
+          left : Stands m vol ps (i .pos) (committed k) (without n (c .pending))
           left = record {
             passed = st .passed;
             place = st .place;
             within = st .within;
-            safe = λ b v x. st .safe b v (exposed-without b vol (c .pending) n e at x);
+            safe = λ b v x. st .safe b v (exposed-without b vol (k .marks) (c .pending) n e at x);
+            ordered = ordered-commit vol (k .marks) (c .pending) n e at m h (st .ordered);
           }
 
   module _ (f : AllFenced m vol ps) (w : ℕ) (i k : Control) (c : Core) (st : Stands m vol ps (i .pos) k (c .pending))
@@ -62,8 +64,10 @@ module _ (m : Model) (vol : ℕ → Bool) (ps : List (Placed Op)) where
               most : st .passed ≤ length (s .before)
               most = subst (λ o. st .passed ≤ length (beforeOf o)) here (st .within)
 
-              guard : Safe m vol ps (i .pos) (c .pending) (take (st .passed) (s .before))
-              guard = subst (λ o. Safe m vol ps (i .pos) (c .pending) (take (st .passed) (beforeOf o))) here (st .safe)
+              guard : Safe m vol ps (i .pos) (k .marks) (c .pending) (take (st .passed) (s .before))
+              guard =
+                  subst (λ o. Safe m vol ps (i .pos) (k .marks) (c .pending) (take (st .passed) (beforeOf o))) here
+                  (st .safe)
 
               reach : Dec (st .passed < length (s .before))
                   → Agrees m vol ps (i .pos) c (execute (Target m) vol w k c (getElem? (sheet ps) (k .pos))) u
@@ -76,24 +80,25 @@ module _ (m : Model) (vol : ℕ → Bool) (ps : List (Placed Op)) where
                   x = getD (s .before) (st .passed) LL
 
                   past : mayPass (Target m) x (c .pending) ≡ true
-                      → Stands m vol ps (i .pos) (goto k (suc (k .pos))) (c .pending)
+                      → Stands m vol ps (i .pos) (passed (Target m) k c x) (c .pending)
                   past may = record {
                     passed = suc (st .passed);
                     place = omega (arith, st .place);
                     within = rw here h;
                     safe = λ b v e.
-                        let old = guard b v e in (
+                        let was = exposed-pass m b x vol (k .marks) (c .pending) v may e in
+                        let old = guard b v (was .1) in (
                           old .0,
                           rw here
                               (rw (take-suc (s .before) (st .passed) LL h)
-                              (has-snoc b (take (st .passed) (s .before)) x (old .1)
-                              (exposed-pass m b x vol (c .pending) may e))),
+                              (has-snoc b (take (st .passed) (s .before)) x (old .1) (was .0))),
                         );
+                    ordered = ordered-pass m x vol (k .marks) (c .pending) (st .ordered);
                   }
 
                   bar : (b : Bool) → mayPass (Target m) x (c .pending) ≡ b
                       → Agrees m vol ps (i .pos) c
-                      (cond (mayPass (Target m) x (c .pending)) (passes (goto k (suc (k .pos))) c) waits) u
+                      (cond (mayPass (Target m) x (c .pending)) (passes (passed (Target m) k c x) c) waits) u
                   bar false e = rw e wait
                   bar true e = rw e (passed-by (past e))
               reach (no h) =
@@ -106,6 +111,7 @@ module _ (m : Model) (vol : ℕ → Bool) (ps : List (Placed Op)) where
                     here = here;
                     place = at;
                     safe = λ b v e. (guard b v e .0, rw (all, take-length) at (guard b v e .1));
+                    ordered = st .ordered;
                   }) w (s .oper) refl)
 
       pub turn-agrees : (n : ℕ)

@@ -10,7 +10,7 @@ use Rattle.laws.proofs.Bools.{and-true}
 use Rattle.sheet_format.specs.Layout.{Instr}
 use Rattle.machine_spec.specs.declared.Machine.the-variants.{Target}
 use Rattle.machine_spec.specs.declared.Model.{Model}
-use Rattle.machine_spec.specs.declared.Model.the-variants.{Tso}
+use Rattle.machine_spec.specs.declared.Model.the-variants.{Tso, Pso}
 use Rattle.machine_spec.specs.Step.{Turn, waits, refuses, passes, does}
 use Rattle.machine_spec.specs.Schedule.{Move, limit, legal}
 use Rattle.machine_spec.specs.State.{Outcome, ran, refused, advance, run, moveTurn}
@@ -24,6 +24,7 @@ legal-append n k (mv ∷ a) b p q =
 
 limits : (m : Model) → (1 ≤ limit (Target m)) × (limit (Target m) ≤ 64)
 limits Tso = omega arith
+limits Pso = omega arith
 
 wider : (m : Model) (n : ℕ) (mv : Move) → legal n (limit (Target m)) (mv ∷ []) ≡ true → legal n 64 (mv ∷ []) ≡ true
 wider m n mv h =

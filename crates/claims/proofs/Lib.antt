@@ -3,7 +3,7 @@
 
 -- small laws by subject
 pub mod Laws
--- each tso run has its source run
+-- each run of a target has its source run
 pub mod Fenced
 pub mod PlacedFenced
 pub mod Exposed
@@ -14,7 +14,7 @@ pub mod Matching
 pub mod Legal
 -- no permitted move
 pub mod Stuck
--- each direct source run has its tso run
+-- each direct source run has its run of a target
 pub mod DirectLane
 pub mod DirectMove
 pub mod DirectPending
@@ -27,6 +27,7 @@ pub mod ReleasesHeld
 -- bounds
 pub mod BoundedTurns
 pub mod BoundedRuns
+pub mod MarksBehind
 -- accepted kernels
 pub mod KernelLanes
 pub mod LeftOut

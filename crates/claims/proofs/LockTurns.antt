@@ -17,7 +17,7 @@ use Rattle.machine_spec.specs.Entries.{Entry, write, release, anySync, without}
 use Rattle.machine_spec.specs.declared.Machine.the-variants.{Source}
 use Rattle.machine_spec.specs.Rules.{mayCommit}
 use Rattle.machine_spec.specs.Step.{Control, Core, Turn, waits, refuses, passes, does, reg, permits, holds, next}
-use Rattle.machine_spec.specs.Step.{coreAfter, effect, execute, settle, commit, turn}
+use Rattle.machine_spec.specs.Step.{coreAfter, effect, execute, settle, committed, commit, turn}
 use Rattle.claims.proofs.HeldSets.{Disciplined}
 use Rattle.claims.proofs.LockClaims.{one, releases, releases-snoc, releases-without, claim, Claims, Kept}
 use Rattle.claims.proofs.LockClaims.{unchanged, taken, let-go}
@@ -95,10 +95,10 @@ module _ (n : ℕ) (os : List Op) (held : ℕ → ℕ → Bool) (D : Disciplined
   commit-sound : (x : ℕ) (e : Option Entry) → getElem? (c .pending) x ≡ e
       → Sound n held t (c .locks) (commit Source vol i c x e)
   commit-sound x none k = tt
-  commit-sound x (some e) k = go (mayCommit Source vol (take x (c .pending)) e) e k
+  commit-sound x (some e) k = go (mayCommit Source vol (i .marks) (take x (c .pending)) e) e k
     where
       go : (b : Bool) (e : Entry) → getElem? (c .pending) x ≡ some e
-          → Sound n held t (c .locks) (cond b (does i (settle c (without x (c .pending)) e) none) waits)
+          → Sound n held t (c .locks) (cond b (does (committed i) (settle c (without x (c .pending)) e) none) waits)
       go false e k = tt
       go true (write y v) k =
           plain (i .pos) _ (λ l. refl) (λ l. omega (arith, releases-without l x (c .pending) (write y v) k)) refl

@@ -25,7 +25,7 @@ use Rattle.claims.proofs.Laws.Sheets.{rank-cells, ended-cells}
 use Rattle.claims.proofs.Stands.{Stands}
 use Rattle.claims.proofs.OpAgrees.{Agrees, wait, refuse, passed-by, act}
 use Rattle.claims.proofs.LaneAgrees.{turn-agrees}
-use Rattle.claims.proofs.Exposed.{exposed-nil}
+use Rattle.claims.proofs.Exposed.{exposed-nil, ordered-nil}
 
 -- a source lane and the target's lane that it matches
 pub record LaneFollows (m : Model) (vol : ℕ → Bool) (ps : List (Placed Op)) (a b : Lane) : Type 0 where
@@ -179,7 +179,8 @@ module _ (m : Model) (vol : ℕ → Bool) (ks : List (List (Placed Op))) where
         passed = 0;
         place = omega (arith, start-zero (getD ks t []));
         within = omega arith;
-        safe = λ b v e. absurd (false≢true (sym (exposed-nil b vol [] refl) ∙ e));
+        safe = λ b v e. absurd (false≢true (sym (exposed-nil b vol 0 [] refl) ∙ e));
+        ordered = ordered-nil m vol 0;
       })
 
   pub begin-matched : (n : ℕ) (mem : List ℕ) (l : ℕ)

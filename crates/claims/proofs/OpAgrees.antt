@@ -16,7 +16,7 @@ use Rattle.sheet_format.proofs.Laws.Aim.{aim-blind}
 use Rattle.machine_spec.specs.Entries.{write, release, anySync, isNil, appendEntry}
 use Rattle.machine_spec.specs.declared.Machine.the-variants.{Source, Target}
 use Rattle.machine_spec.specs.declared.Model.{Model}
-use Rattle.machine_spec.specs.declared.Model.the-variants.{Tso}
+use Rattle.machine_spec.specs.declared.Model.the-variants.{Tso, Pso}
 use Rattle.machine_spec.specs.Step.{Control, Core, Turn, waits, refuses, passes, does, goto, reg, permits, holds}
 use Rattle.machine_spec.specs.Step.{valueOf}
 use Rattle.machine_spec.specs.Step.{loads, next, emit, coreAfter, effect, execute}
@@ -42,6 +42,7 @@ both-act false j j′ eb ed ev st = rw eb refuse
 
 keeps-SL : (m : Model) → KeptAt m SL
 keeps-SL Tso o flows = ap not flows
+keeps-SL Pso o flows = ap not flows
 
 module _ {m : Model} {vol : ℕ → Bool} {ps : List (Placed Op)} (f : AllFenced m vol ps) {i k : Control} {c : Core}
     {s : Placed Op} (r : Reached m vol ps i k c s) where
@@ -102,9 +103,9 @@ module _ {m : Model} {vol : ℕ → Bool} {ps : List (Placed Op)} (f : AllFenced
   after-stands (Set a n) e h = onwards r (rw e)
   after-stands (Add a b) e h = onwards r (rw e)
   after-stands (Load a x) e h = onwards r (rw e)
-  after-stands (Store a x) e h = appended r (write x (reg c a)) (rw e) (rw e) (rw e)
+  after-stands (Store a x) e h = appended r f (write x (reg c a)) (rw e) (rw e) (rw e)
   after-stands (Lock l) e h = locked-on r (and-true (isNil (c .pending)) (eqb (getD (c .locks) l 0) 0) h .0)
-  after-stands (Unlock l) e h = appended r (release l) (rw e) (rw e) (rw e)
+  after-stands (Unlock l) e h = appended r f (release l) (rw e) (rw e) (rw e)
   after-stands (Skip a t) e h = go (eqb (reg c a) 0)
     where
       go : (b : Bool)

@@ -10,7 +10,7 @@ use Rattle.laws.proofs.Lists.{some-at, getElem?-map, map-some}
 use Rattle.file_format.specs.declared.accepted.Op.{Op}
 use Rattle.file_format.specs.declared.accepted.Op.the-variants.{Set, Add, Load, Store, Lock, Unlock, Skip}
 use Rattle.barrier_placement.specs.declared.cookbook.Class.{Class}
-use Rattle.barrier_placement.specs.declared.cookbook.Class.the-variants.{VL, VS}
+use Rattle.barrier_placement.specs.declared.cookbook.Class.the-variants.{PS, VL, VS}
 use Rattle.barrier_placement.specs.declared.cookbook.Barrier.{Barrier}
 use Rattle.barrier_placement.specs.declared.cookbook.Barrier.the-variants.{LL, LS, SS, SL}
 use Rattle.barrier_placement.specs.declared.steps.Step.the-variants.{Access, Other, Skip as SkipStep}
@@ -31,6 +31,7 @@ use Rattle.sheet_format.proofs.Before.{has-chosen, placed-before}
 use Rattle.machine_spec.specs.declared.Model.{Model}
 use Rattle.machine_spec.specs.declared.Machine.the-variants.{Target}
 use Rattle.machine_spec.specs.Run.{levelOf}
+use Rattle.claims.specs.Direct.{appends}
 use Rattle.claims.proofs.Fenced.{publishes, acquires, opens, needs, Edge, falls, jumps}
 use Rattle.claims.proofs.Fenced.{Open, starts, goes-on, Fenced, AllFenced}
 
@@ -44,6 +45,21 @@ published vol (Store a x) h = rw h
 published vol (Lock l) h = absurd (false≢true h)
 published vol (Unlock l) h = refl
 published vol (Skip a t) h = absurd (false≢true h)
+
+-- a store, plain or volatile, or an UNLOCK
+appended : (vol : ℕ → Bool) (o : Op) → appends o ≡ true
+    → (c : Class) × (classOf vol o ≡ some c) × (cell c VS ≡ some SS)
+appended vol (Set a c) h = absurd (false≢true h)
+appended vol (Add a b) h = absurd (false≢true h)
+appended vol (Load a x) h = absurd (false≢true h)
+appended vol (Store a x) h = go (vol x) refl
+  where
+    go : (b : Bool) → vol x ≡ b → (c : Class) × (classOf vol (Store a x) ≡ some c) × (cell c VS ≡ some SS)
+    go true v = (VS, rw v, refl)
+    go false v = (PS, rw v, refl)
+appended vol (Lock l) h = absurd (false≢true h)
+appended vol (Unlock l) h = (VS, refl, refl)
+appended vol (Skip a t) h = absurd (false≢true h)
 
 acquired : (vol : ℕ → Bool) (o : Op) → acquires vol o ≡ true → classOf vol o ≡ some VL
 acquired vol (Set a c) h = absurd (false≢true h)
@@ -59,21 +75,24 @@ parted-pair : (b : Barrier) (vol : ℕ → Bool) (o o′ : Op) → opens b vol o
     → (c : Class) × (d : Class) × (classOf vol o ≡ some c) × (classOf vol o′ ≡ some d) × (cell c d ≡ some b)
 parted-pair LL vol o o′ h n = absurd (false≢true h)
 parted-pair LS vol o o′ h n = absurd (false≢true h)
-parted-pair SS vol o o′ h n = absurd (false≢true h)
+parted-pair SS vol o o′ h n = let f = appended vol o h in (f .0, VS, f .1, published vol o′ n, f .2)
 parted-pair SL vol o o′ h n = (VS, VL, published vol o h, acquired vol o′ n, refl)
 
 -- what needs a barrier is no LOCK
+flows-unless : (f : Op → Bool) → ((l : ℕ) → f (Lock l) ≡ false) → (o : Op) → f o ≡ true → drains o ≡ false
+flows-unless f never (Set a c) h = refl
+flows-unless f never (Add a b) h = refl
+flows-unless f never (Load a x) h = refl
+flows-unless f never (Store a x) h = refl
+flows-unless f never (Lock l) h = absurd (false≢true (sym (never l) ∙ h))
+flows-unless f never (Unlock l) h = refl
+flows-unless f never (Skip a t) h = refl
+
 needs-flows : (b : Barrier) (vol : ℕ → Bool) (o : Op) → needs b vol o ≡ true → drains o ≡ false
 needs-flows LL vol o h = absurd (false≢true h)
 needs-flows LS vol o h = absurd (false≢true h)
-needs-flows SS vol o h = absurd (false≢true h)
-needs-flows SL vol (Set a c) h = refl
-needs-flows SL vol (Add a b) h = refl
-needs-flows SL vol (Load a x) h = refl
-needs-flows SL vol (Store a x) h = refl
-needs-flows SL vol (Lock l) h = absurd (false≢true h)
-needs-flows SL vol (Unlock l) h = refl
-needs-flows SL vol (Skip a t) h = refl
+needs-flows SS vol o h = flows-unless (publishes vol) (λ l. refl) o h
+needs-flows SL vol o h = flows-unless (acquires vol) (λ l. refl) o h
 
 access-step : (vol : ℕ → Bool) (o : Op) (c : Class) → classOf vol o ≡ some c → stepOf vol o ≡ Access c
 access-step vol o c e = rw e

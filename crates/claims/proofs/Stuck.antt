@@ -16,20 +16,19 @@ use Rattle.sheet_format.specs.Layout.{Instr, op, barrier}
 use Rattle.machine_spec.specs.Entries.{Entry}
 use Rattle.machine_spec.specs.declared.Machine.{Machine}
 use Rattle.machine_spec.specs.declared.Machine.the-variants.{Source, Target}
-use Rattle.machine_spec.specs.declared.Model.the-variants.{Tso}
-use Rattle.machine_spec.specs.Rules.{mayCommit, mayLoad, mayLock, mayPass}
+use Rattle.machine_spec.specs.Rules.{mayLoad, mayLock, mayPass}
 use Rattle.machine_spec.specs.Step.{Control, Core, Turn, waits, refuses, passes, does, goto, permits, holds, effect}
-use Rattle.machine_spec.specs.Step.{next}
+use Rattle.machine_spec.specs.Step.{next, passed}
 use Rattle.machine_spec.specs.Step.{loads, coreAfter, execute, commit}
 use Rattle.machine_spec.specs.State.{State, laneAt, posAt, coreOf}
 use Rattle.claims.specs.Stuck.{Stuck, halted, AllHalted}
+use Rattle.claims.proofs.Laws.Pending.{oldest-commits}
 
--- where the oldest entry may commit, a machine that waits at choice 1 has none
-nothing-pending : (m : Machine) (vol : ℕ → Bool) (k : Control) (c : Core) (es : List Entry)
-    → ((e : Entry) → mayCommit m vol [] e ≡ true) → c .pending ≡ es
+-- a machine that waits at choice 1 has no entry, since the oldest may commit
+nothing-pending : (m : Machine) (vol : ℕ → Bool) (k : Control) (c : Core) (es : List Entry) → c .pending ≡ es
     → commit m vol k c 0 (getElem? es 0) ≡ waits → es ≡ []
-nothing-pending m vol k c [] may h e = refl
-nothing-pending m vol k c (x ∷ es) may h e = cc (may x)
+nothing-pending m vol k c [] h e = refl
+nothing-pending m vol k c (x ∷ es) h e = cc (oldest-commits m vol (k .marks) [] x refl)
 
 free-load : (m : Machine) (vol : ℕ → Bool) (x : ℕ) → mayLoad m vol [] x ≡ true
 free-load Source vol x = rw (and-false (vol x))
@@ -90,7 +89,7 @@ module _ (m : Machine) (vol : ℕ → Bool) (w : ℕ) (k : Control) (c : Core) w
     waits-halted : (i : Option Instr) → execute m vol w k c i ≡ waits → halted (c .locks) i ≡ true
     waits-halted none e = refl
     waits-halted (some (barrier b)) e =
-        let f : execute m vol w k c (some (barrier b)) ≡ passes (goto k (suc (k .pos))) c =
+        let f : execute m vol w k c (some (barrier b)) ≡ passes (passed m k c b) c =
         rw (nil, free-pass m b) in
         cc
     waits-halted (some (op o)) e =
@@ -101,11 +100,10 @@ module _ (m : Machine) (vol : ℕ → Bool) (w : ℕ) (k : Control) (c : Core) w
     halted-waits (some (barrier b)) e = cc
     halted-waits (some (op o)) e = let f : permits m vol c o ≡ false = free-permits m vol c nil o ∙ ap not e in rw f
 
--- no permitted move, in every state whose oldest entries may commit
+-- of every machine, for every program and in every state
 pub stuck : (m : Machine) (vol : ℕ → Bool) (prog : List (List Instr)) (s : State)
-    → ((t : ℕ) (e : Entry) → mayCommit m vol [] e ≡ true)
     → Stuck m vol prog s ↔ AllHalted prog s
-stuck m vol prog s may = (there, back)
+stuck m vol prog s = (there, back)
   where
     back : AllHalted prog s → Stuck m vol prog s
     back h t lt = (
@@ -117,14 +115,9 @@ stuck m vol prog s may = (there, back)
     there : Stuck m vol prog s → AllHalted prog s
     there h t lt =
         let nil =
-        nothing-pending m vol (laneAt s t .control) (coreOf s (laneAt s t)) (laneAt s t .pending) (may t) refl
+        nothing-pending m vol (laneAt s t .control) (coreOf s (laneAt s t)) (laneAt s t .pending) refl
         (h t lt .1) in (
           nil,
           waits-halted m vol (suc t) (laneAt s t .control) (coreOf s (laneAt s t)) nil
               (getElem? (getD prog t []) (posAt s t)) (h t lt .0),
         )
-
--- of the tso machine, for every program and in every state
-pub tso-stuck : (vol : ℕ → Bool) (prog : List (List Instr)) (s : State)
-    → Stuck (Target Tso) vol prog s ↔ AllHalted prog s
-tso-stuck vol prog s = stuck (Target Tso) vol prog s (λ t e. refl)

@@ -29,11 +29,11 @@ use Rattle.sheet_format.specs.Codes.{Code, codesIn}
 use Rattle.sheet_format.specs.Before.{barriersBefore, standsBefore}
 use Rattle.machine_spec.specs.declared.Machine.{Machine}
 use Rattle.machine_spec.specs.declared.Machine.the-variants.{Source, Target}
-use Rattle.machine_spec.specs.declared.Model.the-variants.{Tso}
+use Rattle.machine_spec.specs.declared.Model.{Model}
 use Rattle.machine_spec.specs.Schedule.{Move, limit, legal}
-use Rattle.machine_spec.specs.State.{State, begin}
-use Rattle.machine_spec.specs.Run.{Answer, startOf, programFor, runBy, runSource, runTso, shown, countsAs}
-use Rattle.machine_spec.specs.Shape.{Shaped, Within}
+use Rattle.machine_spec.specs.State.{begin}
+use Rattle.machine_spec.specs.Run.{Answer, startOf, programFor, runFile, shown, countsAs}
+use Rattle.machine_spec.specs.Shape.{Shaped, Within, MarksBehind}
 use Rattle.claims.specs.Schedules.{sourceSchedule, targetSchedule}
 use Rattle.claims.specs.Stuck.{Stuck, AllHalted}
 use Rattle.claims.specs.Direct.{direct}
@@ -57,9 +57,9 @@ pub record Records (s : List ℕ) (k : Program) : Type 0 where
 
 -- ## demand 2: the barriers of a written sheet
 
--- Level: level 0, the operations alone, level 1, the barrier sheet, or level 2, the x86 sheet
+-- Level: level 0, the operations alone, level 1, the barrier sheet, level 2, the x86 sheet, level 3, that of Sparc PSO
 -- keeps l o b: the level keeps a barrier b before the operation o; level 0 none, level 1 all, level 2 only SL, and that
---   not before a LOCK
+--   not before a LOCK; level 3 that and SS
 -- volatileIn k x: the kernel's mask has location x volatile
 -- readSheet: the instructions of each lane, `op o` or `barrier b`, by the header's counts
 -- items: each instruction as a barrier `bar b`, the class of an access, or the target of a SKIP
@@ -90,7 +90,7 @@ chainOf k t = steps (volatileIn k) (kernelLane k t)
 -- rank is x: how many operations stand before position x, that is, the place in the chain of the operation at x
 
 -- at position x of lane t stands an operation before which the sentence puts a b, and the level leaves it out there: at
--- level 2 every LL, LS and SS, and SL before a LOCK, which drains by itself; at level 1 none
+-- levels 2 and 3 every LL and LS, and SL before a LOCK, which drains by itself; at level 2 SS as well; at level 1 none
 pub record LeftOut (l : Level) (k : Program) (bytes : List ℕ) (t : ℕ) (b : Barrier) (x : ℕ) : Type 0 where
   pub operation : Op
   pub here : getElem? (laneOf bytes t) x ≡ some (op operation)
@@ -134,15 +134,17 @@ pub record Placement (l : Level) (k : Program) (bytes : List ℕ) : Type 0 where
   -- several before one operation stand in the order LL, LS, SS, SL
   pub ordered : (t p : ℕ) → barriersBefore (laneOf bytes t) p ≡ chosen (λ b. standsBefore b (laneOf bytes t) p)
 
--- ## demand 3: the two machines
+-- ## demand 3: the machines
 
--- Source, Target Tso: the house machine, over the kernel; the chip, over the level 2 sheet
+-- Source: the house machine, over the kernel; Target m: the machine of a model m, Tso the chip, over the level 2 sheet,
+--   Pso the panel, over the level 3 sheet
 -- programFor m k: the instructions of each lane that the machine carries out
 -- startOf k: the start state; begin: a run from it, with no move done yet
--- runSource s, runTso s: the answer of the run over a schedule; `.number` is 0 or that of a refusal, `.state` the end
--- shown: what is compared of an answer: loaded values in order, finished, registers, memory, lock words, pending lists
+-- runFile m s: the answer of machine m's run over a schedule; `.number` is 0 or that of a refusal, `.state` the end
+-- shown: what is compared of an answer: loaded values in order, finished, registers, memory, lock words, pending lists,
+--   marks left out
 -- countsAs m k mvs: the schedule mvs, or the empty one where 10 refuses it
--- sourceSchedule: the moves of a tso schedule but those that wait or pass a barrier
+-- sourceSchedule: the moves of a target's schedule but those that wait or pass a barrier
 -- targetSchedule: the moves of a direct source schedule, and before each operation those that pass its barriers
 -- direct: the move after each STORE or UNLOCK commits that entry
 -- Stuck: no lane has a permitted move, at choices 0 and 1
@@ -154,68 +156,66 @@ pub record Shares (a b : Answer) : Type 0 where
   pub ran-too : b .number ≡ 0
   pub same : shown a ≡ shown b
 
--- the source schedule for a tso schedule, and the tso schedule for a source schedule
-abbrev pub sourceFor : Program → List Move → List Move
-sourceFor k mvs =
-    sourceSchedule Tso (volatileIn k) (programFor (Target Tso) k) (begin (startOf k)) (countsAs (Target Tso) k mvs)
+-- the source schedule for a target's schedule, and the target's schedule for a source schedule
+abbrev pub sourceFor : Model → Program → List Move → List Move
+sourceFor m k mvs =
+    sourceSchedule m (volatileIn k) (programFor (Target m) k) (begin (startOf k)) (countsAs (Target m) k mvs)
 
-abbrev pub tsoFor : Program → List Move → List Move
-tsoFor k mvs =
-    targetSchedule Tso (volatileIn k) (programFor (Target Tso) k) (begin (startOf k)) (countsAs Source k mvs)
+abbrev pub targetFor : Model → Program → List Move → List Move
+targetFor m k mvs =
+    targetSchedule m (volatileIn k) (programFor (Target m) k) (begin (startOf k)) (countsAs Source k mvs)
 
 -- the source run over a schedule goes straight to memory
 abbrev pub Direct : Program → List Move → Type 0
 Direct k mvs = direct (volatileIn k) (programFor Source k) none (begin (startOf k)) (countsAs Source k mvs) ≡ true
 
--- the state that a tso schedule ends in
-abbrev pub tsoEnd : List ℕ → Program → List Move → State
-tsoEnd s k mvs = runTso s (countsAs (Target Tso) k mvs) .state
+-- the answer over a schedule, one that is refused with 10 counting as the empty one
+abbrev pub answerFor : Machine → List ℕ → Program → List Move → Answer
+answerFor m s k mvs = runFile m s (countsAs m k mvs)
 
--- of every schedule, the empty one included; one that is refused with 10 counts as the empty one
-pub record Demand3 (s : List ℕ) (k : Program) : Type 0 where
-  -- each tso run has a source run that shares what is compared
-  pub matched : (mvs : List Move) → Shares (runSource s (sourceFor k mvs)) (runTso s (countsAs (Target Tso) k mvs))
-  -- after every tso run no move is permitted exactly when nothing is pending and each lane has ended or stands at a
-  -- held lock
+-- of a target and every schedule, the empty one included
+pub record Demand3 (m : Model) (s : List ℕ) (k : Program) : Type 0 where
+  -- each run of the target has a source run that shares what is compared
+  pub matched : (mvs : List Move) → Shares (runFile Source s (sourceFor m k mvs)) (answerFor (Target m) s k mvs)
+  -- after every run of the target no move is permitted exactly when nothing is pending and each lane has ended or
+  -- stands at a held lock
   pub stuck : (mvs : List Move)
-      → Stuck (Target Tso) (volatileIn k) (programFor (Target Tso) k) (tsoEnd s k mvs)
-      ↔ AllHalted (programFor (Target Tso) k) (tsoEnd s k mvs)
-  -- each source run that goes straight to memory has a tso run that shares what is compared
-  pub direct : (mvs : List Move) → Direct k mvs → Shares (runSource s (countsAs Source k mvs)) (runTso s (tsoFor k mvs))
+      → Stuck (Target m) (volatileIn k) (programFor (Target m) k) (answerFor (Target m) s k mvs .state)
+      ↔ AllHalted (programFor (Target m) k) (answerFor (Target m) s k mvs .state)
+  -- each source run that goes straight to memory has a run of the target that shares what is compared
+  pub direct : (mvs : List Move) → Direct k mvs
+      → Shares (answerFor Source s k mvs) (runFile (Target m) s (targetFor m k mvs))
 
 -- ## finished
 
--- runBy m s (verdict s) mvs: the answer of machine m; `.finished`: every lane stands at its end and nothing is pending
+-- `.finished` of an answer: every lane stands at its end and nothing is pending
 -- legal: each move names a lane below T and a choice up to the machine's limit, so that 10 does not refuse
 
 -- a finished run is over: with whatever moves behind it, all that is compared stays, and so does the memory read then
 abbrev pub Over : List ℕ → Program → Type 0
 Over s k = (m : Machine) (mvs more : List Move) → legal (length (k .lanes)) (limit m) more ≡ true
-    → runBy m s (verdict s) mvs .finished ≡ true
-    → shown (runBy m s (verdict s) (mvs ++ more)) ≡ shown (runBy m s (verdict s) mvs)
+    → runFile m s mvs .finished ≡ true → shown (runFile m s (mvs ++ more)) ≡ shown (runFile m s mvs)
 
 -- ## number 11
 
 -- a schedule that is not refused with 10 runs to its end: no run meets an UNLOCK whose lock its lane does not hold
-pub record Runs (s : List ℕ) (k : Program) : Type 0 where
-  pub source-runs : (mvs : List Move) → legal (length (k .lanes)) (limit Source) mvs ≡ true
-      → runSource s mvs .number ≡ 0
-  pub tso-runs : (mvs : List Move) → legal (length (k .lanes)) (limit (Target Tso)) mvs ≡ true
-      → runTso s mvs .number ≡ 0
+abbrev pub Runs : List ℕ → Program → Type 0
+Runs s k = (m : Machine) (mvs : List Move) → legal (length (k .lanes)) (limit m) mvs ≡ true
+    → runFile m s mvs .number ≡ 0
 
 -- ## bounds
 
 -- Shaped: in each lane 8 registers and at most 64 entries pending, of locations below L and locks below K; L memory
 --   values and K lock words; each value below 2^32, each lock word at most T
 -- Within: no lane stands past the end of its program
+-- MarksBehind: each mark stands behind an entry that is pending
 
--- after every schedule the state fits a record of fixed length, and each lane stands within its program: the chain of
--- the source machine, the sheet part of the tso machine
+-- after every schedule of a machine the state fits a record of fixed length, and each lane stands within its program:
+-- the chain of the source machine, the sheet part of a target
 pub record Bounds (s : List ℕ) (k : Program) : Type 0 where
-  pub source-bounds : (mvs : List Move) → Shaped k (shown (runSource s (countsAs Source k mvs)))
-  pub tso-bounds : (mvs : List Move) → Shaped k (shown (runTso s (countsAs (Target Tso) k mvs)))
-  pub source-within : (mvs : List Move) → Within (programFor Source k) (runSource s (countsAs Source k mvs) .state)
-  pub tso-within : (mvs : List Move) → Within (programFor (Target Tso) k) (tsoEnd s k mvs)
+  pub shaped : (m : Machine) (mvs : List Move) → Shaped k (shown (answerFor m s k mvs))
+  pub within : (m : Machine) (mvs : List Move) → Within (programFor m k) (answerFor m s k mvs .state)
+  pub marks : (m : Machine) (mvs : List Move) → MarksBehind (answerFor m s k mvs .state)
 
 -- ## all of it, of a kernel file s that stands for the kernel k
 
@@ -231,7 +231,7 @@ abbrev pub Fitting : (Level → List ℕ → Type 0) → Program → Type 0
 Fitting P k = (l : Level) (buffer : List ℕ) → length (sheetBytes l k) ≤ length buffer → P l buffer
 
 -- codesIn bytes: the operation code, the first byte, of each row of each lane
--- Code l c: c is one of an operation, 1 to 7, or at level 1 one of 11 to 14, at level 2 just 15
+-- Code l c: c is one of an operation, 1 to 7, or at level 1 one of 11 to 14, at level 2 just 15, at level 3 13 or 14
 -- placed l vol os: the operations of a lane, each with its barriers
 -- start ps p: the position in the lane's part at which the barriers before the p-th operation begin
 -- aim r: puts r of the target for a SKIP's target
@@ -249,7 +249,7 @@ pub record Claims (s : List ℕ) (k : Program) : Type 0 where
       ≡ map (aim (start (placed l (volatileIn k) (getD (k .lanes) t [])))) (getD (k .lanes) t [])) k
   -- and every byte of it is a byte
   pub bytes : Fitting (λ l buffer. (i : ℕ) → i < length (sheetBytes l k) → getD (lowered l s buffer) i 0 < 256) k
-  pub demand3 : Demand3 s k
+  pub demand3 : (m : Model) → Demand3 m s k
   pub over : Over s k
   pub runs : Runs s k
   pub bounds : Bounds s k

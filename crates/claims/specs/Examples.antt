@@ -113,7 +113,7 @@ abbrev crossed : List (List Instr)
 crossed = (op (Lock 0) ∷ op (Lock 1) ∷ []) ∷ (op (Lock 1) ∷ op (Lock 0) ∷ []) ∷ []
 
 abbrev second : Lane
-second = record { control = record { pos = 1 }; regs = []; pending = [] }
+second = record { control = record { pos = 1; marks = 0 }; regs = []; pending = [] }
 
 -- each holds its first lock
 abbrev deadlock : State
@@ -133,7 +133,7 @@ deadlock-halted (suc (suc t)) l = absurd (omega arith)
 abbrev waiting : State
 waiting =
     record {
-      lanes = record { control = record { pos = 1 }; regs = []; pending = write 1 5 ∷ [] } ∷ [];
+      lanes = record { control = record { pos = 1; marks = 0 }; regs = []; pending = write 1 5 ∷ [] } ∷ [];
       memory = 0 ∷ 0 ∷ [];
       locks = [];
     }

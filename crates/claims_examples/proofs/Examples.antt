@@ -1,4 +1,4 @@
--- The starred examples and the kernel of four lanes hold: each row by computation, and the two that speak of every
+-- The starred examples and the kernel of four lanes hold: each row by computation, and the three that speak of every
 -- schedule by a search.
 use mathlib.Core.Path.{refl}
 use Rattle.file_format.specs.Search.{lowest, firstOf}
@@ -21,7 +21,7 @@ use Rattle.text_listing.specs.Line.{instrText, lineOf, firstLine}
 use Rattle.text_listing.specs.Ones.{ones}
 use Rattle.text_listing.specs.Listing.{laneLines, sheetLines, listing}
 use Rattle.claims_examples.specs.Table.{table, Each, end, _▸_}
-use Rattle.claims_examples.proofs.Never.{never-on-tso, never-on-source}
+use Rattle.claims_examples.proofs.Never.{never-on-tso, never-on-pso, never-on-source}
 
 pub examples : Each table
 unfolding table refusalOf structureThen fieldsThen headerRule headRule badRecord recordRule limitA limitB limitConstant
@@ -37,6 +37,7 @@ examples =
     ▸ refl ▸ refl ▸ refl ▸ refl
     ▸ refl ▸ refl ▸ refl ▸ refl ▸ refl ▸ refl ▸ refl ▸ refl ▸ refl
     ▸ refl ▸ refl ▸ refl ▸ refl ▸ refl
+    ▸ refl ▸ refl ▸ refl ▸ refl ▸ refl ▸ refl ▸ never-on-pso ▸ refl ▸ refl
     ▸ refl ▸ refl ▸ refl ▸ refl ▸ refl ▸ refl ▸ refl ▸ refl ▸ refl
-    ▸ refl ▸ refl ▸ refl ▸ refl ▸ refl
+    ▸ refl ▸ refl ▸ refl ▸ refl ▸ refl ▸ refl ▸ refl
     ▸ end

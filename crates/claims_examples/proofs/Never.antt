@@ -22,7 +22,8 @@ use Rattle.sheet_format.specs.Bytes.{sheetBytes}
 use Rattle.sheet_format.specs.Read.{readSheet}
 use Rattle.machine_spec.specs.declared.Machine.{Machine}
 use Rattle.machine_spec.specs.declared.Machine.the-variants.{Source, Target}
-use Rattle.machine_spec.specs.declared.Model.the-variants.{Tso}
+use Rattle.machine_spec.specs.declared.Model.{Model}
+use Rattle.machine_spec.specs.declared.Model.the-variants.{Tso, Pso}
 use Rattle.machine_spec.specs.Schedule.{Move, legal, limit}
 use Rattle.machine_spec.specs.State.{State, Outcome, ran, refused}
 use Rattle.machine_spec.specs.View.{finished}
@@ -55,9 +56,10 @@ unfolding refusalOf structureThen fieldsThen headerRule headRule badRecord recor
     opOf opsFrom recordAt faultPosition faultAt conflictBelow heldFrom same
 stands-for = refl
 
-lowered-to : programFor (Target Tso) kernel ≡ lanes2
+lowered-to : (m : Model) → programFor (Target m) kernel ≡ lanes2
 unfolding stands due dueAfter sheetBytes readSheet
-lowered-to = refl
+lowered-to Tso = refl
+lowered-to Pso = refl
 
 -- not finished with register 1 zero in each lane
 abbrev good : List (List Instr) → State → Bool
@@ -84,14 +86,23 @@ module _ (m : Machine) (k : Program) (fuel : ℕ) (search : Searched m k (progra
           (explored m (volatileIn k) (programFor m k) (length (k .lanes)) 1 (good (programFor m k)) mvs (limit m) fuel _
           search h))
 
-tso-search : Searched (Target Tso) kernel (programFor (Target Tso) kernel) 11
-tso-search = subst (λ p. Searched (Target Tso) kernel p 11) (sym lowered-to) refl
+searched : (m : Model) → Searched (Target m) kernel (programFor (Target m) kernel) 11
+searched Tso = subst (λ p. Searched (Target Tso) kernel p 11) (sym (lowered-to Tso)) refl
+searched Pso = subst (λ p. Searched (Target Pso) kernel p 11) (sym (lowered-to Pso)) refl
+
+never-on : (m : Model) (mvs : List Move)
+    → endsAllZero (runBy (Target m) (storeBuffering 3) (verdict (storeBuffering 3)) mvs) ≡ false
+never-on m mvs =
+    ap (λ v. endsAllZero (runBy (Target m) (storeBuffering 3) v mvs)) stands-for
+    ∙ never-all-zero (Target m) kernel 11 (searched m) mvs
 
 pub never-on-tso : (mvs : List Move)
     → endsAllZero (runBy (Target Tso) (storeBuffering 3) (verdict (storeBuffering 3)) mvs) ≡ false
-never-on-tso mvs =
-    ap (λ v. endsAllZero (runBy (Target Tso) (storeBuffering 3) v mvs)) stands-for
-    ∙ never-all-zero (Target Tso) kernel 11 tso-search mvs
+never-on-tso = never-on Tso
+
+pub never-on-pso : (mvs : List Move)
+    → endsAllZero (runBy (Target Pso) (storeBuffering 3) (verdict (storeBuffering 3)) mvs) ≡ false
+never-on-pso = never-on Pso
 
 pub never-on-source : (mvs : List Move)
     → endsAllZero (runBy Source (storeBuffering 3) (verdict (storeBuffering 3)) mvs) ≡ false

@@ -1,5 +1,5 @@
--- The kernel of examples/four-lanes.kernel, its schedule, and what reference/ answers of them: both sheets, the
--- listing, and the state records that the schedule leaves on the two machines.
+-- The kernel of examples/four-lanes.kernel, its schedule, and what reference/ answers of them: the sheets of levels 1
+-- and 2, the listing, and the state records that the schedule leaves on the source machine and the tso machine.
 use Prim.Native.Nat.{ℕ, _-_}
 use mathlib.Core.List.{List, [], _∷_, _++_}
 use lib.ListN.{length, replicate}
@@ -168,7 +168,7 @@ fourLanesMoves =
     ∷ move 2 1 ∷ move 0 0 ∷ move 0 0 ∷ move 0 0 ∷ []
 
 -- so many bytes, with zeros behind those that are written out
-abbrev padded : ℕ → List ℕ → List ℕ
+abbrev pub padded : ℕ → List ℕ → List ℕ
 padded n bytes = bytes ++ replicate (n - length bytes) 0
 
 -- finished, locks and counts; memory; then lanes 0 to 3: position, number of entries, registers, entries

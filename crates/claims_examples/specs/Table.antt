@@ -8,14 +8,14 @@ use lib.Dec.{eqb}
 use lib.ListN.{length, getD, take, drop, replicate}
 use Rattle.file_verdict.specs.Verdict.{verdict}
 use Rattle.sheet_format.specs.declared.Level.{Level}
-use Rattle.sheet_format.specs.declared.Level.the-variants.{Level1, Level2}
+use Rattle.sheet_format.specs.declared.Level.the-variants.{Level1, Level2, Level3}
 use Rattle.sheet_format.specs.declared.WriteResult.{WriteResult}
 use Rattle.sheet_format.specs.declared.WriteResult.the-variants.{Wrote, Refuses}
 use Rattle.sheet_format.specs.Bytes.{lowerBy}
 use Rattle.text_listing.specs.Listing.{printed}
 use Rattle.machine_spec.specs.declared.Machine.{Machine}
 use Rattle.machine_spec.specs.declared.Machine.the-variants.{Source, Target}
-use Rattle.machine_spec.specs.declared.Model.the-variants.{Tso}
+use Rattle.machine_spec.specs.declared.Model.the-variants.{Tso, Pso}
 use Rattle.machine_spec.specs.Schedule.{Move, move}
 use Rattle.machine_spec.specs.Run.{Answer, runBy}
 use Rattle.machine_record.specs.Record.{stateBytes}
@@ -23,6 +23,7 @@ use Rattle.claims_examples.specs.Kernels.{rec, recBytes, fileHeader, sto
 use Rattle.claims_examples.specs.Kernels.{PL, PS, VL, VS, LOCK, UNLOCK}
 use Rattle.claims_examples.specs.FourLanes.{fourLanes, fourLanes1, fourLanes2, fourLanesText, fourLanesMoves}
 use Rattle.claims_examples.specs.FourLanes.{fourLanesSource, fourLanesTso}
+use Rattle.claims_examples.specs.FourLanesPso.{fourLanes3, fourLanesPso}
 
 pub data Example : Type 0 where
   -- lowering into so many bytes is refused, by number and record
@@ -179,6 +180,23 @@ table =
     -- VS, LOCK, VL, UNLOCK: SL before the LOCK, at level 2 nothing before it nor before the load
     ∷ shows Level1 (lane (VS ∷ LOCK ∷ VL ∷ UNLOCK ∷ [])) (codes (4 ∷ 14 ∷ 5 ∷ 11 ∷ 3 ∷ 12 ∷ 13 ∷ 6 ∷ []))
     ∷ shows Level2 (lane (VS ∷ LOCK ∷ VL ∷ UNLOCK ∷ [])) (codes (4 ∷ 5 ∷ 3 ∷ 6 ∷ []))
+    -- of paper 02, job 4: level 3 keeps SS as well as SL, 13 and 14 with a zero mask, and no SL before a LOCK
+    ∷ writes Level3 (storeBuffering 3) (
+    2 ∷ 2 ∷ 0 ∷ 3 ∷ 0 ∷ 0 ∷ 0 ∷ 0 ∷ 4 ∷ 0 ∷ 4 ∷ 0 ∷ 0 ∷ 0 ∷ 0 ∷ 0
+    ∷ 1 ∷ 0 ∷ 0 ∷ 0 ∷ 1 ∷ 0 ∷ 0 ∷ 0 ∷ 4 ∷ 0 ∷ 0 ∷ 0 ∷ 0 ∷ 0 ∷ 0 ∷ 0
+    ∷ 14 ∷ 0 ∷ 0 ∷ 0 ∷ 0 ∷ 0 ∷ 0 ∷ 0 ∷ 3 ∷ 1 ∷ 1 ∷ 0 ∷ 0 ∷ 0 ∷ 0 ∷ 0
+    ∷ 1 ∷ 0 ∷ 0 ∷ 0 ∷ 1 ∷ 0 ∷ 0 ∷ 0 ∷ 4 ∷ 0 ∷ 1 ∷ 0 ∷ 0 ∷ 0 ∷ 0 ∷ 0
+    ∷ 14 ∷ 0 ∷ 0 ∷ 0 ∷ 0 ∷ 0 ∷ 0 ∷ 0 ∷ 3 ∷ 1 ∷ 0 ∷ 0 ∷ 0 ∷ 0 ∷ 0 ∷ 0 ∷ []
+    )
+    ∷ refused-by Level3 (storeBuffering 3) 79 9 0
+    ∷ shows Level3 (lane (PS ∷ VS ∷ [])) (codes (4 ∷ 13 ∷ 4 ∷ []))
+    ∷ shows Level3 (lane (VL ∷ PL ∷ PS ∷ [])) (codes (3 ∷ 3 ∷ 4 ∷ []))
+    ∷ shows Level3 (lane (LOCK ∷ UNLOCK ∷ LOCK ∷ UNLOCK ∷ [])) (codes (5 ∷ 6 ∷ 5 ∷ 13 ∷ 6 ∷ []))
+    ∷ shows Level3 (lane (VS ∷ skipTo 4 ∷ VL ∷ LOCK ∷ UNLOCK ∷ [])) ((4, 0) ∷ (7, 4) ∷ codes (14 ∷ 3 ∷ 5 ∷ 13 ∷ 6 ∷ []))
+    -- and on the pso machine store buffering never finishes with both zero, but for mask 1
+    ∷ never (Target Pso) (storeBuffering 3)
+    ∷ ends (Target Pso) (storeBuffering 3) (straight 0 ++ straight 1) true (0 ∷ 1 ∷ [])
+    ∷ ends (Target Pso) (storeBuffering 1) race true (0 ∷ 0 ∷ [])
     -- no records: 16-byte sheet
     ∷ fills Level1 (lane []) 16
     ∷ fills Level2 (lane []) 16
@@ -197,7 +215,9 @@ table =
     -- not of the paper: four lanes, 16 locations and four locks; the answers are reference/'s
     ∷ writes Level1 fourLanes fourLanes1
     ∷ writes Level2 fourLanes fourLanes2
+    ∷ writes Level3 fourLanes fourLanes3
     ∷ prints fourLanes fourLanesText
     ∷ leaves Source fourLanes fourLanesMoves fourLanesSource
     ∷ leaves (Target Tso) fourLanes fourLanesMoves fourLanesTso
+    ∷ leaves (Target Pso) fourLanes fourLanesMoves fourLanesPso
     ∷ []

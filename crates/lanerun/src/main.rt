@@ -20,6 +20,10 @@ fn main() {
             run_files(Machine::Target(Model::Tso));
             return;
         }
+        if check::same(&name[..n], b"pso") {
+            run_files(Machine::Target(Model::Pso));
+            return;
+        }
     }
-    say(b"usage: lanerun KERNEL source|tso SCHEDULE\n");
+    say(b"usage: lanerun KERNEL source|tso|pso SCHEDULE\n");
 }

@@ -1,4 +1,4 @@
--- A kernel of one lane through each of the five calls, and runs of one that ends with a STORE, by computation from
+-- A kernel of one lane through each of the seven calls, and runs of one that ends with a STORE, by computation from
 -- their bytes.
 use Prim.Native.Nat.{ℕ, _*_, _^_}
 use mathlib.Core.Path.{_≡_, refl}
@@ -23,7 +23,8 @@ use Rattle.text_put.specs.Decimal.{digits, decimal}
 use Rattle.text_page.specs.Columns.{blankLine, inColumn, inColumns, lineIn}
 use Rattle.text_page.specs.Lines.{instructionLine, laneLines, linesFrom, pageLines}
 use Rattle.text_page.specs.Pages.{headingLine, pageOf, pagesOf, pageText}
-use Rattle.lanes_answers.specs.Interface.{callLower1, callLower2, callPage, callRunSource, callRunTso}
+use Rattle.lanes_answers.specs.Interface.{callLower1, callLower2, callLower3, callPage}
+use Rattle.lanes_answers.specs.Interface.{callRunSource, callRunTso, callRunPso}
 
 -- one lane, two locations of which location 1 is volatile, and one lock:
 -- SET 2 to 258, STORE 2 to location 1, LOCK 0, UNLOCK 0, LOAD 3 from location 1
@@ -106,7 +107,7 @@ oneWaited = replicate 16 0 ++ 1 ∷ replicate 2263 0
 
 calls : List (Called × Called)
 calls =
-    -- the kernel's sheets have 96 and 64 bytes
+    -- the kernel's sheets have 96, 64 and 72 bytes
     (called (callLower2 kernel (output 63)), record { answer = 9 * 2 ^ 32; after = output 63 })
     ∷ (called (callLower1 kernel (output 95)), record { answer = 9 * 2 ^ 32; after = output 95 })
     ∷ (
@@ -120,6 +121,23 @@ calls =
             ∷ 5 ∷ 0 ∷ 0 ∷ 0 ∷ 0 ∷ 0 ∷ 0 ∷ 0
             ∷ 6 ∷ 0 ∷ 0 ∷ 0 ∷ 0 ∷ 0 ∷ 0 ∷ 0
             ∷ 15 ∷ 0 ∷ 0 ∷ 0 ∷ 0 ∷ 0 ∷ 0 ∷ 0
+            ∷ 3 ∷ 3 ∷ 1 ∷ 0 ∷ 0 ∷ 0 ∷ 0 ∷ 0
+            ∷ 255 ∷ [];
+      },
+    )
+    ∷ (called (callLower3 kernel (output 71)), record { answer = 9 * 2 ^ 32; after = output 71 })
+    ∷ (
+      called (callLower3 kernel (output 73)),
+      record {
+        answer = 72;
+        after =
+            1 ∷ 2 ∷ 1 ∷ 3 ∷ 0 ∷ 0 ∷ 0 ∷ 0 ∷ 7 ∷ 0 ∷ 0 ∷ 0 ∷ 0 ∷ 0 ∷ 0 ∷ 0
+            ∷ 1 ∷ 2 ∷ 0 ∷ 0 ∷ 2 ∷ 1 ∷ 0 ∷ 0
+            ∷ 4 ∷ 2 ∷ 1 ∷ 0 ∷ 0 ∷ 0 ∷ 0 ∷ 0
+            ∷ 5 ∷ 0 ∷ 0 ∷ 0 ∷ 0 ∷ 0 ∷ 0 ∷ 0
+            ∷ 13 ∷ 0 ∷ 0 ∷ 0 ∷ 0 ∷ 0 ∷ 0 ∷ 0
+            ∷ 6 ∷ 0 ∷ 0 ∷ 0 ∷ 0 ∷ 0 ∷ 0 ∷ 0
+            ∷ 14 ∷ 0 ∷ 0 ∷ 0 ∷ 0 ∷ 0 ∷ 0 ∷ 0
             ∷ 3 ∷ 3 ∷ 1 ∷ 0 ∷ 0 ∷ 0 ∷ 0 ∷ 0
             ∷ 255 ∷ [];
       },
@@ -164,9 +182,11 @@ calls =
     ∷ (called (callRunTso kernel (0 ∷ []) (output 2280)), record { answer = 10 * 2 ^ 32; after = output 2280 })
     ∷ (called (callRunTso kernel (0 ∷ 2 ∷ []) (output 2280)), record { answer = 10 * 2 ^ 32; after = output 2280 })
     ∷ (called (callRunSource kernel (1 ∷ 0 ∷ []) (output 2280)), record { answer = 10 * 2 ^ 32; after = output 2280 })
-    -- choice 64 and 65 of the source machine, choice 1 of the tso machine, and an odd number of bytes
+    -- choice 64 and 65 of the source and the pso machine, choice 1 of the tso machine, and an odd number of bytes
     ∷ (called (callRunSource kernel (0 ∷ 64 ∷ []) (output 2280)), record { answer = 2280; after = oneWaited })
     ∷ (called (callRunSource kernel (0 ∷ 65 ∷ []) (output 2280)), record { answer = 10 * 2 ^ 32; after = output 2280 })
+    ∷ (called (callRunPso kernel (0 ∷ 64 ∷ []) (output 2280)), record { answer = 2280; after = oneWaited })
+    ∷ (called (callRunPso kernel (0 ∷ 65 ∷ []) (output 2280)), record { answer = 10 * 2 ^ 32; after = output 2280 })
     ∷ (called (callRunTso kernel (0 ∷ 1 ∷ []) (output 2280)), record { answer = 2280; after = oneWaited })
     ∷ (
       called (callRunSource kernel (0 ∷ 0 ∷ 0 ∷ []) (output 2280)),
@@ -194,6 +214,7 @@ calls =
     -- a lane at its end with a pending store is not finished; after the commit it is
     ∷ (called (callRunSource storing upToStore (output 2280)), record { answer = 2280; after = stored })
     ∷ (called (callRunTso storing upToStore (output 2280)), record { answer = 2280; after = stored })
+    ∷ (called (callRunPso storing upToStore (output 2280)), record { answer = 2280; after = stored })
     ∷ (
       called (callRunSource storing (upToStore ++ 0 ∷ 1 ∷ []) (output 2280)),
       record { answer = 2280; after = committed },

@@ -1,15 +1,15 @@
--- The five calls from C: what each answers, and the output buffer after it.
+-- The seven calls from C: what each answers, and the output buffer after it.
 use Prim.Native.Nat.{ℕ, _+_, _*_, _^_, _≤_}
 use mathlib.Core.List.{List}
 use Rattle.file_format.specs.Accepted.{Program}
 use Rattle.file_verdict.specs.Verdict.{Verdict, verdict}
-use Rattle.sheet_format.specs.declared.Level.the-variants.{Level1, Level2}
+use Rattle.sheet_format.specs.declared.Level.the-variants.{Level1, Level2, Level3}
 use Rattle.sheet_format.specs.declared.WriteResult.{WriteResult}
 use Rattle.sheet_format.specs.declared.WriteResult.the-variants.{Wrote, Refuses}
 use Rattle.sheet_format.specs.Bytes.{sheetBytes, answerBy}
 use Rattle.machine_spec.specs.declared.Machine.{Machine}
 use Rattle.machine_spec.specs.declared.Machine.the-variants.{Source, Target}
-use Rattle.machine_spec.specs.declared.Model.the-variants.{Tso}
+use Rattle.machine_spec.specs.declared.Model.the-variants.{Tso, Pso}
 use Rattle.text_page.specs.Pages.{pageText}
 use Rattle.lanes_answers.specs.Calls.{runFileBy}
 
@@ -33,12 +33,15 @@ writeCallBy bytes v buffer = (packedAnswer (answerBy bytes v buffer .0), answerB
 abbrev pub runCallBy : Machine → Verdict → List ℕ → List ℕ → ℕ × List ℕ
 runCallBy m v moves buffer = (packedAnswer (runFileBy m v moves buffer .0), runFileBy m v moves buffer .1)
 
--- lanes_lower1, lanes_lower2, lanes_page, lanes_run_source and lanes_run_tso
+-- lanes_lower1, lanes_lower2, lanes_lower3, lanes_page, lanes_run_source, lanes_run_tso and lanes_run_pso
 abbrev pub callLower1 : List ℕ → List ℕ → ℕ × List ℕ
 callLower1 kernel = writeCallBy (sheetBytes Level1) (verdict kernel)
 
 abbrev pub callLower2 : List ℕ → List ℕ → ℕ × List ℕ
 callLower2 kernel = writeCallBy (sheetBytes Level2) (verdict kernel)
+
+abbrev pub callLower3 : List ℕ → List ℕ → ℕ × List ℕ
+callLower3 kernel = writeCallBy (sheetBytes Level3) (verdict kernel)
 
 abbrev pub callPage : List ℕ → List ℕ → ℕ × List ℕ
 callPage kernel = writeCallBy pageText (verdict kernel)
@@ -48,3 +51,6 @@ callRunSource kernel = runCallBy Source (verdict kernel)
 
 abbrev pub callRunTso : List ℕ → List ℕ → List ℕ → ℕ × List ℕ
 callRunTso kernel = runCallBy (Target Tso) (verdict kernel)
+
+abbrev pub callRunPso : List ℕ → List ℕ → List ℕ → ℕ × List ℕ
+callRunPso kernel = runCallBy (Target Pso) (verdict kernel)

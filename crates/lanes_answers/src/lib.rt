@@ -1,2 +1,2 @@
-// What the five C calls answer: the definitions, and an answer as one number.
+// What the seven C calls answer: the definitions, and an answer as one number.
 pub mod packed;

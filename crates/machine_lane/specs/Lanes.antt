@@ -1,5 +1,5 @@
 -- The lane of the machines' text that a lane of the code holds.
-use Prim.Native.Nat.{ℕ, suc, _-_}
+use Prim.Native.Nat.{ℕ, suc, _+_, _-_, _*_, _^_}
 use mathlib.Core.Path.{_≡_}
 use mathlib.Core.Option.{some}
 use mathlib.Core.Bool.{Bool, false, cond}
@@ -7,6 +7,7 @@ use mathlib.Core.List.{List, [], _∷_}
 use lib.Dec.{ltb}
 use lib.ListN.{getD, take, replicate, set as update}
 use Rattle.machine_spec.specs.Entries.{Entry, write, release, appendEntry}
+use Rattle.machine_spec.specs.Step.{goto}
 use Rattle.machine_spec.specs.State.{Lane, atStart}
 use Rattle.machine_lane.specs.declared.lane.Lane.{Lane as Stored}
 
@@ -32,7 +33,7 @@ entriesOf (c ∷ cs) (v ∷ vs) = entryOf c v ∷ entriesOf cs vs
 abbrev pub laneIn : Stored → Lane
 laneIn l =
     record {
-      control = record { pos = l .at };
+      control = record { pos = l .at; marks = l .low + 2 ^ 32 * l .high };
       regs = l .registers;
       pending = take (l .len) (entriesOf (l .cells) (l .values));
     }
@@ -47,9 +48,13 @@ withPending l es = record { control = l .control; regs = l .regs; pending = es }
 abbrev pub withRegister : Lane → ℕ → ℕ → Lane
 withRegister l a v = record { control = l .control; regs = update (l .regs) a v; pending = l .pending }
 
--- the lane at another position
+-- the lane at another position, and with other marks in its pending list
 abbrev pub placedAt : Lane → ℕ → Lane
-placedAt l p = record { control = record { pos = p }; regs = l .regs; pending = l .pending }
+placedAt l p = record { control = goto (l .control) p; regs = l .regs; pending = l .pending }
+
+abbrev pub withMarks : Lane → ℕ → Lane
+withMarks l ks =
+    record { control = record { pos = l .control .pos; marks = ks }; regs = l .regs; pending = l .pending }
 
 -- r is the lane l with one entry more, the newest
 pub record Appended (l : Stored) (c v : ℕ) (r : Stored) : Type 0 where

@@ -1,19 +1,22 @@
-// A lane of either machine: its position, its eight registers and its pending stores, oldest first. Methods take the
-// lane; append, commit and newest hand it back. One that changes an array does so in a local of its own and puts it
-// back: the rest is not copied then.
+// A lane of a machine: its position, its eight registers, its pending stores, oldest first, and the marks in them, as
+// the bits of a number. Methods take the lane; append, commit and newest hand it back. One that changes an array does
+// so in a local of its own and puts it back: the rest is not copied then.
 ghost use mathlib.Core.Path.{_≡_};
 ghost use Prim.Native.Nat.{ℕ, _≤_, _<_};
 ghost use lib.ListN.{length};
 ghost use Rattle.machine_spec.specs.Entries.{isSync, newest, without};
 ghost use Rattle.machine_lane.specs.Lanes.{flags, entryOf, laneIn, withPending, Appended};
 
-// A pending entry has a cell: a location from 0 to 15, or 16 + lock for a release, and the value for the location.
+// A pending entry has a cell: a location from 0 to 15, or 16 + lock for a release, and the value for the location. The
+// marks are in two halves: a field of 64 bits makes every copy of a lane slower.
 pub struct Lane {
     pub at: u32,
     pub registers: [u32; 8],
     pub cells: [u32; 64],
     pub values: [u32; 64],
     pub len: u32,
+    pub low: u32,
+    pub high: u32,
 }
 
 // A value that was looked up, with the lane handed back.
@@ -52,6 +55,13 @@ impl Lane {
     {
         let n = self.len as usize;
         if n < 64 { n } else { 64 }
+    }
+
+    // The marks in the pending list.
+    pub fn marks(self) -> u64
+        ensures { λ r. ⌜ r ≡ laneIn self .control .marks ⌝ }
+    {
+        self.low as u64 + 4294967296 * self.high as u64
     }
 
     // The entry goes to the end of the pending list.

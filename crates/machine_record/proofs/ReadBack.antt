@@ -12,14 +12,15 @@ use Rattle.file_format.specs.Fields.{byte}
 use Rattle.sheet_format.specs.Bytes.{wordBytes, quadBytes}
 use Rattle.sheet_format.specs.Put.{inTurn}
 use Rattle.machine_spec.specs.Entries.{Entry, write, release}
+use Rattle.machine_spec.specs.Marks.{markAt}
 use Rattle.machine_spec.specs.Shape.{EntrySmall, AllSmall}
 use Rattle.machine_spec.specs.State.{Lane, laneAt}
 use Rattle.machine_spec.specs.Run.{Answer}
 use Rattle.machine_lane.specs.Lanes.{noEntry}
 use Rattle.machine_record.specs.Places.{lockFrom, doneFrom, waitedFrom, memoryFrom}
 use Rattle.machine_record.specs.Places.{laneSize, laneFrom, positionFrom, registerFrom, entryFrom}
-use Rattle.machine_record.specs.Lanes.{entryBytes, placeBytes, entriesBytes, stateLane}
-use Rattle.machine_record.specs.Record.{flag, headBytes, recordOf, stateBytes}
+use Rattle.machine_record.specs.Lanes.{flag, entryBytes, placeBytes, entriesBytes, stateLane}
+use Rattle.machine_record.specs.Record.{headBytes, recordOf, stateBytes}
 use Rattle.machine_record.specs.Fields.{entryIn, fieldsIn, fieldsOf, Same, Fits}
 use Rattle.machine_record.proofs.LaneSizes.{place-length, lane-length}
 use Rattle.machine_record.proofs.Sizes.{head-length}
@@ -37,7 +38,7 @@ module _ (l : Lane) where
   registers = inTurn (λ r. quadBytes (getD (l .regs) r 0)) 8
 
   abbrev entries : List ℕ
-  entries = entriesBytes 64 (l .pending)
+  entries = entriesBytes 64 (l .control .marks) (l .pending)
 
   lane-position : Has (stateLane l) 0 (wordBytes (l .control .pos))
   unfolding stateLane
@@ -57,11 +58,14 @@ module _ (l : Lane) where
       has-behind front
       (has-front entries (has-turn (λ i. quadBytes (getD (l .regs) i 0)) 4 (λ j. refl) 8 r h) (omega arith))
 
-  lane-place : (i : ℕ) → i < 64 → Has (stateLane l) (36 + 8 * i) (placeBytes (getElem? (l .pending) i))
+  abbrev place : ℕ → List ℕ
+  place i = placeBytes (markAt (l .control .marks) i) (getElem? (l .pending) i)
+
+  lane-place : (i : ℕ) → i < 64 → Has (stateLane l) (36 + 8 * i) (place i)
   unfolding stateLane entriesBytes inTurn
   lane-place i h =
       has-behind (front ++ registers)
-      (has-turn (λ j. placeBytes (getElem? (l .pending) j)) 8 (λ j. place-length (getElem? (l .pending) j)) 64 i h)
+      (has-turn place 8 (λ j. place-length (markAt (l .control .marks) j) (getElem? (l .pending) j)) 64 i h)
 
 -- ## the record of an answer
 
@@ -70,14 +74,21 @@ flag-back true = refl
 flag-back false = refl
 
 -- an entry from its bytes, and one of a list
-entry-back : {s : List ℕ} {from : ℕ} (e : Entry) → EntrySmall 16 4 e → Has s from (entryBytes e) → entryIn s from ≡ e
-entry-back {s} {from} (write x v) small h =
+entry-back : {s : List ℕ} {from : ℕ} (m : Bool) (e : Entry) → EntrySmall 16 4 e → Has s from (entryBytes m e)
+    → entryIn s from ≡ e
+entry-back {s} {from} m (write x v) small h =
     let kind : byte s from ≡ 1 = rw (add-zero from) at (h .at 0 (omega arith)) in
-    let within = has-within h (has-behind (1 ∷ x ∷ 0 ∷ 0 ∷ []) (has-whole (quadBytes v))) (omega arith) in
+    let within = has-within h (has-behind (1 ∷ x ∷ flag m ∷ 0 ∷ []) (has-whole (quadBytes v))) (omega arith) in
     rw (kind, h .at 1 (omega arith), has-quad within (small .1)) refl
-entry-back {s} {from} (release l) small h =
+entry-back {s} {from} m (release l) small h =
     let kind : byte s from ≡ 2 = rw (add-zero from) at (h .at 0 (omega arith)) in
     rw (kind, h .at 1 (omega arith)) refl
+
+-- and whether a mark stands behind it
+mark-back : {s : List ℕ} {from : ℕ} (m : Bool) (e : Entry) → Has s from (entryBytes m e)
+    → eqb (byte s (from + 2)) 1 ≡ m
+mark-back m (write x v) h = rw (h .at 2 (omega arith)) (flag-back m)
+mark-back m (release l) h = rw (h .at 2 (omega arith)) (flag-back m)
 
 small-at : (es : List Entry) (i : ℕ) → i < length es → AllSmall 16 4 es → EntrySmall 16 4 (getD es i noEntry)
 small-at [] i h all = absurd (omega arith)
@@ -150,11 +161,13 @@ module _ (a : Answer) where
         rw e at (in-lane (lane-register lane r h) (omega arith))
 
     entry-in : (i : ℕ) → i < 64 → i < length (lane .pending)
-        → Has (stateBytes a) (entryFrom t i) (entryBytes (getD (lane .pending) i noEntry))
+        → Has (stateBytes a) (entryFrom t i)
+        (entryBytes (markAt (lane .control .marks) i) (getD (lane .pending) i noEntry))
     entry-in i h l =
         let e : laneFrom t + (36 + 8 * i) ≡ entryFrom t i = omega arith in
-        let place = place-length (getElem? (lane .pending) i) in
-        subst (λ p. Has (stateBytes a) (entryFrom t i) (placeBytes p)) (at-some (lane .pending) i noEntry l)
+        let mark = markAt (lane .control .marks) i in
+        let size = place-length mark (getElem? (lane .pending) i) in
+        subst (λ p. Has (stateBytes a) (entryFrom t i) (placeBytes mark p)) (at-some (lane .pending) i noEntry l)
         (rw e at (in-lane (lane-place lane i h) (omega arith)))
 
   pub read-back : Fits a → Same (fieldsIn (stateBytes a)) (fieldsOf a)
@@ -169,6 +182,10 @@ module _ (a : Answer) where
     register = λ t r h l. has-quad (register-in t h r l) (f .registers t r);
     entry = λ t i h l.
         let few = f .pending t in
-        entry-back (getD (lane t h .pending) i noEntry) (small-at (lane t h .pending) i l (f .entries t))
+        entry-back (markAt (lane t h .control .marks) i) (getD (lane t h .pending) i noEntry)
+        (small-at (lane t h .pending) i l (f .entries t)) (entry-in t h i (omega arith) l);
+    mark = λ t i h l.
+        let few = f .pending t in
+        mark-back (markAt (lane t h .control .marks) i) (getD (lane t h .pending) i noEntry)
         (entry-in t h i (omega arith) l);
   }

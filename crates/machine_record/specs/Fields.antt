@@ -7,6 +7,7 @@ use lib.Dec.{eqb}
 use lib.ListN.{length, getD}
 use Rattle.file_format.specs.Fields.{byte, word, quad}
 use Rattle.machine_spec.specs.Entries.{Entry, write, release}
+use Rattle.machine_spec.specs.Marks.{markAt}
 use Rattle.machine_spec.specs.State.{laneAt, posAt}
 use Rattle.machine_spec.specs.Run.{Answer}
 use Rattle.machine_lane.specs.Lanes.{noEntry}
@@ -25,6 +26,7 @@ pub record Fields : Type 0 where
   pub count : (t : ℕ) → ℕ
   pub register : (t r : ℕ) → ℕ
   pub entry : (t i : ℕ) → Entry
+  pub mark : (t i : ℕ) → Bool
 
 -- the entry whose bytes begin at `from`: kind 1 is a store
 abbrev pub entryIn : List ℕ → ℕ → Entry
@@ -43,6 +45,7 @@ fieldsIn s = record {
   count = λ t. word s (countFrom t);
   register = λ t r. quad s (registerFrom t r);
   entry = λ t i. entryIn s (entryFrom t i);
+  mark = λ t i. eqb (byte s (entryFrom t i + 2)) 1;
 }
 
 -- of an answer
@@ -57,6 +60,7 @@ fieldsOf a = record {
   count = λ t. length (laneAt (a .state) t .pending);
   register = λ t r. getD (laneAt (a .state) t .regs) r 0;
   entry = λ t i. getD (laneAt (a .state) t .pending) i noEntry;
+  mark = λ t i. markAt (laneAt (a .state) t .control .marks) i;
 }
 
 -- the same wherever a record has room for it
@@ -70,6 +74,7 @@ pub record Same (f g : Fields) : Type 0 where
   pub count : (t : ℕ) → t < 4 → f .count t ≡ g .count t
   pub register : (t r : ℕ) → t < 4 → r < 8 → f .register t r ≡ g .register t r
   pub entry : (t i : ℕ) → t < 4 → i < g .count t → f .entry t i ≡ g .entry t i
+  pub mark : (t i : ℕ) → t < 4 → i < g .count t → f .mark t i ≡ g .mark t i
 
 -- an answer that a record tells in full
 pub record Fits (a : Answer) : Type 0 where

@@ -1,20 +1,17 @@
 -- The state record that a run leaves for C: 2,280 bytes, as docs/FORMATS.md lays them out.
 use Prim.Native.Nat.{ℕ, _/_, _^_}
-use mathlib.Core.Bool.{Bool, cond}
+use mathlib.Core.Bool.{Bool}
 use mathlib.Core.List.{List, [], _∷_, _++_}
 use lib.ListN.{getD}
 use Rattle.sheet_format.specs.Bytes.{quadBytes}
 use Rattle.sheet_format.specs.Put.{inTurn}
 use Rattle.machine_spec.specs.State.{State, laneAt}
 use Rattle.machine_spec.specs.Run.{Answer}
-use Rattle.machine_record.specs.Lanes.{stateLane}
+use Rattle.machine_record.specs.Lanes.{flag, stateLane}
 
 -- 64 bits
 abbrev pub double : ℕ → List ℕ
 double n = quadBytes n ++ quadBytes (n / 2 ^ 32)
-
-abbrev pub flag : Bool → ℕ
-flag b = cond b 1 0
 
 -- finished, lock words, moves done and waited, memory
 unfoldable pub headBytes : Bool → ℕ → ℕ → List ℕ → List ℕ → List ℕ

@@ -1,11 +1,19 @@
-// Writing a row of words.
+// Writing a test and a row of words.
 ghost use mathlib.Core.Path.{_≡_};
 ghost use Prim.Native.Nat.{_+_, _*_, _≤_};
 ghost use lib.ListN.{length, getD};
 ghost use Rattle.sheet_format.specs.Bytes.{quadBytes};
 ghost use Rattle.sheet_format.specs.Put.{Puts, inTurn};
+ghost use Rattle.machine_record.specs.Lanes.{flag};
 use sheet_rows::number::wide;
 use sheet_rows::put::put_quad;
+
+// A test as a byte.
+pub fn flag(b: bool) -> u8
+    ensures { λ r. ⌜ r ≡ flag b ⌝ }
+{
+    if b { 1 } else { 0 }
+}
 
 // Word i of a row; 0 past its end.
 pub fn word_at(words: &[u32], i: usize) -> usize

@@ -7,9 +7,10 @@ ghost use Rattle.sheet_format.specs.Put.{Puts, inTurn};
 ghost use Rattle.machine_spec.specs.State.{laneAt};
 ghost use Rattle.machine_state.specs.States.{stateIn, Sized, Lies};
 ghost use Rattle.machine_record.specs.Lanes.{stateLane};
-ghost use Rattle.machine_record.specs.Record.{double, flag, headBytes, recordOf};
+ghost use Rattle.machine_record.specs.Record.{double, headBytes, recordOf};
 ghost use Rattle.machine_record.specs.SmallStates.{SmallLocks, SmallEntries, Small};
 use crate::lane::write_lane;
+use crate::put::flag;
 use machine_lane::lane::Lane;
 use machine_state::held::take;
 use machine_state::shared::lock_at;
@@ -29,12 +30,6 @@ fn put_double(out: &mut [u8], at: usize, n: usize) -> usize
 {
     let next = put_quad(out, at, n);
     put_quad(out, next, n / 4294967296)
-}
-
-fn flag(b: bool) -> u8
-    ensures { λ r. ⌜ r ≡ flag b ⌝ }
-{
-    if b { 1 } else { 0 }
 }
 
 fn lock_byte(state: &State, l: u8) -> u8
@@ -98,6 +93,8 @@ fn write_lane_at(out: &mut [u8], start: usize, t: usize, state: &State) -> usize
         cells: [0; 64],
         values: [0; 64],
         len: 0,
+        low: 0,
+        high: 0,
     };
     write_lane(out, start, none)
 }

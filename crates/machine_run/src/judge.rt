@@ -35,6 +35,7 @@ pub fn limit_of(machine: Machine) -> u8
         Machine::Source => 64,
         Machine::Target(model) => match model {
             Model::Tso => 1,
+            Model::Pso => 64,
         },
     }
 }

@@ -2,3 +2,4 @@
 pub mod Moves
 pub mod Every
 pub mod Finished
+pub mod Marks

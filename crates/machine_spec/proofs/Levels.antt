@@ -4,20 +4,20 @@ use native.Mathlib.Omega.{arith}
 use mathlib.Core.Path.{_≡_, sym}
 use Rattle.file_format.specs.Accepted.{Program}
 use Rattle.file_format.specs.Lawful.{Lawful}
-use Rattle.sheet_format.specs.declared.Level.the-variants.{Level2}
 use Rattle.sheet_format.specs.Levels.{widest, sheetLanes}
 use Rattle.sheet_format.proofs.Level0.{lawful-lanes0}
 use Rattle.sheet_format.proofs.ReadBack.{bytes-back}
 use Rattle.machine_spec.specs.declared.Machine.{Machine}
 use Rattle.machine_spec.specs.declared.Machine.the-variants.{Source, Target}
-use Rattle.machine_spec.specs.declared.Model.the-variants.{Tso}
+use Rattle.machine_spec.specs.declared.Model.the-variants.{Tso, Pso}
 use Rattle.machine_spec.specs.Run.{levelOf, programFor}
 
 pub program-lanes : (k : Program) → Lawful k → (m : Machine) → programFor m k ≡ sheetLanes (levelOf m) k
 program-lanes k w Source = sym (lawful-lanes0 k w)
-program-lanes k w (Target Tso) = bytes-back Level2 k w
+program-lanes k w (Target m) = bytes-back (levelOf (Target m)) k w
 
 -- in which an operation makes at most two instructions
 pub program-narrow : (m : Machine) → widest (levelOf m) ≤ 2
 program-narrow Source = omega arith
 program-narrow (Target Tso) = omega arith
+program-narrow (Target Pso) = omega arith

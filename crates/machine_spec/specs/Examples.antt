@@ -1,4 +1,5 @@
--- Turns that the two machines must and must not take, values that they load, and runs of small kernels, by computation.
+-- Turns that the source and the tso machine must and must not take, values that they load, and runs of small kernels,
+-- by computation.
 use mathlib.Core.Path.{_≡_, refl}
 use mathlib.Core.Bool.{Bool, true, false}
 use mathlib.Core.List.{List, [], _∷_, map}

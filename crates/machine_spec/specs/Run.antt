@@ -1,4 +1,4 @@
--- Runs from the bytes of a kernel file: what the source machine and the tso machine answer.
+-- Runs from the bytes of a kernel file: what the machines answer.
 use Prim.Native.Nat.{ℕ}
 use mathlib.Core.Bool.{Bool, false, cond}
 use mathlib.Core.List.{List, [], map}
@@ -9,13 +9,13 @@ use Rattle.file_format.specs.Accepted.{Program}
 use Rattle.file_verdict.specs.Verdict.{Verdict, refused as rejected, accepted, verdict}
 use Rattle.sheet_format.specs.Layout.{Instr, op}
 use Rattle.sheet_format.specs.declared.Level.{Level}
-use Rattle.sheet_format.specs.declared.Level.the-variants.{Level0, Level2}
+use Rattle.sheet_format.specs.declared.Level.the-variants.{Level0, Level2, Level3}
 use Rattle.sheet_format.specs.Levels.{volatileIn}
 use Rattle.sheet_format.specs.Bytes.{sheetBytes}
 use Rattle.sheet_format.specs.Read.{readSheet}
 use Rattle.machine_spec.specs.declared.Machine.{Machine}
 use Rattle.machine_spec.specs.declared.Machine.the-variants.{Source, Target}
-use Rattle.machine_spec.specs.declared.Model.the-variants.{Tso}
+use Rattle.machine_spec.specs.declared.Model.the-variants.{Tso, Pso}
 use Rattle.machine_spec.specs.Schedule.{Move, limit, legal}
 use Rattle.machine_spec.specs.State.{State, Loaded, Outcome, ran, refused, startState, begin, run}
 use Rattle.machine_spec.specs.View.{finished, View, viewOf}
@@ -55,11 +55,12 @@ startOf k = startState (length (k .lanes)) (replicate (k .locations) 0) (k .lock
 abbrev pub levelOf : Machine → Level
 levelOf Source = Level0
 levelOf (Target Tso) = Level2
+levelOf (Target Pso) = Level3
 
--- the machine's program: the kernel's chains, or what the bytes of the level 2 sheet stand for
+-- the machine's program: the kernel's chains, or what the bytes of the sheet of its level stand for
 abbrev pub programFor : Machine → Program → List (List Instr)
 programFor Source k = map (map op) (k .lanes)
-programFor (Target Tso) k = readSheet (sheetBytes Level2 k)
+programFor (Target m) k = readSheet (sheetBytes (levelOf (Target m)) k)
 
 abbrev pub runOn : Machine → Program → List Move → Outcome
 runOn m k mvs = run m (volatileIn k) (programFor m k) (begin (startOf k)) mvs
@@ -79,11 +80,8 @@ abbrev pub runBy : Machine → List ℕ → Verdict → List Move → Answer
 runBy m s (rejected n r) mvs = refusal (refusedStart s n) n r
 runBy m s (accepted k) mvs = runProgram m k mvs
 
-abbrev pub runSource : List ℕ → List Move → Answer
-runSource s = runBy Source s (verdict s)
-
-abbrev pub runTso : List ℕ → List Move → Answer
-runTso s = runBy (Target Tso) s (verdict s)
+abbrev pub runFile : Machine → List ℕ → List Move → Answer
+runFile m s = runBy m s (verdict s)
 
 -- what demand 3 compares of an answer
 abbrev pub shown : Answer → View

@@ -5,7 +5,7 @@ use Prim.Native.Nat.{ℕ}
 use lib.Dec.{ltb, leb}
 use Rattle.machine_spec.specs.declared.Machine.{Machine}
 use Rattle.machine_spec.specs.declared.Machine.the-variants.{Source, Target}
-use Rattle.machine_spec.specs.declared.Model.the-variants.{Tso}
+use Rattle.machine_spec.specs.declared.Model.the-variants.{Tso, Pso}
 
 pub record Move : Type 0 where
   pub lane : ℕ
@@ -18,6 +18,7 @@ move t k = record { lane = t; choice = k }
 abbrev pub limit : Machine → ℕ
 limit Source = 64
 limit (Target Tso) = 1
+limit (Target Pso) = 64
 
 -- each move names a lane below n and a choice up to k
 abbrev pub legal : ℕ → ℕ → List Move → Bool

@@ -6,7 +6,7 @@ use lib.ListN.{length, getD}
 use Rattle.file_format.specs.Accepted.{Program}
 use Rattle.sheet_format.specs.Layout.{Instr}
 use Rattle.machine_spec.specs.Entries.{Entry, write, release}
-use Rattle.machine_spec.specs.State.{State, posAt}
+use Rattle.machine_spec.specs.State.{State, laneAt, posAt}
 use Rattle.machine_spec.specs.View.{View}
 
 -- of ls locations and ks locks
@@ -34,3 +34,7 @@ pub record Shaped (k : Program) (v : View) : Type 0 where
 -- each lane stands at an instruction of its program, or at its end
 abbrev pub Within : List (List Instr) → State → Type 0
 Within prog s = (t : ℕ) → posAt s t ≤ length (getD prog t [])
+
+-- each mark stands behind an entry that is pending
+abbrev pub MarksBehind : State → Type 0
+MarksBehind s = (t : ℕ) → laneAt s t .control .marks < 2 ^ length (laneAt s t .pending)

@@ -21,7 +21,7 @@ pub record State : Type 0 where
   pub locks : List ℕ
 
 abbrev pub atStart : Control
-atStart = record { pos = 0 }
+atStart = record { pos = 0; marks = 0 }
 
 -- n lanes at their starts, with the values m in memory and k free locks
 abbrev pub startState : ℕ → List ℕ → ℕ → State

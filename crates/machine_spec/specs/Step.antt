@@ -4,17 +4,20 @@ use mathlib.Core.List.{List}
 use mathlib.Core.Option.{Option, none, some}
 use Prim.Native.Nat.{ℕ, zero, suc, _+_, _%_, _^_}
 use lib.Dec.{eqb}
-use lib.ListN.{getD, getElem?, take, set as update}
+use lib.ListN.{length, getD, getElem?, take, set as update}
 use Rattle.file_format.specs.declared.accepted.Op.{Op}
 use Rattle.file_format.specs.declared.accepted.Op.the-variants.{Set, Add, Load, Store, Lock, Unlock, Skip}
+use Rattle.barrier_placement.specs.declared.cookbook.Barrier.{Barrier}
 use Rattle.sheet_format.specs.Layout.{Instr, op, barrier}
 use Rattle.machine_spec.specs.Entries.{Entry, write, release, appendEntry, without}
+use Rattle.machine_spec.specs.Marks.{afterSS, afterCommit}
 use Rattle.machine_spec.specs.declared.Machine.{Machine}
-use Rattle.machine_spec.specs.Rules.{mayCommit, sees, mayLoad, mayLock, mayPass}
+use Rattle.machine_spec.specs.Rules.{mayCommit, sees, mayLoad, mayLock, mayPass, leavesMark}
 
--- where a lane stands; the machines differ in it
+-- where a lane stands, and the marks in its pending list; the machines differ in it
 pub record Control : Type 0 where
   pub pos : ℕ
+  pub marks : ℕ
 
 -- what else a lane's move reads and writes; it is compared
 pub record Core : Type 0 where
@@ -32,7 +35,7 @@ pub data Turn : Type 0 where
   does : Control → Core → Option ℕ → Turn
 
 abbrev pub goto : Control → ℕ → Control
-goto k p = record { pos = p }
+goto k p = record { pos = p; marks = k .marks }
 
 abbrev pub reg : Core → ℕ → ℕ
 reg c a = getD (c .regs) a 0
@@ -127,11 +130,18 @@ abbrev pub effect : Machine → (ℕ → Bool) → ℕ → Control → Core → 
 effect m vol w k c o =
     cond (holds w c o) (does (goto k (next c o (k .pos))) (coreAfter m vol w c o) (loads m vol c o)) refuses
 
+-- behind a barrier
+abbrev pub passed : Machine → Control → Core → Barrier → Control
+passed m k c b = record {
+  pos = suc (k .pos);
+  marks = cond (leavesMark m b) (afterSS (length (c .pending)) (k .marks)) (k .marks);
+}
+
 -- the instruction at the lane's position; past the last one is the end, where choice 0 waits
 abbrev pub execute : Machine → (ℕ → Bool) → ℕ → Control → Core → Option Instr → Turn
 execute m vol w k c none = waits
 execute m vol w k c (some (op o)) = cond (permits m vol c o) (effect m vol w k c o) waits
-execute m vol w k c (some (barrier b)) = cond (mayPass m b (c .pending)) (passes (goto k (suc (k .pos))) c) waits
+execute m vol w k c (some (barrier b)) = cond (mayPass m b (c .pending)) (passes (passed m k c b) c) waits
 
 -- ## a commit
 
@@ -149,11 +159,16 @@ abbrev pub settle : Core → List Entry → Entry → Core
 settle c es e =
     record { regs = c .regs; pending = es; memory = landed (c .memory) e; locks = freed (c .locks) e }
 
+-- where the lane stands then
+abbrev pub committed : Control → Control
+committed k = record { pos = k .pos; marks = afterCommit (k .marks) }
+
 -- the entry that has i older ones
 abbrev pub commit : Machine → (ℕ → Bool) → Control → Core → ℕ → Option Entry → Turn
 commit m vol k c i none = waits
 commit m vol k c i (some e) =
-    cond (mayCommit m vol (take i (c .pending)) e) (does k (settle c (without i (c .pending)) e) none) waits
+    cond (mayCommit m vol (k .marks) (take i (c .pending)) e)
+    (does (committed k) (settle c (without i (c .pending)) e) none) waits
 
 -- choice 0 carries out the next instruction, choice k commits the k-th oldest entry
 abbrev pub turn : Machine → (ℕ → Bool) → ℕ → List Instr → Control → Core → ℕ → Turn

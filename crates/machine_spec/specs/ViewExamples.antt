@@ -1,4 +1,5 @@
--- What is compared of a run, and which schedules count, by computation: a kernel of two lanes on both machines.
+-- What is compared of a run, and which schedules count, by computation: a kernel of two lanes on the
+-- source and the tso machine.
 use mathlib.Core.Path.{_≡_, refl}
 use mathlib.Core.Bool.{true, false}
 use mathlib.Core.List.{List, [], _∷_, _++_, map}

@@ -1,4 +1,4 @@
--- What is known of the end of a run of an accepted kernel, of either machine: the claims, said of the run itself.
+-- What is known of the end of a run of an accepted kernel, of every machine: the claims, said of the run itself.
 use Prim.Native.Nat.{ℕ, _≤_}
 use mathlib.Core.Path.{_≡_, refl, ap, sym, subst, _∙_}
 use mathlib.Core.Bool.{true, cond}
@@ -8,8 +8,6 @@ use lib.ListN.{length, length-map, List·getD-map}
 use Rattle.file_format.specs.Accepted.{Program}
 use Rattle.file_verdict.specs.Verdict.{accepted, verdict}
 use Rattle.machine_spec.specs.declared.Machine.{Machine}
-use Rattle.machine_spec.specs.declared.Machine.the-variants.{Source, Target}
-use Rattle.machine_spec.specs.declared.Model.the-variants.{Tso}
 use Rattle.machine_spec.specs.Schedule.{Move, limit, legal}
 use Rattle.machine_spec.specs.State.{Lane, Run, Outcome, ran, refused, idle, laneAt}
 use Rattle.machine_spec.specs.Run.{Answer, answerOf, startOf, programFor, runOn, runBy, countsAs, shown}
@@ -20,20 +18,6 @@ use Rattle.claims.proofs.Theorem.{claims}
 module _ (s : List ℕ) (k : Program) (e : verdict s ≡ accepted k) where
   c : Claims s k
   c = claims s k e
-
-  pub shaped : (m : Machine) (mvs : List Move) → Shaped k (shown (runBy m s (verdict s) (countsAs m k mvs)))
-  shaped Source = c .bounds .source-bounds
-  shaped (Target Tso) = c .bounds .tso-bounds
-
-  pub within : (m : Machine) (mvs : List Move)
-      → Within (programFor m k) (runBy m s (verdict s) (countsAs m k mvs) .state)
-  within Source = c .bounds .source-within
-  within (Target Tso) = c .bounds .tso-within
-
-  numbered : (m : Machine) (mvs : List Move) → legal (length (k .lanes)) (limit m) mvs ≡ true
-      → runBy m s (verdict s) mvs .number ≡ 0
-  numbered Source = c .runs .source-runs
-  numbered (Target Tso) = c .runs .tso-runs
 
   module _ (m : Machine) (mvs : List Move) (le : legal (length (k .lanes)) (limit m) mvs ≡ true) where
     abbrev answer : Outcome → Answer
@@ -49,7 +33,7 @@ module _ (s : List ℕ) (k : Program) (e : verdict s ≡ accepted k) where
     pub not-refused : (t p : ℕ) → runOn m k mvs ≡ refused t p → ⊥
     not-refused t p r =
         let eleven : _≡_ {A = ℕ} 11 0 =
-        sym (ap (λ (a : Answer). a .number) (answered (refused t p) r)) ∙ numbered m mvs le in
+        sym (ap (λ (a : Answer). a .number) (answered (refused t p) r)) ∙ c .runs m mvs le in
         absurd (omega arith)
 
     module _ (r : Run) (re : runOn m k mvs ≡ ran r) where
@@ -57,7 +41,7 @@ module _ (s : List ℕ) (k : Program) (e : verdict s ≡ accepted k) where
       ends = ap (runBy m s (verdict s)) counted ∙ answered (ran r) re
 
       pub shape : Shaped k (shown (answer (ran r)))
-      shape = subst (λ a. Shaped k (shown a)) ends (shaped m mvs)
+      shape = subst (λ a. Shaped k (shown a)) ends (c .bounds .shaped m mvs)
 
       pub lane-count : length (r .state .lanes) ≡ length (k .lanes)
       lane-count = sym (length-map (r .state .lanes) (λ (l : Lane). l .pending)) ∙ shape .lanes .1
@@ -67,4 +51,4 @@ module _ (s : List ℕ) (k : Program) (e : verdict s ≡ accepted k) where
           rw (List·getD-map (λ (l : Lane). l .pending) (r .state .lanes) t idle) at (shape .pending-few t)
 
       pub stands-within : Within (programFor m k) (r .state)
-      stands-within = subst (λ a. Within (programFor m k) (a .state)) ends (within m mvs)
+      stands-within = subst (λ a. Within (programFor m k) (a .state)) ends (c .bounds .within m mvs)

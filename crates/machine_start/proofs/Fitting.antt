@@ -20,7 +20,7 @@ use Rattle.machine_spec.specs.Run.{Answer, answerOf, startOf, programFor, runOn
 use Rattle.machine_spec.specs.View.{viewOf}
 use Rattle.machine_spec.specs.Shape.{Shaped, Within}
 use Rattle.machine_record.specs.Fields.{Fits}
-use Rattle.machine_start.proofs.Answered.{shaped, within}
+use Rattle.claims.proofs.Theorem.{claims}
 use Rattle.machine_start.proofs.Ranges.{program-short}
 use Rattle.machine_start.proofs.Laws.Runs.{shaped-small}
 
@@ -91,7 +91,7 @@ module _ (s : List ℕ) (k : Program) (v : verdict s ≡ accepted k) (m : Machin
   b = runBy m s (verdict s) (countsAs m k mvs)
 
   shape : Shaped k (viewOf (b .row) (b .finished) (a .state))
-  shape = subst (λ x. Shaped k (viewOf (b .row) (b .finished) x)) counted-state (shaped s k v m mvs)
+  shape = subst (λ x. Shaped k (viewOf (b .row) (b .finished) x)) counted-state (claims s k v .bounds .shaped m mvs)
 
   regs-at : (t : ℕ) → getD (map (λ (l : Lane). l .regs) (a .state .lanes)) t [] ≡ laneAt (a .state) t .regs
   regs-at t = List·getD-map (λ (l : Lane). l .regs) (a .state .lanes) t idle
@@ -120,7 +120,11 @@ module _ (s : List ℕ) (k : Program) (v : verdict s ≡ accepted k) (m : Machin
     waited = omega (arith, counts);
     memory = shape .memory-small;
     position = λ t.
-        omega (arith, subst (Within (programFor m k)) counted-state (within s k v m mvs) t, program-short k law t m);
+        omega (
+          arith,
+          subst (Within (programFor m k)) counted-state (claims s k v .bounds .within m mvs) t,
+          program-short k law t m,
+        );
     pending = λ t. omega (arith, shape .pending-few t, ap length (pending-at t));
     registers = λ t r. subst (λ l. getD l r 0 < 2 ^ 32) (regs-at t) (shape .regs-small t r);
     entries = shaped-small {s = a .state} law shape .entries;

@@ -30,6 +30,13 @@ POSITION = 8
 abbrev pub LENGTH : ℕ
 LENGTH = 9
 
+-- the low and the high half of the marks
+abbrev pub MARKS : ℕ
+MARKS = 10
+
+abbrev pub HIGHMARKS : ℕ
+HIGHMARKS = 11
+
 -- the shared block, and its rows
 abbrev pub SHARED : ℕ
 SHARED = 4
@@ -79,6 +86,8 @@ storedIn b =
       cells = getD b CELLS [];
       values = getD b VALUES [];
       len = getD (getD b HEAD []) LENGTH 0;
+      low = getD (getD b HEAD []) MARKS 0;
+      high = getD (getD b HEAD []) HIGHMARKS 0;
     }
 
 abbrev pub laneOf : Blocks → ℕ → Lane

@@ -5,11 +5,13 @@ ghost use mathlib.Core.Option.{some};
 ghost use Prim.Native.Nat.{suc, _<_, _≤_};
 ghost use lib.ListN.{length, getD};
 ghost use Rattle.machine_spec.specs.Entries.{appendEntry};
-ghost use Rattle.machine_lane.specs.Lanes.{entryOf, laneIn, placedAt, withPending, withRegister};
+ghost use Rattle.machine_lane.specs.Lanes.{entryOf, laneIn, placedAt, withMarks, withPending, withRegister};
 ghost use Rattle.machine_state.specs.States.{HEAD, firsts, wordAt, storedIn, laneOf, Lies, Became};
 use crate::state::CELLS;
 use crate::state::HEAD;
+use crate::state::HIGHMARKS;
 use crate::state::LENGTH;
+use crate::state::MARKS;
 use crate::state::POSITION;
 use crate::state::State;
 use crate::state::VALUES;
@@ -51,6 +53,16 @@ pub fn count(state: &State, t: usize) -> usize
     if n < 64 { n } else { 64 }
 }
 
+// The marks in the pending list of lane t.
+pub fn marks(state: &State, t: usize) -> u64
+    requires { ⌜ t < 4 ⌝ }
+    ensures { λ r. ⌜ r ≡ laneOf (now (state .entry)) t .control .marks ⌝ }
+{
+    let low = word_at(state, t, HEAD, MARKS) as u64;
+    let high = word_at(state, t, HEAD, HIGHMARKS) as u64;
+    low + 4294967296 * high
+}
+
 fn registers(state: &State, t: usize) -> [u32; 8]
     requires { ⌜ t < 4 ⌝ }
     ensures { λ r. ⌜ r ≡ firsts 8 (wordAt (now (state .entry)) t HEAD) ⌝ }
@@ -81,6 +93,8 @@ pub fn take(state: &State, t: usize) -> Lane
         cells: c,
         values: v,
         len: word_at(state, t, HEAD, LENGTH),
+        low: word_at(state, t, HEAD, MARKS),
+        high: word_at(state, t, HEAD, HIGHMARKS),
     }
 }
 
@@ -91,6 +105,16 @@ pub fn go(t: usize, next: u32, state: &mut State)
         ⌝ }
 {
     put_word(t, HEAD, POSITION, next, state);
+}
+
+// The marks in the pending list of lane t become others.
+pub fn set_marks(t: usize, marks: u64, state: &mut State)
+    requires { ⌜ Lies (now state) t ⌝ }
+    ensures { λ _. ⌜ Became (now (state .entry)) t (withMarks (laneOf (now (state .entry)) t) marks)
+        (now (state .exit)) ⌝ }
+{
+    put_word(t, HEAD, MARKS, (marks % 4294967296) as u32, state);
+    put_word(t, HEAD, HIGHMARKS, (marks / 4294967296) as u32, state);
 }
 
 // Register a of lane t becomes a value.

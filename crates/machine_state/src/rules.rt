@@ -2,10 +2,11 @@
 ghost use mathlib.Core.Path.{_≡_};
 ghost use Prim.Native.Nat.{_<_};
 ghost use lib.ListN.{length, getD, take};
-ghost use Rattle.machine_spec.specs.Rules.{mayCommit, sees, mayLoad, mayLock, mayPass};
+ghost use Rattle.machine_spec.specs.Rules.{mayCommit, sees, mayLoad, mayLock, mayPass, leavesMark};
 ghost use Rattle.machine_lane.specs.Lanes.{flags, noEntry};
 ghost use Rattle.machine_state.specs.States.{laneOf, Lies};
 use crate::held::count;
+use crate::held::marks;
 use crate::held::take;
 use crate::search::has_older;
 use crate::search::has_sync;
@@ -15,6 +16,7 @@ use crate::state::word_at;
 use barrier_placement::cookbook::Barrier;
 use machine_lane::lane::is_sync;
 use machine_lane::lane::is_volatile;
+use machine_lane::marks::no_mark;
 use machine_spec::Machine;
 use machine_spec::Model;
 
@@ -28,7 +30,7 @@ pub fn may_commit(
 ) -> bool
     requires { ⌜ Lies (now state) t × (index < length (laneOf (now state) t .pending)) ⌝ }
     ensures { λ r. ⌜ r ≡ mayCommit machine (flags (now (volatile .entry)))
-        (take index (laneOf (now (state .entry)) t .pending))
+        (laneOf (now (state .entry)) t .control .marks) (take index (laneOf (now (state .entry)) t .pending))
         (getD (laneOf (now (state .entry)) t .pending) index noEntry) ⌝ }
 {
     if index == 0 {
@@ -44,7 +46,14 @@ pub fn may_commit(
             }
         }
         Machine::Target(model) => match model {
-            Model::Tso => false,
+            Model::Tso => index == 0,
+            Model::Pso => {
+                if no_mark(index, marks(state, t)) {
+                    !has_older(state, t, index, word_at(state, t, CELLS, index))
+                } else {
+                    false
+                }
+            }
         },
     }
 }
@@ -113,6 +122,24 @@ pub fn may_pass(machine: Machine, barrier: Barrier, state: &State, t: usize) -> 
             Barrier::LS => true,
             Barrier::SS => true,
             Barrier::SL => count(state, t) == 0,
+        },
+    }
+}
+
+// Does a barrier that is passed leave a mark?
+pub fn leaves_mark(machine: Machine, barrier: Barrier) -> bool
+    ensures { λ r. ⌜ r ≡ leavesMark machine barrier ⌝ }
+{
+    match machine {
+        Machine::Source => false,
+        Machine::Target(model) => match model {
+            Model::Tso => false,
+            Model::Pso => match barrier {
+                Barrier::LL => false,
+                Barrier::LS => false,
+                Barrier::SS => true,
+                Barrier::SL => false,
+            },
         },
     }
 }

@@ -6,7 +6,7 @@ ghost use Rattle.machine_state.specs.States.{wordAt, withWord};
 // Blocks of three rows of 64 words: block t below 4 is lane t, and the last one is what the lanes share.
 pub type State = [[[u32; 64]; 3]; 5];
 
-// The rows of a lane: registers, position and number of entries; the cells of the pending entries; their values.
+// The rows of a lane: registers, position, number of entries and marks; the cells of the pending entries; their values.
 pub const HEAD: usize = 0;
 
 pub const CELLS: usize = 1;
@@ -17,6 +17,11 @@ pub const VALUES: usize = 2;
 pub const POSITION: usize = 8;
 
 pub const LENGTH: usize = 9;
+
+// The low and the high half of the marks.
+pub const MARKS: usize = 10;
+
+pub const HIGHMARKS: usize = 11;
 
 // The shared block, and its rows.
 pub const SHARED: usize = 4;

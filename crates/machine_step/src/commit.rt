@@ -1,11 +1,15 @@
 // A lane's commit of a pending entry.
+ghost use Rattle.machine_spec.specs.Marks.{afterCommit};
 ghost use Rattle.machine_spec.specs.Step.{landed, freed};
-ghost use Rattle.machine_lane.specs.Lanes.{flags, entryOf};
-ghost use Rattle.machine_state.specs.States.{stateIn, Sized, Lies, Shared};
+ghost use Rattle.machine_lane.specs.Lanes.{flags, entryOf, withMarks};
+ghost use Rattle.machine_state.specs.States.{laneOf, stateIn, Sized, Lies, Became, Shared};
 ghost use Rattle.machine_step.specs.Turns.{commits, Took};
+use machine_lane::marks::after_commit;
 use machine_spec::Machine;
 use machine_state::held::count;
+use machine_state::held::marks;
 use machine_state::held::put_list;
+use machine_state::held::set_marks;
 use machine_state::held::take;
 use machine_state::rules::may_commit;
 use machine_state::shared::set_lock;
@@ -27,6 +31,19 @@ fn settle(cell: u32, value: u32, state: &mut State)
         set_memory(cell, value, state);
     } else {
         set_lock(cell - 16, 0, state);
+    }
+}
+
+// What a commit leaves of the marks; none is the rule, and then nothing is written.
+fn shift_marks(t: usize, state: &mut State)
+    requires { ⌜ Lies (now state) t ⌝ }
+    ensures { λ _. ⌜ Became (now (state .entry)) t
+        (withMarks (laneOf (now (state .entry)) t)
+        (afterCommit (laneOf (now (state .entry)) t .control .marks))) (now (state .exit)) ⌝ }
+{
+    let all = marks(state, t);
+    if all != 0 {
+        set_marks(t, after_commit(all), state);
     }
 }
 
@@ -56,5 +73,6 @@ pub fn commit(
         state,
     );
     put_list(rest, t, state);
+    shift_marks(t, state);
     Moved::Done
 }

@@ -3,14 +3,22 @@ ghost use mathlib.Core.Bool.{Bool};
 ghost use Prim.Native.Nat.{ℕ};
 ghost use Rattle.file_format.specs.declared.accepted.Op.the-variants.{Set, Add, Skip};
 ghost use Rattle.sheet_format.specs.Layout.{op, barrier};
+ghost use Rattle.machine_spec.specs.Step.{passed};
+ghost use Rattle.machine_lane.specs.Lanes.{withMarks};
 ghost use Rattle.machine_state.specs.Ready.{Ready};
+ghost use Rattle.machine_state.specs.States.{laneOf, coreIn, Lies, Became};
 ghost use Rattle.machine_step.specs.Turns.{Carried};
 use barrier_placement::cookbook::Barrier;
+use machine_lane::marks::after_ss;
 use machine_spec::Machine;
+use machine_state::held::count;
 use machine_state::held::go;
+use machine_state::held::marks;
 use machine_state::held::next_position;
 use machine_state::held::register;
+use machine_state::held::set_marks;
 use machine_state::held::write_register;
+use machine_state::rules::leaves_mark;
 use machine_state::rules::may_pass;
 use machine_state::state::Moved;
 use machine_state::state::State;
@@ -53,6 +61,20 @@ pub(crate) fn skip(a: u8, target: u32, t: usize, state: &mut State) -> Moved
     Moved::Done
 }
 
+// What a barrier leaves in the pending list.
+fn leave_mark(machine: Machine, kind: Barrier, t: usize, state: &mut State)
+    requires { ⌜ Lies (now state) t ⌝ }
+    ensures { λ _. ⌜ Became (now (state .entry)) t
+        (withMarks (laneOf (now (state .entry)) t)
+        (passed machine (laneOf (now (state .entry)) t .control) (coreIn (now (state .entry)) t) kind .marks))
+        (now (state .exit)) ⌝ }
+{
+    if leaves_mark(machine, kind) {
+        let left = after_ss(count(state, t), marks(state, t));
+        set_marks(t, left, state);
+    }
+}
+
 // A barrier.
 pub(crate) fn pass(machine: Machine, kind: Barrier, t: usize, state: &mut State) -> Moved
     requires { ⌜ Ready (now state) t (barrier kind) ⌝ }
@@ -63,6 +85,7 @@ pub(crate) fn pass(machine: Machine, kind: Barrier, t: usize, state: &mut State)
         return Moved::Waited;
     }
     let next = next_position(state, t);
+    leave_mark(machine, kind, t, state);
     go(t, next, state);
     Moved::Done
 }

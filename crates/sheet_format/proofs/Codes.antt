@@ -21,7 +21,7 @@ use Rattle.barrier_placement.proofs.Laws.Chosen.{chosen-only}
 use Rattle.barrier_placement.specs.Layout.{Placed, start}
 use Rattle.sheet_format.specs.Layout.{Instr, op, barrier, aim, cells, sheet}
 use Rattle.sheet_format.specs.declared.Level.{Level}
-use Rattle.sheet_format.specs.declared.Level.the-variants.{Level0, Level1, Level2}
+use Rattle.sheet_format.specs.declared.Level.the-variants.{Level0, Level1, Level2, Level3}
 use Rattle.sheet_format.specs.Levels.{keeps, placeFrom, placed, placedLanes, sheetLanes}
 use Rattle.sheet_format.specs.Levels.{volatileIn}
 use Rattle.sheet_format.specs.Bytes.{instrBytes, joined, laneBytes, barrierCode, levelNumber, maskAt, header}
@@ -109,6 +109,10 @@ kept-code Level2 o LL e = absurd (false≢true e)
 kept-code Level2 o LS e = absurd (false≢true e)
 kept-code Level2 o SS e = absurd (false≢true e)
 kept-code Level2 o SL e = refl
+kept-code Level3 o LL e = absurd (false≢true e)
+kept-code Level3 o LS e = absurd (false≢true e)
+kept-code Level3 o SS e = (omega arith, omega arith)
+kept-code Level3 o SL e = (omega arith, omega arith)
 
 abbrev Coded : Level → Instr → Type 0
 Coded l i = Code l (codeOf l i)

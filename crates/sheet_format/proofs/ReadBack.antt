@@ -8,15 +8,26 @@ use Rattle.laws.proofs.Bytes.{word-back, quad-back}
 use Rattle.file_format.specs.declared.accepted.Op.the-variants.{Set, Add, Load, Store, Lock, Unlock, Skip}
 use Rattle.file_format.specs.Accepted.{Program}
 use Rattle.file_format.specs.Lawful.{Lawful}
+use Rattle.barrier_placement.specs.declared.cookbook.Barrier.{Barrier}
 use Rattle.barrier_placement.specs.declared.cookbook.Barrier.the-variants.{LL, LS, SS, SL}
+use Rattle.barrier_placement.specs.Cookbook.{codeOf}
 use Rattle.sheet_format.specs.Layout.{Instr, op, barrier, sheet}
 use Rattle.sheet_format.specs.declared.Level.{Level}
-use Rattle.sheet_format.specs.declared.Level.the-variants.{Level0, Level1, Level2}
+use Rattle.sheet_format.specs.declared.Level.the-variants.{Level0, Level1, Level2, Level3}
 use Rattle.sheet_format.specs.Levels.{placed, placedLanes, sheetLanes, volatileIn}
-use Rattle.sheet_format.specs.Bytes.{instrBytes, joined, laneBytes, levelNumber, maskAt, headerBy, sheetBytes}
+use Rattle.sheet_format.specs.Bytes.{row, instrBytes, joined, laneBytes, levelNumber, maskAt, headerBy}
+use Rattle.sheet_format.specs.Bytes.{sheetBytes}
 use Rattle.sheet_format.specs.Read.{readInstr, readRows, pastRows, readLanes, counts, readSheet}
 use Rattle.sheet_format.proofs.Laws.Cells.{Each}
 use Rattle.sheet_format.proofs.Fitting.{Fits, LaneFits, lanes-fit}
+
+-- a barrier with its own code
+own-back : (b : Barrier) (rest : List ℕ)
+    → (readInstr (row (codeOf b) 0 0 0 ++ rest) ≡ barrier b) × (drop 8 (row (codeOf b) 0 0 0 ++ rest) ≡ rest)
+own-back LL rest = (refl, refl)
+own-back LS rest = (refl, refl)
+own-back SS rest = (refl, refl)
+own-back SL rest = (refl, refl)
 
 pub read-back : (l : Level) (i : Instr) (rest : List ℕ) → Fits i
     → (readInstr (instrBytes l i ++ rest) ≡ i) × (drop 8 (instrBytes l i ++ rest) ≡ rest)
@@ -27,18 +38,13 @@ read-back l (op (Store a x)) rest h = (refl, refl)
 read-back l (op (Lock x)) rest h = (refl, refl)
 read-back l (op (Unlock x)) rest h = (refl, refl)
 read-back l (op (Skip a t)) rest h = (ap (λ n. op (Skip a n)) (quad-back t (h .1)), refl)
-read-back Level0 (barrier LL) rest h = (refl, refl)
-read-back Level0 (barrier LS) rest h = (refl, refl)
-read-back Level0 (barrier SS) rest h = (refl, refl)
-read-back Level0 (barrier SL) rest h = (refl, refl)
-read-back Level1 (barrier LL) rest h = (refl, refl)
-read-back Level1 (barrier LS) rest h = (refl, refl)
-read-back Level1 (barrier SS) rest h = (refl, refl)
-read-back Level1 (barrier SL) rest h = (refl, refl)
+read-back Level0 (barrier b) rest h = own-back b rest
+read-back Level1 (barrier b) rest h = own-back b rest
 read-back Level2 (barrier LL) rest h = (refl, refl)
 read-back Level2 (barrier LS) rest h = (refl, refl)
 read-back Level2 (barrier SS) rest h = (refl, refl)
 read-back Level2 (barrier SL) rest h = (refl, refl)
+read-back Level3 (barrier b) rest h = own-back b rest
 
 pub rows-back : (l : Level) (is : List Instr) (rest : List ℕ) → Each Fits is
     → (readRows (length is) (laneBytes l is ++ rest) ≡ is) × (pastRows (length is) (laneBytes l is ++ rest) ≡ rest)

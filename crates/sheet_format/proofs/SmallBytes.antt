@@ -8,9 +8,10 @@ use Rattle.file_format.specs.Accepted.{Program}
 use Rattle.file_format.specs.Lawful.{Lawful}
 use Rattle.barrier_placement.specs.declared.cookbook.Barrier.{Barrier}
 use Rattle.barrier_placement.specs.declared.cookbook.Barrier.the-variants.{LL, LS, SS, SL}
+use Rattle.barrier_placement.specs.Cookbook.{codeOf}
 use Rattle.sheet_format.specs.Layout.{Instr, op, barrier}
 use Rattle.sheet_format.specs.declared.Level.{Level}
-use Rattle.sheet_format.specs.declared.Level.the-variants.{Level0, Level1, Level2}
+use Rattle.sheet_format.specs.declared.Level.the-variants.{Level0, Level1, Level2, Level3}
 use Rattle.sheet_format.specs.Levels.{sheetLanes}
 use Rattle.sheet_format.specs.Bytes.{wordBytes, quadBytes, row, instrBytes, joined, laneBytes, header, sheetBytes}
 use Rattle.sheet_format.specs.Bytes.{barrierCode, levelNumber, maskAt, countBytes}
@@ -47,19 +48,20 @@ zero-small = omega arith
 row-small : (o a b c : ℕ) → o < 256 → a < 256 → b < 256 → Small (row o a b c)
 row-small o a b c ho ha hb = ho ▸ ha ▸ hb ▸ zero-small ▸ quad-small c
 
+own-small : (b : Barrier) → codeOf b < 256
+own-small LL = omega arith
+own-small LS = omega arith
+own-small SS = omega arith
+own-small SL = omega arith
+
 code-small : (l : Level) (b : Barrier) → barrierCode l b < 256
-code-small Level0 LL = omega arith
-code-small Level0 LS = omega arith
-code-small Level0 SS = omega arith
-code-small Level0 SL = omega arith
-code-small Level1 LL = omega arith
-code-small Level1 LS = omega arith
-code-small Level1 SS = omega arith
-code-small Level1 SL = omega arith
+code-small Level0 b = own-small b
+code-small Level1 b = own-small b
 code-small Level2 LL = omega arith
 code-small Level2 LS = omega arith
 code-small Level2 SS = omega arith
 code-small Level2 SL = omega arith
+code-small Level3 b = own-small b
 
 instr-small : (l : Level) (i : Instr) → Fits i → Small (instrBytes l i)
 instr-small l (op (Set a c)) h = row-small 1 a 0 c (omega arith) (h .0) (omega arith)
@@ -84,6 +86,7 @@ level-small : (l : Level) → levelNumber l < 256
 level-small Level0 = omega arith
 level-small Level1 = omega arith
 level-small Level2 = omega arith
+level-small Level3 = omega arith
 
 header-small : (l : Level) (k : Program) (xs : List (List Instr)) → Lawful k → Small (header l k xs)
 header-small l k xs w =

@@ -15,7 +15,7 @@ use Rattle.sheet_format.specs.declared.WriteResult.{WriteResult}
 use Rattle.sheet_format.specs.declared.WriteResult.the-variants.{Wrote, Refuses}
 use Rattle.sheet_format.specs.Layout.{Instr, op, barrier}
 use Rattle.sheet_format.specs.declared.Level.{Level}
-use Rattle.sheet_format.specs.declared.Level.the-variants.{Level0, Level1, Level2}
+use Rattle.sheet_format.specs.declared.Level.the-variants.{Level0, Level1, Level2, Level3}
 use Rattle.sheet_format.specs.Levels.{sheetLanes}
 
 -- little-endian, of 16 and of 32 bits
@@ -38,7 +38,7 @@ opBytes (Lock l) = row 5 0 l 0
 opBytes (Unlock l) = row 6 0 l 0
 opBytes (Skip a t) = row 7 a 0 t
 
--- level 2 writes 14, SL, as 15, MFENCE
+-- level 2 writes 14, SL, as 15, MFENCE; level 3 writes 13 and 14 as level 1 does
 abbrev pub barrierCode : Level → Barrier → ℕ
 barrierCode Level0 b = codeOf b
 barrierCode Level1 b = codeOf b
@@ -46,6 +46,7 @@ barrierCode Level2 LL = 11
 barrierCode Level2 LS = 12
 barrierCode Level2 SS = 13
 barrierCode Level2 SL = 15
+barrierCode Level3 b = codeOf b
 
 abbrev pub instrBytes : Level → Instr → List ℕ
 instrBytes l (op o) = opBytes o
@@ -62,12 +63,14 @@ abbrev pub levelNumber : Level → ℕ
 levelNumber Level0 = 0
 levelNumber Level1 = 1
 levelNumber Level2 = 2
+levelNumber Level3 = 3
 
--- the mask is zero at level 2
+-- the mask is zero at the levels of the targets
 abbrev pub maskAt : Level → Program → ℕ
 maskAt Level0 k = k .mask
 maskAt Level1 k = k .mask
 maskAt Level2 k = 0
+maskAt Level3 k = 0
 
 -- a lane's instruction count in two bytes, zero for lanes that are not there
 abbrev pub countBytes : List (List Instr) → ℕ → List ℕ
@@ -107,3 +110,6 @@ lower1 s = lowerBy Level1 (verdict s)
 
 abbrev pub lower2 : List ℕ → List ℕ → WriteResult × List ℕ
 lower2 s = lowerBy Level2 (verdict s)
+
+abbrev pub lower3 : List ℕ → List ℕ → WriteResult × List ℕ
+lower3 s = lowerBy Level3 (verdict s)

@@ -5,7 +5,7 @@ use mathlib.Core.List.{List, [], _∷_}
 use mathlib.Core.Logic.{_⊎_}
 use lib.ListN.{getD, drop}
 use Rattle.sheet_format.specs.declared.Level.{Level}
-use Rattle.sheet_format.specs.declared.Level.the-variants.{Level0, Level1, Level2}
+use Rattle.sheet_format.specs.declared.Level.the-variants.{Level0, Level1, Level2, Level3}
 use Rattle.sheet_format.specs.Read.{pastRows, counts}
 
 -- the first byte of each of n rows of 8 bytes
@@ -22,11 +22,12 @@ laneCodes (n ∷ ns) b = rowCodes n b ∷ laneCodes ns (pastRows n b)
 unfoldable pub codesIn : List ℕ → List (List ℕ)
 codesIn b = laneCodes (counts b) (drop 16 b)
 
--- none at level 0; 11 LL, 12 LS, 13 SS, 14 SL; at level 2 just 15 MFENCE
+-- none at level 0; 11 LL, 12 LS, 13 SS, 14 SL; at level 2 just 15 MFENCE, at level 3 13 and 14
 abbrev pub BarrierCode : Level → ℕ → Type 0
 BarrierCode Level0 c = ⊥
 BarrierCode Level1 c = (11 ≤ c) × (c ≤ 14)
 BarrierCode Level2 c = c ≡ 15
+BarrierCode Level3 c = (13 ≤ c) × (c ≤ 14)
 
 -- an operation, 1 to 7, or a barrier of the level
 abbrev pub Code : Level → ℕ → Type 0

@@ -1,4 +1,4 @@
--- Small lanes and their parts of both sheets, and the bytes of a small sheet at each level, by computation.
+-- Small lanes and their parts of the sheets, and the bytes of a small sheet at each level, by computation.
 use Prim.Native.Nat.{ℕ}
 use mathlib.Core.Path.{_≡_, refl}
 use mathlib.Core.Bool.{Bool, true, false}
@@ -10,7 +10,7 @@ use Rattle.file_format.specs.Accepted.{Program}
 use Rattle.barrier_placement.specs.declared.cookbook.Barrier.the-variants.{LL, LS, SS, SL}
 use Rattle.barrier_placement.specs.Place.{stands, due, dueAfter}
 use Rattle.sheet_format.specs.Layout.{Instr, op, barrier, sheet}
-use Rattle.sheet_format.specs.declared.Level.the-variants.{Level0, Level1, Level2}
+use Rattle.sheet_format.specs.declared.Level.the-variants.{Level0, Level1, Level2, Level3}
 use Rattle.sheet_format.specs.Levels.{drains, placed, sheetLanes}
 use Rattle.sheet_format.specs.declared.WriteResult.the-variants.{Wrote, Refuses}
 use Rattle.sheet_format.specs.Bytes.{sheetBytes, writeInto}
@@ -20,14 +20,20 @@ use Rattle.sheet_format.specs.Read.{readSheet}
 abbrev vol : ℕ → Bool
 vol x = eqb x 1
 
--- a lane, and its parts of the sheets of level 1 and level 2
+-- a lane, and its parts of the sheets of levels 1, 2 and 3
 record Example : Type 0 where
   lane : List Op
   first : List Instr
   second : List Instr
+  third : List Instr
 
-abbrev lowerBoth : List Op → Example
-lowerBoth os = record { lane = os; first = sheet (placed Level1 vol os); second = sheet (placed Level2 vol os) }
+abbrev lowered : List Op → Example
+lowered os = record {
+  lane = os;
+  first = sheet (placed Level1 vol os);
+  second = sheet (placed Level2 vol os);
+  third = sheet (placed Level3 vol os);
+}
 
 examples : List Example
 examples =
@@ -36,16 +42,19 @@ examples =
       lane = Store 0 1 ∷ Store 0 0 ∷ Load 0 1 ∷ [];
       first = op (Store 0 1) ∷ op (Store 0 0) ∷ barrier SL ∷ op (Load 0 1) ∷ [];
       second = op (Store 0 1) ∷ op (Store 0 0) ∷ barrier SL ∷ op (Load 0 1) ∷ [];
+      third = op (Store 0 1) ∷ op (Store 0 0) ∷ barrier SL ∷ op (Load 0 1) ∷ [];
     })
     ∷
-    -- level 2 drops what is not SL
+    -- level 2 drops what is not SL; level 3 keeps SS too
     (record {
       lane = Store 0 0 ∷ Store 0 1 ∷ [];
       first = op (Store 0 0) ∷ barrier SS ∷ op (Store 0 1) ∷ [];
       second = op (Store 0 0) ∷ op (Store 0 1) ∷ [];
+      third = op (Store 0 0) ∷ barrier SS ∷ op (Store 0 1) ∷ [];
     })
     ∷
-    -- several before one operation stand in the order LL, LS, SS, SL; level 2 has none: the one SL is before a LOCK
+    -- several before one operation stand in the order LL, LS, SS, SL; level 2 has none: the one SL is before a LOCK;
+    -- level 3 has the SS alone
     (record {
       lane = Lock 0 ∷ Unlock 0 ∷ Lock 0 ∷ Unlock 0 ∷ [];
       first =
@@ -53,6 +62,7 @@ examples =
           ∷ barrier LL ∷ barrier SL ∷ op (Lock 0)
           ∷ barrier LS ∷ barrier SS ∷ op (Unlock 0) ∷ [];
       second = op (Lock 0) ∷ op (Unlock 0) ∷ op (Lock 0) ∷ op (Unlock 0) ∷ [];
+      third = op (Lock 0) ∷ op (Unlock 0) ∷ op (Lock 0) ∷ barrier SS ∷ op (Unlock 0) ∷ [];
     })
     ∷
     -- SL before the LOCK parts the volatile store from the load as well: level 2 has nothing before either
@@ -62,6 +72,7 @@ examples =
           op (Store 0 1) ∷ barrier SL ∷ op (Lock 0) ∷ barrier LL ∷ op (Load 0 1)
           ∷ barrier LS ∷ barrier SS ∷ op (Unlock 0) ∷ [];
       second = op (Store 0 1) ∷ op (Lock 0) ∷ op (Load 0 1) ∷ op (Unlock 0) ∷ [];
+      third = op (Store 0 1) ∷ op (Lock 0) ∷ op (Load 0 1) ∷ barrier SS ∷ op (Unlock 0) ∷ [];
     })
     ∷
     -- a volatile store and load behind the LOCK are parted as without it
@@ -71,9 +82,10 @@ examples =
           op (Lock 0) ∷ barrier LS ∷ op (Store 0 1) ∷ barrier LL ∷ barrier SL ∷ op (Load 0 1)
           ∷ barrier LS ∷ barrier SS ∷ op (Unlock 0) ∷ [];
       second = op (Lock 0) ∷ op (Store 0 1) ∷ barrier SL ∷ op (Load 0 1) ∷ op (Unlock 0) ∷ [];
+      third = op (Lock 0) ∷ op (Store 0 1) ∷ barrier SL ∷ op (Load 0 1) ∷ barrier SS ∷ op (Unlock 0) ∷ [];
     })
     ∷
-    -- a SKIP to a LOCK lands on its first barrier, and at level 2 on the LOCK itself
+    -- a SKIP to a LOCK lands on its first barrier, and at levels 2 and 3 on the LOCK itself
     (record {
       lane = Store 0 1 ∷ Skip 0 3 ∷ Load 0 1 ∷ Lock 0 ∷ Unlock 0 ∷ [];
       first =
@@ -81,6 +93,9 @@ examples =
           ∷ barrier LL ∷ barrier SL ∷ op (Lock 0) ∷ barrier LS ∷ barrier SS ∷ op (Unlock 0) ∷ [];
       second =
           op (Store 0 1) ∷ op (Skip 0 4) ∷ barrier SL ∷ op (Load 0 1) ∷ op (Lock 0) ∷ op (Unlock 0) ∷ [];
+      third =
+          op (Store 0 1) ∷ op (Skip 0 4) ∷ barrier SL ∷ op (Load 0 1) ∷ op (Lock 0)
+          ∷ barrier SS ∷ op (Unlock 0) ∷ [];
     })
     ∷
     -- positions behind a LOCK are counted without the barrier that level 2 leaves out
@@ -92,6 +107,9 @@ examples =
       second =
           op (Store 0 1) ∷ op (Lock 0) ∷ op (Unlock 0) ∷ op (Skip 0 5) ∷ op (Set 0 1)
           ∷ barrier SL ∷ op (Load 0 1) ∷ [];
+      third =
+          op (Store 0 1) ∷ op (Lock 0) ∷ barrier SS ∷ op (Unlock 0) ∷ op (Skip 0 6) ∷ op (Set 0 1)
+          ∷ barrier SL ∷ op (Load 0 1) ∷ [];
     })
     ∷
     -- a barrier on one side of a SKIP does not cover the other, and the SKIP lands on its target's first barrier
@@ -101,6 +119,7 @@ examples =
           op (Store 0 1) ∷ op (Skip 0 4) ∷ barrier SL ∷ op (Load 0 1)
           ∷ barrier LL ∷ barrier SL ∷ op (Load 0 1) ∷ [];
       second = op (Store 0 1) ∷ op (Skip 0 4) ∷ barrier SL ∷ op (Load 0 1) ∷ barrier SL ∷ op (Load 0 1) ∷ [];
+      third = op (Store 0 1) ∷ op (Skip 0 4) ∷ barrier SL ∷ op (Load 0 1) ∷ barrier SL ∷ op (Load 0 1) ∷ [];
     })
     ∷
     -- a SKIP to the end: the end is the count
@@ -108,11 +127,12 @@ examples =
       lane = Store 0 1 ∷ Skip 0 3 ∷ Load 0 1 ∷ [];
       first = op (Store 0 1) ∷ op (Skip 0 4) ∷ barrier SL ∷ op (Load 0 1) ∷ [];
       second = op (Store 0 1) ∷ op (Skip 0 4) ∷ barrier SL ∷ op (Load 0 1) ∷ [];
+      third = op (Store 0 1) ∷ op (Skip 0 4) ∷ barrier SL ∷ op (Load 0 1) ∷ [];
     })
     ∷
     []
 
-examples-hold : map (λ (e : Example). lowerBoth (e .lane)) examples ≡ examples
+examples-hold : map (λ (e : Example). lowered (e .lane)) examples ≡ examples
 unfolding examples stands due dueAfter
 examples-hold = refl
 
@@ -157,9 +177,37 @@ second =
     ∷ 3 ∷ 4 ∷ 1 ∷ 0 ∷ 0 ∷ 0 ∷ 0 ∷ 0
     ∷ 1 ∷ 5 ∷ 0 ∷ 0 ∷ 2 ∷ 1 ∷ 0 ∷ 0 ∷ []
 
-bytes-hold : map (λ l. sheetBytes l kernel) (Level0 ∷ Level1 ∷ Level2 ∷ []) ≡ bare ∷ first ∷ second ∷ []
+-- level 3 has no mask, and 14
+abbrev third : List ℕ
+third =
+    2 ∷ 2 ∷ 0 ∷ 3 ∷ 0 ∷ 0 ∷ 0 ∷ 0 ∷ 3 ∷ 0 ∷ 1 ∷ 0 ∷ 0 ∷ 0 ∷ 0 ∷ 0
+    ∷ 4 ∷ 3 ∷ 1 ∷ 0 ∷ 0 ∷ 0 ∷ 0 ∷ 0
+    ∷ 14 ∷ 0 ∷ 0 ∷ 0 ∷ 0 ∷ 0 ∷ 0 ∷ 0
+    ∷ 3 ∷ 4 ∷ 1 ∷ 0 ∷ 0 ∷ 0 ∷ 0 ∷ 0
+    ∷ 1 ∷ 5 ∷ 0 ∷ 0 ∷ 2 ∷ 1 ∷ 0 ∷ 0 ∷ []
+
+bytes-hold :
+    map (λ l. sheetBytes l kernel) (Level0 ∷ Level1 ∷ Level2 ∷ Level3 ∷ []) ≡ bare ∷ first ∷ second ∷ third ∷ []
 unfolding sheetBytes stands due dueAfter
 bytes-hold = refl
+
+-- and 13 between a plain store and a volatile one
+abbrev stores : Program
+stores = record {
+  locations = 2;
+  locks = 0;
+  mask = 2;
+  records = (1 ∷ 2 ∷ []) ∷ [];
+  lanes = (Store 3 0 ∷ Store 4 1 ∷ []) ∷ [];
+}
+
+stores-hold : sheetBytes Level3 stores
+    ≡ 1 ∷ 2 ∷ 0 ∷ 3 ∷ 0 ∷ 0 ∷ 0 ∷ 0 ∷ 3 ∷ 0 ∷ 0 ∷ 0 ∷ 0 ∷ 0 ∷ 0 ∷ 0
+    ∷ 4 ∷ 3 ∷ 0 ∷ 0 ∷ 0 ∷ 0 ∷ 0 ∷ 0
+    ∷ 13 ∷ 0 ∷ 0 ∷ 0 ∷ 0 ∷ 0 ∷ 0 ∷ 0
+    ∷ 4 ∷ 4 ∷ 1 ∷ 0 ∷ 0 ∷ 0 ∷ 0 ∷ 0 ∷ []
+unfolding sheetBytes stands due dueAfter
+stores-hold = refl
 
 read-holds : readSheet second ≡ sheetLanes Level2 kernel
 unfolding readSheet stands due dueAfter

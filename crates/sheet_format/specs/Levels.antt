@@ -12,10 +12,10 @@ use Rattle.barrier_placement.specs.Steps.{steps}
 use Rattle.barrier_placement.specs.Place.{stands, chosen}
 use Rattle.barrier_placement.specs.Layout.{Placed}
 use Rattle.sheet_format.specs.declared.Level.{Level}
-use Rattle.sheet_format.specs.declared.Level.the-variants.{Level0, Level1, Level2}
+use Rattle.sheet_format.specs.declared.Level.the-variants.{Level0, Level1, Level2, Level3}
 use Rattle.sheet_format.specs.Layout.{Instr, sheet}
 
--- LOCK: a chip carries it out only with nothing of its lane pending, so that it drains by itself
+-- LOCK: a target carries it out only with nothing of its lane pending, so that it drains by itself
 abbrev pub drains : Op → Bool
 drains (Set a c) = false
 drains (Add a b) = false
@@ -25,8 +25,8 @@ drains (Lock l) = true
 drains (Unlock l) = false
 drains (Skip a t) = false
 
--- Does the level keep a barrier that stands before this operation? Level 0 drops all of them. Level 2 drops 11 to 13,
--- that is, all but SL, and SL before a LOCK.
+-- Does the level keep a barrier that stands before this operation? Level 0 drops all of them. The levels of the targets
+-- keep the store-load barrier, SL, but not before a LOCK; level 3 keeps SS as well. They drop all else.
 abbrev pub keeps : Level → Op → Barrier → Bool
 keeps Level0 o b = false
 keeps Level1 o b = true
@@ -34,13 +34,18 @@ keeps Level2 o LL = false
 keeps Level2 o LS = false
 keeps Level2 o SS = false
 keeps Level2 o SL = not (drains o)
+keeps Level3 o LL = false
+keeps Level3 o LS = false
+keeps Level3 o SS = true
+keeps Level3 o SL = not (drains o)
 
 -- How many instructions an operation makes at most, with its barriers. At level 1 two can stand before an access: one
--- of LL and LS, and one of SS and SL, each of the access's kind; level 2 keeps at most one.
+-- of LL and LS, and one of SS and SL, each of the access's kind; levels 2 and 3 keep at most one of them.
 abbrev pub widest : Level → ℕ
 widest Level0 = 1
 widest Level1 = 3
 widest Level2 = 2
+widest Level3 = 2
 
 -- the operations from position p of a chain on, each with the barriers before it that the level keeps
 abbrev pub placeFrom : Level → Chain → ℕ → List Op → List (Placed Op)

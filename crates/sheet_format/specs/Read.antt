@@ -1,4 +1,4 @@
--- The instructions that the bytes of a sheet stand for: what the tso machine carries out.
+-- The instructions that the bytes of a sheet stand for: what a target carries out.
 use Prim.Native.Nat.{ℕ, zero, suc}
 use mathlib.Core.Bool.{cond}
 use mathlib.Core.List.{List, [], _∷_}
@@ -10,7 +10,7 @@ use Rattle.barrier_placement.specs.declared.cookbook.Barrier.{Barrier}
 use Rattle.barrier_placement.specs.declared.cookbook.Barrier.the-variants.{LL, LS, SS, SL}
 use Rattle.sheet_format.specs.Layout.{Instr, op, barrier}
 
--- the barrier of a code that is no operation's; 14 at level 1 and 15 at level 2 are both SL
+-- the barrier of a code that is no operation's; 14 at levels 1 and 3 and 15 at level 2 are both SL
 abbrev pub barrierBy : ℕ → Barrier
 barrierBy o = cond (eqb o 11) LL (cond (eqb o 12) LS (cond (eqb o 13) SS SL))
 

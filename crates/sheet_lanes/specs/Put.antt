@@ -1,5 +1,5 @@
 -- A lane's operations one after the other as the code writes them, from the lane's rows and its plan.
-use Prim.Native.Nat.{ℕ, _+_, _*_, _≤_, _<_}
+use Prim.Native.Nat.{ℕ, _+_, _*_, _/_, _%_, _^_, _≤_, _<_}
 use mathlib.Core.Path.{_≡_}
 use mathlib.Core.Bool.{Bool, false, _&&_, cond}
 use mathlib.Core.List.{List, [], _++_}
@@ -7,11 +7,10 @@ use lib.Dec.{eqb}
 use lib.ListN.{length, getD, take, drop}
 use lib.Seq.{sets}
 use Rattle.file_format.specs.Fields.{byte}
-use Rattle.barrier_placement.specs.declared.cookbook.Barrier.the-variants.{SL}
+use Rattle.barrier_placement.specs.declared.cookbook.Barrier.the-variants.{LL, LS, SS, SL}
 use Rattle.barrier_placement.specs.Placed.{bit}
 use Rattle.sheet_format.specs.declared.Level.{Level}
-use Rattle.sheet_format.specs.declared.Level.the-variants.{Level0, Level1, Level2}
-use Rattle.sheet_format.specs.Bytes.{quadBytes, row}
+use Rattle.sheet_format.specs.Bytes.{quadBytes, row, barrierCode}
 use Rattle.sheet_format.specs.Put.{inTurn}
 use Rattle.barrier_pass.specs.Plan.{keptIn, beginIn}
 
@@ -23,12 +22,23 @@ beginning l plan p = beginIn l (getD plan p 0) p
 abbrev pub rowIf : Bool → ℕ → List ℕ
 rowIf b code = cond b (row code 0 0 0) []
 
--- the rows of a plan's set of barriers at a level: none at level 0, all at level 1, at level 2 MFENCE for the SL that
--- it keeps
+-- the rows of the barriers of a plan's set that a level keeps, with its codes: LL and LS, then SS and SL
+abbrev pub loadRows : Level → ℕ → List ℕ
+loadRows l x = rowIf (keptIn l x LL) (barrierCode l LL) ++ rowIf (keptIn l x LS) (barrierCode l LS)
+
+abbrev pub storeRows : Level → ℕ → List ℕ
+storeRows l x = rowIf (keptIn l x SS) (barrierCode l SS) ++ rowIf (keptIn l x SL) (barrierCode l SL)
+
 abbrev pub barrierRows : Level → ℕ → List ℕ
-barrierRows Level0 x = []
-barrierRows Level1 x = (rowIf (bit x 0) 11 ++ rowIf (bit x 1) 12) ++ (rowIf (bit x 2) 13 ++ rowIf (bit x 3) 14)
-barrierRows Level2 x = rowIf (keptIn Level2 x SL) 15
+barrierRows l x = loadRows l x ++ storeRows l x
+
+-- the code of the SS or the SL of them, 0 where neither stands
+abbrev pub storeCode : Level → ℕ → ℕ
+storeCode l x = cond (keptIn l x SS) (barrierCode l SS) (cond (keptIn l x SL) (barrierCode l SL) 0)
+
+-- these codes for each set of SS, SL and bit 4, a byte each
+pub record CodesOf (l : Level) (codes : ℕ) : Type 0 where
+  pub each : (y : ℕ) → y < 8 → codes / 2 ^ (8 * y) % 256 ≡ storeCode l (4 * y)
 
 -- of LL and LS at most one is in a set, and of SS and SL
 abbrev pub Single : ℕ → Type 0

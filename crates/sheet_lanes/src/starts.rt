@@ -1,29 +1,32 @@
 // What a lane's plan says of a position.
 ghost use mathlib.Core.Path.{_≡_};
-ghost use Prim.Native.Nat.{_<_};
 ghost use lib.ListN.{getD};
-ghost use Rattle.barrier_placement.specs.declared.cookbook.Barrier.the-variants.{SL};
-ghost use Rattle.sheet_format.specs.declared.Level.the-variants.{Level2};
-ghost use Rattle.barrier_pass.specs.Plan.{keptIn, beginIn};
+ghost use lib.Dec.{eqb};
+ghost use Rattle.sheet_format.specs.Bytes.{levelNumber};
+ghost use Rattle.barrier_pass.specs.Plan.{beginIn};
 ghost use Rattle.sheet_lanes.specs.Put.{beginning};
 use sheet_format::Level;
 use sheet_rows::number::wide;
 
-// Whether level 2 keeps SL of a plan's set: bit 3 is set, and bit 4 is not.
-pub(crate) fn has_fence(set: u32) -> bool
-    ensures { λ r. ⌜ r ≡ keptIn Level2 set SL ⌝ }
+// Level 3: its bits in a plan's number stand eight above those of level 2.
+fn is_third(level: Level) -> bool
+    ensures { λ r. ⌜ r ≡ eqb (levelNumber level) 3 ⌝ }
 {
-    set / 8 % 4 == 1
+    match level {
+        Level::Level3 => true,
+        Level::Level0 | Level::Level1 | Level::Level2 => false,
+    }
 }
 
-// Where position p begins at a level, of its number in the plan.
+// Where position p begins at a level, of its number in the plan. Levels 2 and 3 in one: of four arms the compiler makes
+// a jump by a table, which is slower.
 pub fn begin_in(level: Level, x: u32, p: usize) -> usize
     ensures { λ r. ⌜ r ≡ beginIn level x p ⌝ }
 {
     match level {
         Level::Level0 => p,
         Level::Level1 => wide((x >> 5) % 256),
-        Level::Level2 => wide((x >> 13) % 256),
+        Level::Level2 | Level::Level3 => wide((x >> (13 + 8 * (is_third(level) as u32))) % 256),
     }
 }
 

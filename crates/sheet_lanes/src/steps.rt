@@ -5,22 +5,17 @@ ghost use lib.ListN.{length, getD, drop};
 ghost use lib.Seq.{sets};
 ghost use Rattle.sheet_format.specs.Bytes.{row};
 ghost use Rattle.sheet_format.specs.Put.{Puts};
-ghost use Rattle.sheet_format.specs.declared.Level.the-variants.{Level1};
-ghost use Rattle.sheet_lanes.specs.Put.{rowIf, Begins, Single, barrierRows, ownRow, stepRows};
+ghost use Rattle.sheet_lanes.specs.Put.{rowIf, Begins, Single, CodesOf, loadRows};
+ghost use Rattle.sheet_lanes.specs.Put.{barrierRows, ownRow, stepRows};
 use crate::starts::beginning;
-use crate::starts::has_fence;
 use file_format::fields::wide;
 use sheet_format::Level;
 use sheet_rows::put::copy_eight;
 use sheet_rows::put::put_quad;
 use sheet_rows::put::store_row;
 
-// The codes of the barriers. LS is the one behind LL, and SL the one behind SS.
+// The code of LL. LS is the one behind it.
 const LL: u8 = 11;
-
-const SS: u8 = 13;
-
-const MFENCE: u8 = 15;
 
 // Writes a barrier's row from `at` on; the position behind it where it stands, else `at`, and what follows is written
 // over it: faster than a test, which could not be predicted.
@@ -33,27 +28,27 @@ fn put_barrier(out: &mut [u8], at: usize, stands: bool, code: u8) -> usize
     at + 8 * (stands as usize)
 }
 
-// Writes the barriers of a plan's set from `at` on, LL or LS and then SS or SL; the position behind them.
-fn put_pair(out: &mut [u8], at: usize, set: u32) -> usize
-    requires { ⌜ Single set × (at + length (barrierRows Level1 set) + 8 ≤ length (now out)) ⌝ }
-    ensures { λ r. ⌜ Begins (now (out .entry)) at (barrierRows Level1 set) (now (out .exit)) r ⌝ }
+// Writes the LL or LS of a plan's set from `at` on, which level 1 alone keeps; the position behind it.
+fn put_loads(level: Level, out: &mut [u8], at: usize, set: u32) -> usize
+    requires { ⌜ Single set × (at + 8 ≤ length (now out)) ⌝ }
+    ensures { λ r. ⌜ Begins (now (out .entry)) at (loadRows level set) (now (out .exit)) r ⌝ }
 {
     let loads = set % 4;
-    let stores = set / 4 % 4;
-    let behind = put_barrier(out, at, loads != 0, LL + (loads / 2) as u8);
-    put_barrier(out, behind, stores != 0, SS + (stores / 2) as u8)
+    match level {
+        Level::Level1 => put_barrier(out, at, loads != 0, LL + (loads / 2) as u8),
+        Level::Level0 | Level::Level2 | Level::Level3 => at,
+    }
 }
 
-// Writes those barriers of a plan's set that the level keeps from `at` on; the position behind them.
-fn put_barriers(level: Level, out: &mut [u8], at: usize, set: u32) -> usize
-    requires { ⌜ Single set × (at + length (barrierRows level set) + 8 ≤ length (now out)) ⌝ }
+// Writes those barriers of a plan's set that the level keeps from `at` on, LL or LS and then SS or SL; the position
+// behind them.
+fn put_barriers(level: Level, codes: u64, out: &mut [u8], at: usize, set: u32) -> usize
+    requires { ⌜ Single set × (at + length (barrierRows level set) + 8 ≤ length (now out)) × CodesOf level codes ⌝ }
     ensures { λ r. ⌜ Begins (now (out .entry)) at (barrierRows level set) (now (out .exit)) r ⌝ }
 {
-    match level {
-        Level::Level0 => at,
-        Level::Level1 => put_pair(out, at, set),
-        Level::Level2 => put_barrier(out, at, has_fence(set), MFENCE),
-    }
+    let behind = put_loads(level, out, at, set);
+    let code = ((codes >> (8 * (set / 4 % 8))) % 256) as u8;
+    put_barrier(out, behind, code != 0, code)
 }
 
 // Writes an operation's row from `at` on, a SKIP's aimed at where its target begins in the sheet. The row is copied
@@ -72,18 +67,20 @@ fn put_own(level: Level, out: &mut [u8], at: usize, rows: &[u8], from: usize, pl
 // Writes row p from `at` on, behind the barriers that stand before it; the position behind it.
 pub(crate) fn put_step(
     level: Level,
+    codes: u64,
     out: &mut [u8],
     at: usize,
     rows: &[u8],
     p: usize,
     plan: &[u32],
 ) -> usize
-    requires { ⌜ (8 * p + 8 ≤ length (now rows)) × (p < length (now plan)) × Single (getD (now plan) p 0) ⌝ }
+    requires { ⌜ (8 * p + 8 ≤ length (now rows)) × (p < length (now plan)) × Single (getD (now plan) p 0)
+        × CodesOf level codes ⌝ }
     requires { ⌜ at + length (stepRows level (now plan) (now rows) p) ≤ length (now out) ⌝ }
     ensures { λ r. ⌜ Puts (now (out .entry)) at (stepRows level (now (plan .entry)) (now (rows .entry)) p)
         (now (out .exit)) r ⌝ }
 {
-    let behind = put_barriers(level, out, at, plan[p]);
+    let behind = put_barriers(level, codes, out, at, plan[p]);
     put_own(level, out, behind, rows, 8 * p, plan);
     behind + 8
 }

@@ -5,8 +5,9 @@ ghost use lib.ListN.{length, drop};
 ghost use lib.Seq.{sets};
 ghost use Rattle.sheet_format.specs.Put.{Puts, inTurn};
 ghost use Rattle.sheet_rows.specs.Rows.{partsIn};
-ghost use Rattle.sheet_lanes.specs.Put.{laneRows, SingleTo};
+ghost use Rattle.sheet_lanes.specs.Put.{CodesOf, laneRows, SingleTo};
 ghost use Rattle.sheet_lanes.specs.Rows.{Short, planFrom, SingleIn, laneText};
+use crate::codes::codes_of;
 use crate::lane::write_lane;
 use sheet_format::Level;
 use sheet_rows::parts::Parts;
@@ -15,6 +16,7 @@ use sheet_rows::parts::Parts;
 // behind it.
 fn put_lane(
     level: Level,
+    codes: u64,
     out: &mut [u8],
     at: usize,
     rows: &[u8],
@@ -23,13 +25,21 @@ fn put_lane(
     plan: &[u32],
     place: usize,
 ) -> usize
-    requires { ⌜ (first + 8 * n ≤ length (now rows)) × (place + n ≤ length (now plan)) ⌝ }
+    requires { ⌜ (first + 8 * n ≤ length (now rows)) × (place + n ≤ length (now plan)) × CodesOf level codes ⌝ }
     requires { ⌜ SingleTo (drop place (now plan)) n ⌝ }
     requires { ⌜ at + length (laneRows level (drop place (now plan)) (drop first (now rows)) n) ≤ length (now out) ⌝ }
     ensures { λ r. ⌜ Puts (now (out .entry)) at
         (laneRows level (drop place (now (plan .entry))) (drop first (now (rows .entry))) n) (now (out .exit)) r ⌝ }
 {
-    at + write_lane(level, &mut out[at..], &rows[first..], n, &plan[place..])
+    let wrote = write_lane(
+        level,
+        codes,
+        &mut out[at..],
+        &rows[first..],
+        n,
+        &plan[place..],
+    );
+    at + wrote
 }
 
 // Writes the four lanes by their plans behind the header.
@@ -40,13 +50,14 @@ pub fn write_lanes(level: Level, out: &mut [u8], rows: &[u8], parts: Parts, plan
     ensures { λ r. ⌜ now (out .exit) ≡ sets (now (out .entry)) 16
         (inTurn (laneText level (now (rows .entry)) (now (plan .entry))) 4) ⌝ }
 {
+    let codes = codes_of(level);
     let from = parts.from;
     let count = parts.count;
     let mut at = 16;
     let mut place = 0;
     let mut t = 0;
     while t < 4 {
-        at = put_lane(level, out, at, rows, from[t], count[t], plan, place);
+        at = put_lane(level, codes, out, at, rows, from[t], count[t], plan, place);
         place = place + count[t] + 1;
         t += 1;
     }

@@ -7,7 +7,7 @@ ghost use Rattle.file_format.specs.Structured.{Fielded};
 ghost use Rattle.file_format.specs.Accepted.{programOf};
 ghost use Rattle.file_verdict.specs.Verdict.{verdict, accepted};
 ghost use Rattle.file_accept.specs.Order.{laneOrder};
-ghost use Rattle.sheet_format.specs.Bytes.{lowerBy, lower1 as lowered1, lower2 as lowered2};
+ghost use Rattle.sheet_format.specs.Bytes.{lowerBy, lower1 as lowered1, lower2 as lowered2, lower3 as lowered3};
 use crate::whole::write_sheet;
 use file_accept::accept::field_refusal;
 use file_accept::accept::linked_refusal;
@@ -148,4 +148,11 @@ pub fn lower2(file: &[u8], out: &mut [u8]) -> WriteResult
     ensures { λ r. ⌜ (r, now (out .exit)) ≡ lowered2 (now (file .entry)) (now (out .entry)) ⌝ }
 {
     lower(Level::Level2, file, out)
+}
+
+// The level 3 sheet, likewise.
+pub fn lower3(file: &[u8], out: &mut [u8]) -> WriteResult
+    ensures { λ r. ⌜ (r, now (out .exit)) ≡ lowered3 (now (file .entry)) (now (out .entry)) ⌝ }
+{
+    lower(Level::Level3, file, out)
 }

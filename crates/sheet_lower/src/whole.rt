@@ -26,6 +26,7 @@ fn level_number(level: Level) -> u8
         Level::Level0 => 0,
         Level::Level1 => 1,
         Level::Level2 => 2,
+        Level::Level3 => 3,
     }
 }
 
@@ -37,6 +38,7 @@ fn mask_at(level: Level, mask: u16) -> u16
         Level::Level0 => mask,
         Level::Level1 => mask,
         Level::Level2 => 0,
+        Level::Level3 => 0,
     }
 }
 

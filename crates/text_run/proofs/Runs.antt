@@ -1,4 +1,4 @@
--- What is told of the runs of an accepted kernel file, on either machine: theorems `line-told` and `end-told`.
+-- What is told of the runs of an accepted kernel file, on each machine: theorems `line-told` and `end-told`.
 use Prim.Native.Nat.{ℕ, _+_, _*_, _^_, _<_}
 use mathlib.Core.Path.{_≡_, refl, sym, ap, subst₂, _∙_}
 use mathlib.Core.Bool.{Bool, true}
@@ -96,7 +96,7 @@ module _ (s : List ℕ) (k : Program) (v : verdict s ≡ accepted k) (m : Machin
 
   pub line-told : (mvs : List Move) (mv : Move) → lets (mvs ++ (mv ∷ [])) ≡ true → length mvs + 1 < 2 ^ 32
       → (rows : List ℕ) → RowsOf rows prog (mv .lane) → (n : ℕ)
-      → moveLine rows (stateBytes (answerBy m s mvs)) (stateBytes (answerBy m s (mvs ++ (mv ∷ [])))) n (mv .lane)
+      → moveLine m rows (stateBytes (answerBy m s mvs)) (stateBytes (answerBy m s (mvs ++ (mv ∷ [])))) n (mv .lane)
       (mv .choice)
       ≡ moveTold m (volatileIn k) prog (answerBy m s mvs .state) n mv
   line-told mvs mv le few rows own n =
@@ -116,7 +116,7 @@ module _ (s : List ℕ) (k : Program) (v : verdict s ≡ accepted k) (m : Machin
       } in
       let moved : advance m (volatileIn k) prog (ran (came mvs (both .0) .0)) mv ≡ ran (came after le .0) =
       sym (rw (foldl-append, came mvs (both .0) .1) refl) ∙ came after le .1 in
-      (λ i. moveLine rows (stateBytes (before i)) (stateBytes (then i)) n (mv .lane) (mv .choice))
+      (λ i. moveLine m rows (stateBytes (before i)) (stateBytes (then i)) n (mv .lane) (mv .choice))
       ∙ move-told m (volatileIn k) prog (k .records) (startOf k) rows n mv (came mvs (both .0) .0) (came after le .0)
       (subst₂ (Tells rows prog (mv .lane)) before then tells) moved
       ∙ sym (ap (λ (a : Answer). moveTold m (volatileIn k) prog (a .state) n mv) before)

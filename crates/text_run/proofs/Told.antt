@@ -15,7 +15,7 @@ use Rattle.text_put.specs.Decimal.{decimal}
 use Rattle.text_put.specs.Words.{space, newline, named}
 use Rattle.text_run.specs.Words.{laneStart, positionWord, registersWord, pendingWord}
 use Rattle.text_run.specs.Words.{doneCount, waitedCount, finishedYes, finishedNo, memoryWord, locksWord}
-use Rattle.text_run.specs.Lanes.{numbersLine, entryText, pendingLine, laneText}
+use Rattle.text_run.specs.Lanes.{numbersLine, entryText, markText, pendingLine, laneText}
 use Rattle.text_run.specs.States.{textBy, stateText, answerText}
 
 numbers-same : (w : List ℕ) (f g : ℕ → ℕ) (n : ℕ) → ((i : ℕ) → i < n → f i ≡ g i)
@@ -35,7 +35,8 @@ module _ {f g : Fields} (same : Same f g) where
       (numbers-same registersWord (f .register t) (g .register t) 8 (λ r l. same .register t r h l)))
       (ap (inTurn (pendingLine f t)) (same .count t h)
       ∙ turn-same (pendingLine f t) (pendingLine g t) (g .count t)
-      (λ i l. ap (λ e. named laneStart t ++ pendingWord ++ entryText e ++ newline ∷ []) (same .entry t i h l)))
+      (λ i l. ap₂ (λ e b. named laneStart t ++ pendingWord ++ entryText e ++ newline ∷ [] ++ markText b t)
+      (same .entry t i h l) (same .mark t i h l)))
 
   text-same : (n ls ks : ℕ) → n ≤ 4 → ls ≤ 16 → ks ≤ 4 → textBy f n ls ks ≡ textBy g n ls ks
   unfolding textBy

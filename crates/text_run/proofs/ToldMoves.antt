@@ -30,9 +30,9 @@ use Rattle.machine_record.proofs.ReadBack.{read-back}
 use Rattle.sheet_rows.specs.Rows.{partsIn}
 use Rattle.text_put.specs.Decimal.{decimal}
 use Rattle.text_put.specs.Words.{newline, named}
-use Rattle.text_listing.specs.Line.{instrText}
 use Rattle.text_run.specs.Words.{laneWord, choiceWord, waitedWord, doneWord, valueWord, commitsWord}
 use Rattle.text_run.specs.Lanes.{entryText}
+use Rattle.text_run.specs.Names.{instrOn}
 use Rattle.text_run.specs.Places.{nextInstr}
 use Rattle.text_run.specs.Moves.{loadedText, carriedText, doneText, hasWaited, outcomeText, lineBy, moveLine}
 use Rattle.text_run.specs.Turns.{carried, committed, chosen, taken, turnText, moveTold, RowsOf}
@@ -132,38 +132,40 @@ module _ (m : Machine) (vol : ℕ → Bool) (prog : List (List Instr)) (rows : L
 
     done-instr : (v : Option ℕ) (i : Option Instr) → getElem? (getD prog t []) (lane .control .pos) ≡ i
         → execute m vol (suc t) (lane .control) core i ≡ does k c v
-        → carriedText (nextInstr rows f t) g t ≡ carried i ++ taken v
+        → carriedText m (nextInstr rows f t) g t ≡ carried m i ++ taken v
     done-instr v none at e = absurd (let z = ap kind e in omega arith)
     done-instr v (some (op o)) at e =
         let did = carried-by o (does k c v) e (omega arith) in
         let end : c ≡ coreAfter m vol (suc t) core o = cc in
         let value : loads m vol core o ≡ v = cc in
-        ap (λ i. carriedText i g t) (stood (op o) at)
-        ∙ ap (λ y. instrText (op o) ++ y) (loaded m vol core g t o (took o end at) ∙ ap taken value)
+        ap (λ i. carriedText m i g t) (stood (op o) at)
+        ∙ ap (λ y. instrOn m (op o) ++ y) (loaded m vol core g t o (took o end at) ∙ ap taken value)
     done-instr v (some (barrier d)) at e =
         absurd (let z = ap kind (passed (mayPass m d (core .pending)) waits e (λ z. omega arith)) in omega arith)
 
   pass-instr : (k : Control) (c : Core) (i : Option Instr) → getElem? (getD prog t []) (lane .control .pos) ≡ i
       → execute m vol (suc t) (lane .control) core i ≡ passes k c
-      → carriedText (nextInstr rows f t) g t ≡ carried i
+      → carriedText m (nextInstr rows f t) g t ≡ carried m i
   pass-instr k c none at e = absurd (let z = ap kind e in omega arith)
   pass-instr k c (some (op o)) at e =
       absurd (let z = ap kind (carried-by o (passes k c) e (omega arith)) in omega arith)
   pass-instr k c (some (barrier d)) at e =
-      ap (λ i. carriedText i g t) (stood (barrier d) at) ∙ append-nil (instrText (barrier d))
+      ap (λ i. carriedText m i g t) (stood (barrier d) at) ∙ append-nil (instrOn m (barrier d))
 
   pass-entry : (j : ℕ) (k : Control) (c : Core) (e : Option Entry)
       → commit m vol (lane .control) core j e ≡ passes k c → ⊥
   pass-entry j k c none e = let z = ap kind e in omega arith
   pass-entry j k c (some y) e =
-      let z = ap kind (passed (mayCommit m vol (take j (lane .pending)) y) waits e (λ z. omega arith)) in omega arith
+      let may = mayCommit m vol (lane .control .marks) (take j (lane .pending)) y in
+      let z = ap kind (passed may waits e (λ z. omega arith)) in
+      omega arith
 
   done-entry : (j : ℕ) (k : Control) (c : Core) (v : Option ℕ) (e : Option Entry) → getElem? (lane .pending) j ≡ e
       → commit m vol (lane .control) core j e ≡ does k c v
       → commitsWord ++ entryText (f .entry t j) ≡ committed e ++ taken v
   done-entry j k c v none at e = absurd (let z = ap kind e in omega arith)
   done-entry j k c v (some y) at e =
-      let did = passed (mayCommit m vol (take j (lane .pending)) y) waits e (λ z. omega arith) in
+      let did = passed (mayCommit m vol (lane .control .marks) (take j (lane .pending)) y) waits e (λ z. omega arith) in
       let value : none ≡ v = cc in
       let found = some-at (lane .pending) j y noEntry at in
       ap (λ x. commitsWord ++ entryText x) (same .entry t j few (found .0) ∙ found .1)
@@ -176,24 +178,24 @@ module _ (m : Machine) (vol : ℕ → Bool) (prog : List (List Instr)) (rows : L
 
   -- what came of choice c
   outcome : (c : ℕ) (τ : Turn) → turn m vol (suc t) (getD prog t []) (lane .control) core c ≡ τ → Came b a t τ
-      → outcomeText (nextInstr rows f t) f g t c ≡ turnText τ (chosen (getD prog t []) lane c)
+      → outcomeText m (nextInstr rows f t) f g t c ≡ turnText τ (chosen m (getD prog t []) lane c)
   outcome c waits e came =
       let equal : hasWaited f g ≡ true =
       eq-eqb (f .done) (g .done) (same .done ∙ sym came ∙ sym (read-back a (h .fits-after) .done)) in
-      ap (λ u. cond u waitedWord (doneText (nextInstr rows f t) f g t c)) equal
+      ap (λ u. cond u waitedWord (doneText m (nextInstr rows f t) f g t c)) equal
   outcome zero (passes k c) e came =
-      ap (λ u. cond u waitedWord (doneText (nextInstr rows f t) f g t 0)) (done-differs (came .0))
+      ap (λ u. cond u waitedWord (doneText m (nextInstr rows f t) f g t 0)) (done-differs (came .0))
       ∙ ap (λ x. doneWord ++ x) (pass-instr k c _ refl e)
   outcome zero (does k c v) e came =
-      ap (λ u. cond u waitedWord (doneText (nextInstr rows f t) f g t 0)) (done-differs (came .0))
+      ap (λ u. cond u waitedWord (doneText m (nextInstr rows f t) f g t 0)) (done-differs (came .0))
       ∙ ap (λ x. doneWord ++ x) (done-instr k c (came .1) v _ refl e)
   outcome (suc j) (passes k c) e came = absurd (pass-entry j k c (getElem? (lane .pending) j) e)
   outcome (suc j) (does k c v) e came =
       let older : suc j - 1 ≡ j = omega arith in
       let later : eqb (suc j) 0 ≡ false = ne-eqb (suc j) 0 (λ q. omega arith) in
-      ap (λ u. cond u waitedWord (doneText (nextInstr rows f t) f g t (suc j))) (done-differs (came .0))
+      ap (λ u. cond u waitedWord (doneText m (nextInstr rows f t) f g t (suc j))) (done-differs (came .0))
       ∙ ap (λ u. doneWord
-      ++ cond u (carriedText (nextInstr rows f t) g t) (commitsWord ++ entryText (f .entry t (suc j - 1)))) later
+      ++ cond u (carriedText m (nextInstr rows f t) g t) (commitsWord ++ entryText (f .entry t (suc j - 1)))) later
       ∙ ap (λ i. doneWord ++ (commitsWord ++ entryText (f .entry t i))) older
       ∙ ap (λ x. doneWord ++ x) (done-entry j k c v _ refl e)
 
@@ -217,7 +219,7 @@ module _ (m : Machine) (vol : ℕ → Bool) (prog : List (List Instr)) (records 
 
   pub move-told : (rows : List ℕ) (n : ℕ) (mv : Move) (r r′ : Run)
       → Tells rows prog (mv .lane) (answer r) (answer r′) → advance m vol prog (ran r) mv ≡ ran r′
-      → moveLine rows (stateBytes (answer r)) (stateBytes (answer r′)) n (mv .lane) (mv .choice)
+      → moveLine m rows (stateBytes (answer r)) (stateBytes (answer r′)) n (mv .lane) (mv .choice)
       ≡ moveTold m vol prog (r .state) n mv
   unfolding lineBy
   move-told rows n mv r r′ h e =

@@ -1,4 +1,4 @@
--- The text of a lane at the end of a run: its line, and a line for each pending entry.
+-- The text of a lane at the end of a run: its line, a line for each pending entry, and a line for each mark.
 use Prim.Native.Nat.{ℕ, _+_, _*_}
 use mathlib.Core.Bool.{Bool, cond}
 use mathlib.Core.List.{List, [], _∷_, _++_}
@@ -8,7 +8,7 @@ use Rattle.machine_spec.specs.Entries.{Entry, write, release}
 use Rattle.machine_record.specs.Fields.{Fields}
 use Rattle.text_put.specs.Decimal.{decimal}
 use Rattle.text_put.specs.Words.{space, newline, named}
-use Rattle.text_run.specs.Words.{laneStart, positionWord, registersWord, pendingWord}
+use Rattle.text_run.specs.Words.{laneStart, positionWord, registersWord, pendingWord, markWord}
 use Rattle.text_run.specs.Words.{locationWord, valueWord, releaseWord}
 
 -- n numbers, each behind a space
@@ -31,9 +31,17 @@ abbrev pub laneLine : Fields → ℕ → List ℕ
 laneLine f t =
     named laneStart t ++ named positionWord (f .position t) ++ numbersLine registersWord (f .register t) 8
 
-abbrev pub pendingLine : Fields → ℕ → ℕ → List ℕ
-pendingLine f t i = named laneStart t ++ pendingWord ++ entryText (f .entry t i) ++ newline ∷ []
+abbrev pub markLine : ℕ → List ℕ
+markLine t = named laneStart t ++ (pendingWord ++ markWord ++ newline ∷ [])
 
--- a lane and its pending entries, oldest first
+-- the line of the mark, where one stands directly behind an entry
+abbrev pub markText : Bool → ℕ → List ℕ
+markText marked t = cond marked (markLine t) []
+
+abbrev pub pendingLine : Fields → ℕ → ℕ → List ℕ
+pendingLine f t i =
+    named laneStart t ++ pendingWord ++ entryText (f .entry t i) ++ newline ∷ [] ++ markText (f .mark t i) t
+
+-- a lane and its pending entries with their marks, oldest first
 unfoldable pub laneText : Fields → ℕ → List ℕ
 laneText f t = laneLine f t ++ inTurn (pendingLine f t) (f .count t)

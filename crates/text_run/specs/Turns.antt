@@ -16,22 +16,22 @@ use Rattle.machine_spec.specs.State.{Lane, State, laneAt, moveTurn}
 use Rattle.sheet_rows.specs.Rows.{partsIn}
 use Rattle.text_put.specs.Decimal.{decimal}
 use Rattle.text_put.specs.Words.{newline, named}
-use Rattle.text_listing.specs.Line.{instrText}
 use Rattle.text_run.specs.Words.{laneWord, choiceWord, waitedWord, doneWord, valueWord, commitsWord}
+use Rattle.text_run.specs.Names.{instrOn}
 use Rattle.text_run.specs.Lanes.{entryText}
 
-abbrev pub carried : Option Instr → List ℕ
-carried none = []
-carried (some i) = instrText i
+abbrev pub carried : Machine → Option Instr → List ℕ
+carried m none = []
+carried m (some i) = instrOn m i
 
 abbrev pub committed : Option Entry → List ℕ
 committed none = []
 committed (some e) = commitsWord ++ entryText e
 
 -- choice 0 is the lane's next instruction, k its k-th oldest entry
-abbrev pub chosen : List Instr → Lane → ℕ → List ℕ
-chosen prog l zero = carried (getElem? prog (l .control .pos))
-chosen prog l (suc i) = committed (getElem? (l .pending) i)
+abbrev pub chosen : Machine → List Instr → Lane → ℕ → List ℕ
+chosen m prog l zero = carried m (getElem? prog (l .control .pos))
+chosen m prog l (suc i) = committed (getElem? (l .pending) i)
 
 -- the value that a LOAD took
 abbrev pub taken : Option ℕ → List ℕ
@@ -49,7 +49,7 @@ turnText (does k c v) x = doneWord ++ (x ++ taken v)
 abbrev pub moveTold : Machine → (ℕ → Bool) → List (List Instr) → State → ℕ → Move → List ℕ
 moveTold m vol prog s n mv =
     decimal n ++ named laneWord (mv .lane) ++ named choiceWord (mv .choice)
-    ++ turnText (moveTurn m vol prog s mv) (chosen (getD prog (mv .lane) []) (laneAt s (mv .lane)) (mv .choice))
+    ++ turnText (moveTurn m vol prog s mv) (chosen m (getD prog (mv .lane) []) (laneAt s (mv .lane)) (mv .choice))
     ++ newline ∷ []
 
 -- lane t's program lies in the rows, and its LOADs name registers

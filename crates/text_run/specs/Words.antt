@@ -73,3 +73,11 @@ registersWord = 32 ∷ 114 ∷ 101 ∷ 103 ∷ 105 ∷ 115 ∷ 116 ∷ 101 ∷ 1
 -- " pending "
 abbrev pub pendingWord : List ℕ
 pendingWord = 32 ∷ 112 ∷ 101 ∷ 110 ∷ 100 ∷ 105 ∷ 110 ∷ 103 ∷ 32 ∷ []
+
+-- "SS"
+abbrev pub markWord : List ℕ
+markWord = 83 ∷ 83 ∷ []
+
+-- "SL"
+abbrev pub storeLoadWord : List ℕ
+storeLoadWord = 83 ∷ 76 ∷ []

@@ -2,6 +2,7 @@
 pub mod entry;
 mod lane;
 pub mod moves;
+mod names;
 mod numbers;
 pub mod places;
 pub mod states;

@@ -6,13 +6,14 @@ ghost use Rattle.machine_record.specs.Fields.{fieldsIn};
 ghost use Rattle.text_run.specs.Places.{nextInstr};
 ghost use Rattle.text_run.specs.Moves.{loadedText, carriedText, doneText, outcomeText, moveLine};
 use crate::entry::put_entry;
+use crate::names::put_named;
 use crate::places::entry_from;
 use crate::places::next_row;
 use crate::places::register_at;
+use machine_spec::Machine;
 use sheet_rows::read::Row;
 use sheet_rows::read::quad_at;
 use sheet_rows::read::row_at;
-use text_listing::line::put_instr;
 use text_put::put::put;
 use text_put::put::put_text;
 use text_put::words::put_decimal;
@@ -33,22 +34,23 @@ fn put_loaded(out: &mut [u8], at: usize, row: Row, after: &[u8], t: u8) -> usize
 }
 
 // The instruction that lane t carried out.
-fn put_carried(out: &mut [u8], at: usize, rows: &[u8], before: &[u8], after: &[u8], t: u8) -> usize
+fn put_carried(
+    out: &mut [u8],
+    at: usize,
+    machine: Machine,
+    rows: &[u8],
+    before: &[u8],
+    after: &[u8],
+    t: u8,
+) -> usize
     requires { ⌜ at + 45 ≤ 2 ^ 62 ⌝ }
     ensures { λ r. ⌜ (r ≤ at + 45)
         × Puts (now (out .entry)) at
-        (carriedText (nextInstr (now (rows .entry)) (fieldsIn (now (before .entry))) t)
+        (carriedText machine (nextInstr (now (rows .entry)) (fieldsIn (now (before .entry))) t)
         (fieldsIn (now (after .entry))) t) (now (out .exit)) r ⌝ }
 {
     let row = row_at(rows, next_row(rows, before, t));
-    let i = put_instr(
-        out,
-        at,
-        row.code as u32,
-        row.a as u32,
-        row.b as u32,
-        row.word,
-    );
+    let i = put_named(out, at, machine, row);
     put_loaded(out, i, row, after, t)
 }
 
@@ -56,6 +58,7 @@ fn put_carried(out: &mut [u8], at: usize, rows: &[u8], before: &[u8], after: &[u
 fn put_done(
     out: &mut [u8],
     at: usize,
+    machine: Machine,
     rows: &[u8],
     before: &[u8],
     after: &[u8],
@@ -65,12 +68,12 @@ fn put_done(
     requires { ⌜ at + 51 ≤ 2 ^ 62 ⌝ }
     ensures { λ r. ⌜ (r ≤ at + 51)
         × Puts (now (out .entry)) at
-        (doneText (nextInstr (now (rows .entry)) (fieldsIn (now (before .entry))) t)
+        (doneText machine (nextInstr (now (rows .entry)) (fieldsIn (now (before .entry))) t)
         (fieldsIn (now (before .entry))) (fieldsIn (now (after .entry))) t c) (now (out .exit)) r ⌝ }
 {
     let i = put_text(out, at, b" done ");
     if c == 0 {
-        return put_carried(out, i, rows, before, after, t);
+        return put_carried(out, i, machine, rows, before, after, t);
     }
     let j = put_text(out, i, b"commits ");
     let from = entry_from(t, (c - 1) as usize);
@@ -81,6 +84,7 @@ fn put_done(
 fn put_outcome(
     out: &mut [u8],
     at: usize,
+    machine: Machine,
     rows: &[u8],
     before: &[u8],
     after: &[u8],
@@ -90,19 +94,20 @@ fn put_outcome(
     requires { ⌜ at + 51 ≤ 2 ^ 62 ⌝ }
     ensures { λ r. ⌜ (r ≤ at + 51)
         × Puts (now (out .entry)) at
-        (outcomeText (nextInstr (now (rows .entry)) (fieldsIn (now (before .entry))) t)
+        (outcomeText machine (nextInstr (now (rows .entry)) (fieldsIn (now (before .entry))) t)
         (fieldsIn (now (before .entry))) (fieldsIn (now (after .entry))) t c) (now (out .exit)) r ⌝ }
 {
     if quad_at(before, 8) == quad_at(after, 8) {
         return put_text(out, at, b" waited");
     }
-    put_done(out, at, rows, before, after, t, c)
+    put_done(out, at, machine, rows, before, after, t, c)
 }
 
 // The line of move n, which names lane t and choice c, from the program's rows and the state records before and after
 // the move: as far as the buffer reaches.
 pub fn tell_move(
     out: &mut [u8],
+    machine: Machine,
     rows: &[u8],
     before: &[u8],
     after: &[u8],
@@ -112,11 +117,11 @@ pub fn tell_move(
 ) -> usize
     ensures { λ r. ⌜ (r ≤ 128)
         × Puts (now (out .entry)) 0
-        (moveLine (now (rows .entry)) (now (before .entry)) (now (after .entry)) n t c) (now (out .exit)) r ⌝ }
+        (moveLine machine (now (rows .entry)) (now (before .entry)) (now (after .entry)) n t c) (now (out .exit)) r ⌝ }
 {
     let i = put_decimal(out, 0, n);
     let j = put_one(out, i, b" lane ", t as u32);
     let k = put_one(out, j, b" choice ", c as u32);
-    let end = put_outcome(out, k, rows, before, after, t, c);
+    let end = put_outcome(out, k, machine, rows, before, after, t, c);
     put(out, end, b'\n')
 }

@@ -13,7 +13,7 @@ use machine_spec::Machine;
 use sheet_format::WriteResult;
 
 // Line n of the run, counted from 0, from the rows of the machine's program and the state records before and after move
-// n. Machine and file are those of the run: only the contract reads them.
+// n. The file is that of the run: only the contract reads it.
 pub fn run_line(
     line: &mut [u8],
     machine: Machine,
@@ -31,7 +31,8 @@ pub fn run_line(
 {
     let lane = moves[2 * n];
     let choice = moves[2 * n + 1];
-    tell_move(line, rows, before, after, (n + 1) as u32, lane, choice)
+    let number = (n + 1) as u32;
+    tell_move(line, machine, rows, before, after, number, lane, choice)
 }
 
 // The state at the end of the run, as far as the buffer reaches; a refusal leaves the buffer as it was. The header of a

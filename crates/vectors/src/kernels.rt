@@ -1,4 +1,4 @@
-// A kernel file, lowered to both levels.
+// A kernel file, lowered to the three levels.
 ghost use Prim.Native.Nat.{_+_, _<_, _^_};
 use crate::schedules::tell_schedule;
 use console::files::read_named;
@@ -8,6 +8,7 @@ use console::print::say_refusal;
 use sheet_format::WriteResult;
 use sheet_lower::lower::lower1;
 use sheet_lower::lower::lower2;
+use sheet_lower::lower::lower3;
 
 pub(crate) fn tell_pairs(n: usize)
     requires { ⌜ n < 2 ^ 63 ⌝ }
@@ -40,29 +41,29 @@ pub(crate) fn say_argument(i: usize) {
     say(b" ");
 }
 
+// The bytes of its three sheets, or why it is refused: every level refuses alike.
 fn tell_kernel(file: &[u8]) {
     let mut sheet = [0u8; 6160];
-    let answer = lower1(file, &mut sheet);
-    match answer {
+    let first = lower1(file, &mut sheet);
+    match first {
         WriteResult::Wrote(size) => {
             say(b"level 1 ");
             say_number(size);
-            say(b" bytes ");
-            tell_level2(file);
+            let second = lower2(file, &mut sheet);
+            say(b" bytes level 2 ");
+            say_size(second);
+            let third = lower3(file, &mut sheet);
+            say(b" bytes level 3 ");
+            say_size(third);
+            say(b" bytes\n");
         }
         WriteResult::Refuses(number, rec) => say_refusal(number, rec),
     }
 }
 
-fn tell_level2(file: &[u8]) {
-    let mut sheet = [0u8; 4112];
-    let answer = lower2(file, &mut sheet);
+fn say_size(answer: WriteResult) {
     match answer {
-        WriteResult::Wrote(size) => {
-            say(b"level 2 ");
-            say_number(size);
-            say(b" bytes\n");
-        }
+        WriteResult::Wrote(size) => say_number(size),
         WriteResult::Refuses(number, rec) => say_refusal(number, rec),
     }
 }

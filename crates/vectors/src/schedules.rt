@@ -1,4 +1,4 @@
-// A schedule of text, run on both machines.
+// A schedule of text, run on the three machines.
 ghost use Prim.Native.Nat.{_≤_};
 ghost use lib.ListN.{length};
 use crate::kernels::say_argument;
@@ -35,6 +35,9 @@ fn tell_runs(i: usize, file: &[u8], moves: &[u8])
     say_argument(i);
     say(b"tso\n");
     tell_run(Machine::Target(Model::Tso), file, moves);
+    say_argument(i);
+    say(b"pso\n");
+    tell_run(Machine::Target(Model::Pso), file, moves);
 }
 
 fn tell_run(machine: Machine, file: &[u8], moves: &[u8])

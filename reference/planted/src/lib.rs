@@ -1,7 +1,45 @@
-//! Stand-in archive `liblanes.a`: the fast implementation behind the C interface, in which faults are planted.
+//! Stand-in archive `liblanes.a`: the fast implementation, or the slow one, behind the C interface, in which faults are
+//! planted.
 
+#[cfg(not(feature = "slow"))]
+#[allow(dead_code)]
 #[path = "../../src/fast/mod.rs"]
-mod fast;
+mod calls;
+
+#[cfg(feature = "slow")]
+#[allow(dead_code, unused_imports)]
+#[path = "../../src/slow/mod.rs"]
+mod slow;
+
+#[cfg(feature = "slow")]
+mod calls {
+    pub use super::slow::page;
+    use super::slow::{lower, machines::Machine, run};
+
+    pub fn lower1(file: &[u8], sheet: &mut [u8]) -> u64 {
+        lower(1, file, sheet)
+    }
+
+    pub fn lower2(file: &[u8], sheet: &mut [u8]) -> u64 {
+        lower(2, file, sheet)
+    }
+
+    pub fn lower3(file: &[u8], sheet: &mut [u8]) -> u64 {
+        lower(3, file, sheet)
+    }
+
+    pub fn run_source(file: &[u8], moves: &[u8], state: &mut [u8]) -> u64 {
+        run(Machine::Source, file, moves, state)
+    }
+
+    pub fn run_tso(file: &[u8], moves: &[u8], state: &mut [u8]) -> u64 {
+        run(Machine::Tso, file, moves, state)
+    }
+
+    pub fn run_pso(file: &[u8], moves: &[u8], state: &mut [u8]) -> u64 {
+        run(Machine::Pso, file, moves, state)
+    }
+}
 
 use std::slice::{from_raw_parts, from_raw_parts_mut};
 
@@ -31,8 +69,10 @@ macro_rules! run {
     };
 }
 
-lower!(lanes_lower1, fast::lower1);
-lower!(lanes_lower2, fast::lower2);
-lower!(lanes_page, fast::page);
-run!(lanes_run_source, fast::run_source);
-run!(lanes_run_tso, fast::run_tso);
+lower!(lanes_lower1, calls::lower1);
+lower!(lanes_lower2, calls::lower2);
+lower!(lanes_lower3, calls::lower3);
+lower!(lanes_page, calls::page);
+run!(lanes_run_source, calls::run_source);
+run!(lanes_run_tso, calls::run_tso);
+run!(lanes_run_pso, calls::run_pso);

@@ -1,6 +1,7 @@
 //! Program: a run of more than 2^32 moves, so that the upper half of a count is not zero. The numbers are arithmetic.
+//! Argument: the machine, `tso` if none is named.
 
-use reference::library::run_tso;
+use reference::library::{run_pso, run_source, run_tso};
 use reference::litmus::assembler::assemble;
 use reference::slow::STATE;
 use std::process::ExitCode;
@@ -16,7 +17,12 @@ fn main() -> ExitCode {
         return ExitCode::FAILURE;
     };
     let mut state = [0xa5; STATE];
-    let answer = run_tso(&kernel, moves, &mut state);
+    let run = match std::env::args().nth(1).as_deref() {
+        Some("source") => run_source,
+        Some("pso") => run_pso,
+        _ => run_tso,
+    };
+    let answer = run(&kernel, moves, &mut state);
     let count = |at: usize| state[at..at + 8].iter().rev().fold(0, |value, byte| value << 8 | u64::from(*byte));
     let got = (answer, count(8), count(16), state[0]);
     if got != (STATE as u64, DONE, WAITED, 1) {

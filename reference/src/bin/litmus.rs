@@ -7,9 +7,9 @@ use std::process::ExitCode;
 
 fn main() -> ExitCode {
     let others = [
-        Runs { name: "fast", source: fast::run_source, tso: fast::run_tso },
+        Runs { name: "fast", runs: fast::RUNS },
         #[cfg(feature = "runs")]
-        Runs { name: "library", source: reference::library::run_source, tso: reference::library::run_tso },
+        Runs { name: "library", runs: reference::library::RUNS },
     ];
     match print_table(&others) {
         Ok(0) => ExitCode::SUCCESS,
@@ -24,10 +24,12 @@ fn main() -> ExitCode {
     }
 }
 
+const PUBLISHED: &str = "x86 published | Sparc PSO published";
+
 /// The number of differences from what the rows expect.
 fn print_table(others: &[Runs]) -> Result<usize, String> {
-    println!("| test | volatile | asked at the end | x86 published | source | tso | outcomes SC/source/tso |");
-    println!("|---|---|---|---|---|---|---|");
+    println!("| test | volatile | asked at the end | {PUBLISHED} | source | tso | pso | outcomes SC/source/tso/pso |");
+    println!("|---|---|---|---|---|---|---|---|---|");
     let mut differences = 0;
     for row in rows()? {
         for mask in &row.masks {
@@ -45,8 +47,10 @@ fn print_table(others: &[Runs]) -> Result<usize, String> {
 fn line(row: &Row, mask: u16, trial: &Trial) -> String {
     let verdict = |allowed: bool| if allowed { "allowed" } else { "forbidden" };
     let published = row.published.filter(|_| mask == row.masks[0]).map_or("-", verdict);
+    let sparc = row.sparc_published(mask);
+    let sparc = sparc.map_or("-".to_string(), |found| format!("{}, {}", verdict(found.allowed), found.place));
     let counts = trial.counts.iter().map(usize::to_string).collect::<Vec<_>>().join("/");
     let (name, set, asked) = (&row.name, row.assembled.set(mask), &row.asked_text);
-    let (source, tso) = (verdict(trial.allowed[1]), verdict(trial.allowed[2]));
-    format!("| {name} | `{set}` | `{asked}` | {published} | {source} | {tso} | {counts} |")
+    let machines = trial.allowed[1..].iter().map(|allowed| verdict(*allowed)).collect::<Vec<_>>().join(" | ");
+    format!("| {name} | `{set}` | `{asked}` | {published} | {sparc} | {machines} | {counts} |")
 }

@@ -10,11 +10,11 @@ fn main() -> io::Result<()> {
     for path in env::args().skip(1) {
         println!("{path}");
         let kernel = fs::read(&path)?;
-        for level in [1, 2] {
+        for level in [1, 2, 3] {
             println!("{}", lowered(level, &kernel));
         }
         println!("{}", paged(&kernel));
-        for (name, machine) in [("source", Machine::Source), ("tso", Machine::Tso)] {
+        for (name, machine) in [("source", Machine::Source), ("tso", Machine::Tso), ("pso", Machine::Pso)] {
             println!("{}", ran(name, machine, &kernel));
         }
     }

@@ -16,14 +16,19 @@ const FOUR_LANES_MOVES: &str = include_str!("../../../examples/four-lanes.moves"
 const STORE_BUFFERING: &str = "store-buffering-mask-1";
 const LOCK: &str = "lock-hand-over";
 
-/// Examples whose lanes all come to their end: the kernel, the schedule and what its head says, its moves.
+/// Examples whose lanes all come to their end: the kernel, the schedule and what its head says, its moves. Lane 0 of
+/// the lock has five instructions on the pso machine, which has SS before the UNLOCK, and waits once on the others.
 const ENDED: [(&str, &str, &str, &str); 5] = [
     (STORE_BUFFERING, "both-pending", "a store pending in each", "0 0; 0 0; 0 0; 1 0; 1 0; 1 0"),
     (STORE_BUFFERING, "one-pending", "a store pending in lane 1", "0 0; 0 0; 0 0; 1 0; 1 0; 1 0; 0 1"),
     (STORE_BUFFERING, "none-pending", "nothing pending", "0 0; 0 0; 0 0; 1 0; 1 0; 1 0; 0 1; 1 1"),
-    (LOCK, "release-pending", "a release pending in lane 1", "0 0; 0 0; 0 0; 0 0; 0 1; 0 1; 1 0; 1 0; 1 0"),
-    (LOCK, "release-committed", "nothing pending", "0 0; 0 0; 0 0; 0 0; 0 1; 0 1; 1 0; 1 0; 1 0; 1 1"),
+    (LOCK, "release-pending", "a release pending in lane 1", "0 0; 0 0; 0 0; 0 0; 0 0; 0 1; 0 1; 1 0; 1 0; 1 0"),
+    (LOCK, "release-committed", "nothing pending", "0 0; 0 0; 0 0; 0 0; 0 0; 0 1; 0 1; 1 0; 1 0; 1 0; 1 1"),
 ];
+
+/// A schedule with a choice that the tso machine does not have: the second store of lane 0 is to commit first. It may
+/// do so in MP, on the source and on the pso machine; MP with both locations volatile has SS between the stores.
+const OVERTAKING: (&str, &str) = ("overtaking.moves", "0 0; 0 0; 0 0; 0 0; 0 0; 0 2; 1 0; 1 0; 0 1; 0 1");
 
 /// Rows of the litmus tables, under their first set of volatile locations and under their last.
 const LITMUS: [&str; 12] = ["SB", "MP", "LB", "S", "R", "2+2W", "CoRR", "n5", "WRC", "IRIW", "lock-SB", "SB+mfences"];
@@ -46,7 +51,7 @@ fn main() -> Result<(), String> {
         let moves = examples::moves(text).ok_or_else(|| format!("{schedule} has a line that is no move"))?;
         write(&format!("data/{name}"), &file)?;
         expected.push_str(&format!("{name} {}\n", lowered(&file)));
-        for (machine, word) in [(Machine::Source, "source"), (Machine::Tso, "tso")] {
+        for (machine, word) in Machine::ALL.into_iter().zip(["source", "tso", "pso"]) {
             expected.push_str(&format!("{schedule} {word}\n{}", ran(machine, &file, &moves)));
         }
         arguments.extend([name, schedule]);
@@ -94,6 +99,8 @@ fn runs() -> Result<Vec<(String, Vec<u8>, String)>, String> {
             litmus(format!("{name}-volatile.kernel"), row.assembled.file(last));
         }
     }
+    let overtaken: Vec<_> = files.iter().filter(|(name, _, _)| name.starts_with("MP")).cloned().collect();
+    files.extend(overtaken.into_iter().map(|(name, file, _)| (name, file, OVERTAKING.0.to_string())));
     let kernels = BTreeMap::from_iter(examples::kernels());
     let ended = ENDED.iter().map(|(name, schedule, _, _)| (*name, *schedule));
     // the four lanes last: tests/examples.sh reads their end from there on
@@ -106,12 +113,15 @@ fn runs() -> Result<Vec<(String, Vec<u8>, String)>, String> {
 
 /// The texts of schedules by name.
 fn schedules() -> BTreeMap<String, String> {
+    let lines = |moves: &str| moves.replace("; ", "\n");
     let in_turn = (2..=4).map(|lanes| (format!("{lanes}-lanes.moves"), moves_text(lanes)));
     let ended = ENDED.iter().map(|(_, name, head, moves)| {
-        let lines = moves.replace("; ", "\n");
-        (format!("{name}.moves"), format!("# every lane at its end, {head}\n{lines}\n"))
+        (format!("{name}.moves"), format!("# every lane at its end, {head}\n{}\n", lines(moves)))
     });
-    in_turn.chain(ended).chain([(format!("{FOUR_LANES}.moves"), FOUR_LANES_MOVES.to_string())]).collect()
+    let (name, moves) = OVERTAKING;
+    let overtaking = (name.to_string(), format!("# the second store of lane 0 is to commit first\n{}\n", lines(moves)));
+    let four_lanes = (format!("{FOUR_LANES}.moves"), FOUR_LANES_MOVES.to_string());
+    in_turn.chain(ended).chain([overtaking, four_lanes]).collect()
 }
 
 /// Stores pile up, then go to memory, three times over.
@@ -122,9 +132,9 @@ fn moves_text(lanes: u8) -> String {
 
 fn lowered(file: &[u8]) -> String {
     let mut sheet = [0; 10_256];
-    let bytes = [1, 2].map(|level| slow::lower(level, file, &mut sheet));
+    let bytes = [1, 2, 3].map(|level| slow::lower(level, file, &mut sheet));
     match bytes[0] >> 32 {
-        0 => format!("level 1 {} bytes level 2 {} bytes", bytes[0], bytes[1]),
+        0 => format!("level 1 {} bytes level 2 {} bytes level 3 {} bytes", bytes[0], bytes[1], bytes[2]),
         number => format!("refused {number} record {}", bytes[0] as u32),
     }
 }
@@ -132,7 +142,10 @@ fn lowered(file: &[u8]) -> String {
 /// The end of a run as the library's programs tell it.
 fn ran(machine: Machine, file: &[u8], moves: &[u8]) -> String {
     let mut state = [0; STATE];
-    assert_eq!(slow::run(machine, file, moves, &mut state), STATE as u64);
+    let answer = slow::run(machine, file, moves, &mut state);
+    if answer != STATE as u64 {
+        return format!("refused {} record {}\n", answer >> 32, answer as u32);
+    }
     let word = |at: usize| u32::from_le_bytes([state[at], state[at + 1], state[at + 2], state[at + 3]]);
     let words = |from: usize, count: usize| (0..count).map(|i| format!(" {}", word(from + 4 * i))).collect::<String>();
     let locks: String = state[4..4 + usize::from(file[2])].iter().map(|lock| format!(" {lock}")).collect();
@@ -149,6 +162,9 @@ fn ran(machine: Machine, file: &[u8], moves: &[u8]) -> String {
                 _ => format!("release {}", state[entry + 1]),
             };
             text.push_str(&format!("lane {lane} pending {told}\n"));
+            if state[entry + 2] == 1 {
+                text.push_str(&format!("lane {lane} pending SS\n"));
+            }
         }
     }
     text

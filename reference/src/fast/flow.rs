@@ -60,10 +60,10 @@ const fn pass(class: usize, live: u8) -> Pass {
 }
 
 /// Barriers that a level keeps; level 0 is the bare chain.
-const KEPT: [u8; 3] = [0, LL | LS | SS | SL, SL];
+const KEPT: [u8; 4] = [0, LL | LS | SS | SL, SL, SS | SL];
 
 /// Of these, what a level leaves out directly before a LOCK.
-const LEFT_OUT: [u8; 3] = [0, 0, SL];
+const LEFT_OUT: [u8; 4] = [0, 0, SL, SL];
 
 /// Where everything of a sheet goes.
 pub struct Plan {

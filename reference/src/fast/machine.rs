@@ -1,14 +1,19 @@
-//! Fast implementation: both machines on schedules, over instructions written once, with the state in place.
+//! Fast implementation: the three machines on schedules, over instructions written once, with the state in place.
 
 use super::check::Kernel;
 use super::flow::Plan;
 use super::sheet::{Instruction, write_lanes};
-use super::{ADD, LOAD, LOCK, Refusal, SET, SKIP, STORE, UNLOCK};
+use super::{ADD, LOAD, LOCK, Refusal, SET, SKIP, SS, STORE, UNLOCK};
+
+/// The machines by the level that each carries out.
+pub const SOURCE: usize = 0;
+pub const TSO: usize = 2;
+pub const PSO: usize = 3;
 
 const STATE: usize = 2280;
 const LANE: usize = 548;
 
-/// A pending entry as in the state record: kind, location or lock, two zero bytes, value.
+/// A pending entry as in the state record without marks: kind, location or lock, two zero bytes, value.
 type Entry = u64;
 
 const STORED: u64 = 1;
@@ -36,12 +41,15 @@ struct Lane {
     last: usize,
     /// Pending entries that commit only as the oldest; counted for the source machine.
     ordered: usize,
+    /// Bit i is set where a mark stands directly behind `pending[i]`; bits below `first` mean nothing. An entry that
+    /// commits leaves those before it one place further on, so that its mark stands behind the last of them by itself.
+    marks: u64,
     pending: [Entry; 64],
 }
 
-const START: Lane = Lane { position: 0, registers: [0; 8], first: 0, last: 0, ordered: 0, pending: [0; 64] };
+const START: Lane = Lane { position: 0, registers: [0; 8], first: 0, last: 0, ordered: 0, marks: 0, pending: [0; 64] };
 
-struct Machine<'a, const TSO: bool> {
+struct Machine<'a, const LEVEL: usize> {
     parts: [&'a [Instruction]; 4],
     /// Locations whose stores commit only as the oldest and whose loads wait.
     mask: u16,
@@ -57,7 +65,7 @@ enum Turn {
 }
 
 /// ROOM is at least the number of instructions of all lanes at this level.
-pub fn run<const LEVEL: usize, const ROOM: usize, const TSO: bool>(
+pub fn run<const LEVEL: usize, const ROOM: usize>(
     file: &[u8],
     moves: &[u8],
     state: &mut [u8],
@@ -67,7 +75,7 @@ pub fn run<const LEVEL: usize, const ROOM: usize, const TSO: bool>(
     plan.lay::<LEVEL>(&kernel)?;
     let state = state.first_chunk_mut::<STATE>().ok_or(Refusal::new(9, 0))?;
     let (moves, odd) = moves.as_chunks::<2>();
-    let highest = if TSO { 1 } else { 64 };
+    let highest = if LEVEL == TSO { 1 } else { 64 };
     let illegal = |named: &[u8; 2]| (named[0] >= kernel.head[0]) | (named[1] > highest);
     if !odd.is_empty() || moves.iter().fold(false, |found, named| found | illegal(named)) {
         return Err(Refusal::new(10, 0));
@@ -75,7 +83,7 @@ pub fn run<const LEVEL: usize, const ROOM: usize, const TSO: bool>(
     let mut code = [[0; 8]; ROOM];
     let parts = write_lanes::<LEVEL>(&kernel, &plan, &mut code);
     let mask = kernel.mask();
-    let mut machine = Machine::<TSO> { parts, mask, lanes: [START; 4], memory: [0; 16], locks: [0; 4] };
+    let mut machine = Machine::<LEVEL> { parts, mask, lanes: [START; 4], memory: [0; 16], locks: [0; 4] };
     let mut done = 0;
     for [lane, choice] in moves {
         let lane = usize::from(lane & 3);
@@ -92,7 +100,7 @@ pub fn run<const LEVEL: usize, const ROOM: usize, const TSO: bool>(
     Ok(STATE)
 }
 
-impl<const TSO: bool> Machine<'_, TSO> {
+impl<const LEVEL: usize> Machine<'_, LEVEL> {
     fn turn(&mut self, lane: usize, choice: u8) -> Turn {
         if choice > 0 { self.commit(lane, usize::from(choice) - 1) } else { self.carry_out(lane) }
     }
@@ -110,7 +118,7 @@ impl<const TSO: bool> Machine<'_, TSO> {
             ADD => own.registers[a] = own.registers[a].wrapping_add(own.registers[usize::from(b & 7)]),
             LOAD => {
                 let memory = self.memory[usize::from(b & 15)];
-                if TSO || !ordered(self.mask, b) {
+                if LEVEL != SOURCE || !ordered(self.mask, b) {
                     own.registers[a] = own.newest(b).unwrap_or(memory);
                 } else if own.ordered > 0 {
                     return Turn::Waits;
@@ -119,7 +127,7 @@ impl<const TSO: bool> Machine<'_, TSO> {
                 }
             }
             STORE => own.append(entry(STORED, b, own.registers[a]), ordered(self.mask, b)),
-            LOCK if *lock != 0 || own.waits::<TSO>() => return Turn::Waits,
+            LOCK if *lock != 0 || own.waits::<LEVEL>() => return Turn::Waits,
             LOCK => *lock = lane as u8 + 1,
             UNLOCK if *lock != lane as u8 + 1 => return Turn::StrangeRelease,
             UNLOCK => own.append(entry(RELEASED, b, 0), true),
@@ -128,7 +136,8 @@ impl<const TSO: bool> Machine<'_, TSO> {
                 return Turn::Done;
             }
             SKIP => {}
-            // only MFENCE is left
+            SS if LEVEL == PSO => own.mark(),
+            // only MFENCE or SL is left
             _ if own.first < own.last => return Turn::Waits,
             _ => {}
         }
@@ -142,8 +151,14 @@ impl<const TSO: bool> Machine<'_, TSO> {
         let ordered = !is_store(entry) || ordered(self.mask, place(entry));
         if index > 0 {
             let older = &own.pending[own.first..own.first + index];
-            let same = |other: &Entry| is_store(*other) && place(*other) == place(entry);
-            if TSO || ordered || older.iter().any(same) {
+            // kind and place
+            let same = |other: &Entry| *other as u16 == entry as u16;
+            let waits = match LEVEL {
+                SOURCE => ordered || older.iter().any(same),
+                PSO => own.marked(index) || older.iter().any(same),
+                _ => true,
+            };
+            if waits {
                 return Turn::Waits;
             }
             own.pending.copy_within(own.first..own.first + index, own.first + 1);
@@ -190,6 +205,18 @@ impl Lane {
         self.ordered += usize::from(ordered);
     }
 
+    /// Leaves a mark behind the newest entry, if there is one.
+    fn mark(&mut self) {
+        if self.first < self.last {
+            self.marks |= 1 << (self.last - 1);
+        }
+    }
+
+    /// Whether a mark is older than the entry that has so many older ones, at least one.
+    fn marked(&self, older: usize) -> bool {
+        self.marks >> self.first & (1 << older) - 1 != 0
+    }
+
     /// The newest own pending value of a location.
     fn newest(&self, location: u8) -> Option<u32> {
         let stored = |entry: &&Entry| is_store(**entry) && place(**entry) == location;
@@ -197,8 +224,8 @@ impl Lane {
     }
 
     /// Whether the list holds back a LOCK.
-    fn waits<const TSO: bool>(&self) -> bool {
-        if TSO { self.first < self.last } else { self.ordered > 0 }
+    fn waits<const LEVEL: usize>(&self) -> bool {
+        if LEVEL == SOURCE { self.ordered > 0 } else { self.first < self.last }
     }
 
     fn record(&self, out: &mut [u8]) {
@@ -206,8 +233,8 @@ impl Lane {
         out[..2].copy_from_slice(&(self.position as u16).to_le_bytes());
         out[2..4].copy_from_slice(&(pending.len() as u16).to_le_bytes());
         put_words(&mut out[4..36], &self.registers);
-        for (field, entry) in out[36..].as_chunks_mut::<8>().0.iter_mut().zip(pending) {
-            *field = entry.to_le_bytes();
+        for ((field, entry), at) in out[36..].as_chunks_mut::<8>().0.iter_mut().zip(pending).zip(self.first..) {
+            *field = (entry | (self.marks >> at & 1) << 16).to_le_bytes();
         }
     }
 }

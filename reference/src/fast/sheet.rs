@@ -2,12 +2,12 @@
 
 use super::check::{Kernel, instruction};
 use super::flow::Plan;
-use super::{MFENCE, Refusal, SKIP};
+use super::{MFENCE, Refusal, SKIP, SL, SS};
 
 pub type Instruction = [u8; 8];
 
-/// Operations of LL, LS, SS and SL; only SL is left at level 2.
-const CODES: [[u8; 4]; 3] = [[0; 4], [11, 12, 13, 14], [0, 0, 0, MFENCE]];
+/// Operations of LL, LS, SS and SL; only SL is left at level 2, and SS beside it at level 3.
+const CODES: [[u8; 4]; 4] = [[0; 4], [11, 12, SS, SL], [0, 0, 0, MFENCE], [0, 0, SS, SL]];
 
 pub fn write<const LEVEL: usize>(kernel: &Kernel, plan: &Plan, sheet: &mut [u8]) -> Result<usize, Refusal> {
     let length = 16 + 8 * plan.counts.iter().map(|count| usize::from(*count)).sum::<usize>();
@@ -21,7 +21,7 @@ pub fn write<const LEVEL: usize>(kernel: &Kernel, plan: &Plan, sheet: &mut [u8])
 fn header<const LEVEL: usize>(kernel: &Kernel, plan: &Plan) -> [u8; 16] {
     let mut head = kernel.head;
     head[3] = LEVEL as u8;
-    if LEVEL == 2 {
+    if LEVEL >= 2 {
         head[4..6].fill(0);
     }
     head[6..8].fill(0);

@@ -13,8 +13,8 @@ const TABLES: [&str; 6] = [
     include_str!("locks.txt"),
 ];
 
-/// SC, source and tso, in this order wherever the rows give one thing for each.
-pub const MACHINES: [&str; 3] = ["SC", "source", "tso"];
+/// SC, source, tso and pso, in this order wherever the rows give one thing for each.
+pub const MACHINES: [&str; 4] = ["SC", "source", "tso", "pso"];
 
 /// A condition on the end of a run.
 #[derive(Clone, Copy, Debug)]
@@ -23,14 +23,24 @@ enum Asked {
     Memory { location: usize, value: u32 },
 }
 
+/// A verdict that a publication has for a mask, and where.
+#[derive(Debug)]
+pub struct Published {
+    pub mask: u16,
+    pub allowed: bool,
+    pub place: String,
+}
+
 pub struct Row {
     pub name: String,
     pub assembled: Assembled,
     pub asked_text: String,
     asked: Vec<Asked>,
     pub masks: Vec<u16>,
-    /// Published for x86, if anything is.
+    /// Published for x86 under the first mask, if anything is.
     pub published: Option<bool>,
+    /// Published for Sparc PSO: barriers as level 3 has them under the mask.
+    pub sparc: Vec<Published>,
     /// For each machine the masks that allow what is asked.
     pub allowing: Vec<Vec<u16>>,
     /// For the first mask, and for the last if there are several, the number of outcomes on each machine.
@@ -45,6 +55,11 @@ impl Row {
             Asked::Register { lane, register, value } => outcome.registers[lane][register] == value,
             Asked::Memory { location, value } => outcome.memory[location] == value,
         })
+    }
+
+    /// What is published for Sparc PSO with the barriers of this mask.
+    pub fn sparc_published(&self, mask: u16) -> Option<&Published> {
+        self.sparc.iter().find(|published| published.mask == mask)
     }
 
     /// The numbers of outcomes that the row gives for a mask.
@@ -83,6 +98,7 @@ fn row(block: &str) -> Result<Row, String> {
         asked_text: field("asked")?.to_string(),
         asked: field("asked")?.split_whitespace().map(|word| asked(&assembled, word)).collect::<Result<_, _>>()?,
         published: published(field("x86")?)?,
+        sparc: sparc(&assembled, field("sparc")?)?,
         allowing: allowing.collect::<Result<_, String>>()?,
         outcomes: field("outcomes")?.split("; ").map(numbers).collect::<Result<_, _>>()?,
         records: field("records")?.parse().map_err(|_| "no number of records")?,
@@ -103,6 +119,17 @@ fn published(word: &str) -> Result<Option<bool>, String> {
         "-" => Ok(None),
         _ => Err(format!("no verdict {word}")),
     }
+}
+
+/// `{} allowed 002 fig. 4.1a; {x y} forbidden 002 ex. 4.1`, or `-`.
+fn sparc(assembled: &Assembled, text: &str) -> Result<Vec<Published>, String> {
+    let verdict = |part: &str| {
+        let (set, rest) = part.split_once("} ").ok_or("no mask published")?;
+        let (word, place) = rest.split_once(' ').ok_or("no place published")?;
+        let allowed = published(word)?.ok_or("no verdict published")?;
+        Ok(Published { mask: assembled.mask(set)?, allowed, place: place.to_string() })
+    };
+    if text == "-" { Ok(Vec::new()) } else { text.split("; ").map(verdict).collect() }
 }
 
 fn numbers(text: &str) -> Result<Vec<usize>, String> {

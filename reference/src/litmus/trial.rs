@@ -8,11 +8,10 @@ use crate::slow::outcomes::Outcome;
 use crate::slow::{outcomes, straight_outcomes};
 use std::collections::BTreeSet;
 
-/// Runs of somebody, by name: the source machine's and the tso machine's.
+/// Runs of somebody, by name: one for each machine.
 pub struct Runs {
     pub name: &'static str,
-    pub source: Run,
-    pub tso: Run,
+    pub runs: [Run; 3],
 }
 
 /// What came out of a mask: for each of `MACHINES` whether what is asked is allowed, and the number of outcomes.
@@ -22,23 +21,29 @@ pub struct Trial {
     pub differences: Vec<String>,
 }
 
+/// Of `MACHINES`, whose outcomes lie within whose: SC within tso within pso within source.
+const WITHIN: [(usize, usize); 3] = [(0, 2), (2, 3), (3, 1)];
+
 pub fn try_row(row: &Row, mask: u16, others: &[Runs]) -> Result<Trial, String> {
     let file = row.assembled.file(mask);
     let refused = |refusal| format!("{}: {refusal:?}", row.name);
-    let source = outcomes(Machine::Source, &file).map_err(refused)?;
-    let tso = outcomes(Machine::Tso, &file).map_err(refused)?;
     let straight = straight_outcomes(&file).map_err(refused)?;
+    let mut sets = vec![straight];
+    for machine in Machine::ALL {
+        sets.push(outcomes(machine, &file).map_err(refused)?);
+    }
     let mut differences = Vec::new();
-    for Runs { name, source: by_source, tso: by_tso } in others {
-        for (machine, run, expected) in [(Machine::Source, by_source, &source), (Machine::Tso, by_tso, &tso)] {
+    for Runs { name, runs } in others {
+        for ((machine, run), expected) in Machine::ALL.into_iter().zip(runs).zip(&sets[1..]) {
             if search(machine, &file, *run)? != *expected {
                 differences.push(format!("{machine:?} by {name}: other outcomes than by slow"));
             }
         }
     }
-    let sets = [straight, source, tso];
-    if !(sets[0].is_subset(&sets[2]) && sets[2].is_subset(&sets[1])) {
-        differences.push("SC within tso within source does not hold".to_string());
+    for (inner, outer) in WITHIN {
+        if !sets[inner].is_subset(&sets[outer]) {
+            differences.push(format!("{} within {} does not hold", MACHINES[inner], MACHINES[outer]));
+        }
     }
     let allowed = sets.iter().map(|set| set.iter().any(|outcome| row.met(outcome))).collect();
     let counts = sets.iter().map(BTreeSet::<Outcome>::len).collect();
@@ -58,6 +63,10 @@ impl Trial {
         // what is published speaks of locations as x86 has them: no mark but the fences that the row writes itself
         if mask == row.masks[0] && row.published.is_some_and(|published| published != self.allowed[2]) {
             self.differences.push("tso differs from the published verdict".to_string());
+        }
+        // and as Sparc has them: with the barriers that level 3 writes under the mask
+        if row.sparc_published(mask).is_some_and(|published| published.allowed != self.allowed[3]) {
+            self.differences.push("pso differs from the published verdict".to_string());
         }
         if row.expected_outcomes(mask).is_some_and(|expected| *expected != self.counts) {
             self.differences.push(format!("outcomes {:?} instead of {:?}", self.counts, row.expected_outcomes(mask)));

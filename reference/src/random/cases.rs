@@ -1,9 +1,9 @@
-//! The cases of a seed, each by its number alone: a kernel file and schedules for both machines.
+//! The cases of a seed, each by its number alone: a kernel file and schedules for the three machines.
 
 use super::edges::{Edge, edges};
 use super::{Random, faults, schedules};
 use crate::slow::kernel::check;
-use crate::slow::machines::Machine;
+use crate::slow::machines::{Machine, Program};
 
 pub struct Cases {
     seed: u64,
@@ -42,19 +42,24 @@ impl Cases {
     }
 }
 
-/// An accepted kernel gets three schedules for each machine, the first of them with lists as long as they get.
+/// An accepted kernel gets three schedules for each machine, the first of them with lists as long as they get, and one
+/// more for the pso machine, whose choices go by the lists.
 fn schedules_for(random: &mut Random, file: &[u8]) -> Vec<(Machine, Vec<u8>)> {
     let lanes = file.first().map_or(1, |lanes| usize::from(*lanes).clamp(1, 4));
-    let (records, accepted) = (file.len() / 12, check(file).is_ok());
+    let (records, accepted) = (file.len() / 12, check(file));
     let mut schedules = Vec::new();
-    for machine in [Machine::Source, Machine::Tso] {
+    for machine in Machine::ALL {
         let highest = machine.highest_choice();
-        if accepted {
+        if accepted.is_ok() {
             schedules.push((machine, schedules::piled_schedule(random, lanes, records, highest)));
         }
-        for _ in 0..if accepted { 2 } else { 1 } {
+        for _ in 0..if accepted.is_ok() { 2 } else { 1 } {
             schedules.push((machine, schedules::schedule(random, lanes, records, highest)));
         }
+    }
+    if let Ok(kernel) = accepted {
+        let program = Program::new(Machine::Pso, &kernel);
+        schedules.push((Machine::Pso, schedules::walked_schedule(random, &program, records)));
     }
     schedules
 }

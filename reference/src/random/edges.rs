@@ -2,6 +2,7 @@
 
 mod headers;
 mod lanes;
+mod marks;
 mod pages;
 mod records;
 
@@ -32,7 +33,7 @@ impl Edge {
 
 /// Every edge, in the order in which cases take their turns.
 pub fn edges() -> Vec<Edge> {
-    [headers::edges(), records::edges(), lanes::edges(), pages::edges()].into_iter().flatten().collect()
+    [headers::edges(), records::edges(), lanes::edges(), pages::edges(), marks::edges()].into_iter().flatten().collect()
 }
 
 /// A valid kernel of a few records in each of so many lanes, with at least two locks.

@@ -1,6 +1,7 @@
 //! Random schedules as bytes from C: valid ones, and ones with a fault somewhere.
 
 use super::Random;
+use crate::slow::machines::{Program, Turn};
 
 /// A schedule for a machine whose highest choice is `highest`; some have a fault, mostly the smallest.
 pub fn schedule(random: &mut Random, lanes: usize, records: usize, highest: u8) -> Vec<u8> {
@@ -44,6 +45,26 @@ fn valid_schedule(random: &mut Random, lanes: usize, records: usize, highest: u8
             _ => 0,
         };
         moves.extend([random.below(lanes) as u8, choice]);
+    }
+    moves
+}
+
+/// Choices go by the lists as the moves before leave them: 0, or up to one more than the lane's pending entries, which
+/// lists of 64 make the 65 that no machine has.
+pub fn walked_schedule(random: &mut Random, program: &Program, records: usize) -> Vec<u8> {
+    let (mut state, mut moves) = (program.start(), Vec::new());
+    let count = random.below(2 * records + 8);
+    // with few commits until half of the moves are made, lists grow long
+    let commits = random.pick(&[2, 3, 40]);
+    for number in 0..count {
+        let lane = random.below(state.lanes.len());
+        let pending = state.lanes[lane].pending.count();
+        let commit = random.once_in(if 2 * number < count { commits } else { 2 });
+        let choice = if commit { 1 + random.below(pending + 1) } else { 0 };
+        moves.extend([lane as u8, choice as u8]);
+        if let Turn::Done(next, _) = program.turn(&state, lane, choice) {
+            state = next;
+        }
     }
     moves
 }

@@ -1,37 +1,43 @@
-//! Slow implementation: the two machines of paper 01, each move a function from a state to the next, and when a run is
-//! finished, by request 2 of paper 02.
+//! Slow implementation: the two machines of paper 01 and the third of request 4 of paper 02, each move a function from
+//! a state to the next, and when a run is finished, by request 2.
 
 use super::kernel::{ADD, Kernel, LOAD, LOCK, Refusal, SET, SKIP, STORE, UNLOCK, refuse};
-use super::sheets::{Instruction, Level, MFENCE, instructions};
+use super::pending::{Entry, Item, Pending};
+use super::sheets::{Instruction, Level, MFENCE, SL, SS, instructions};
 
 #[derive(Clone, Copy, Debug, PartialEq, Eq, PartialOrd, Ord)]
 pub enum Machine {
     Source,
     Tso,
+    Pso,
 }
 
 impl Machine {
+    pub const ALL: [Machine; 3] = [Machine::Source, Machine::Tso, Machine::Pso];
+
     /// A move may not name a choice above this.
     pub fn highest_choice(self) -> u8 {
         match self {
-            Machine::Source => 64,
+            Machine::Source | Machine::Pso => 64,
             Machine::Tso => 1,
         }
     }
-}
 
-/// An entry of a lane's list of pending stores.
-#[derive(Clone, Copy, Debug, PartialEq, Eq, PartialOrd, Ord)]
-pub enum Entry {
-    Store { location: u8, value: u32 },
-    Release { lock: u8 },
+    /// What its lanes carry out.
+    fn level(self) -> Level {
+        match self {
+            Machine::Source => Level::Chain,
+            Machine::Tso => Level::Two,
+            Machine::Pso => Level::Three,
+        }
+    }
 }
 
 #[derive(Clone, Debug, PartialEq, Eq, PartialOrd, Ord)]
 pub struct Lane {
     pub position: usize,
     pub registers: [u32; 8],
-    pub pending: Vec<Entry>,
+    pub pending: Pending,
 }
 
 #[derive(Clone, Debug, PartialEq, Eq, PartialOrd, Ord)]
@@ -56,7 +62,7 @@ pub enum Turn {
     StrangeRelease(usize),
 }
 
-/// A machine with what its lanes carry out: the chains (source) or the level 2 sheet (tso).
+/// A machine with what its lanes carry out: the chains (source), the level 2 sheet (tso) or the level 3 sheet (pso).
 pub struct Program<'a> {
     machine: Machine,
     kernel: &'a Kernel,
@@ -74,13 +80,12 @@ pub struct Run {
 
 impl<'a> Program<'a> {
     pub fn new(machine: Machine, kernel: &'a Kernel) -> Self {
-        let level = if machine == Machine::Source { Level::Chain } else { Level::Two };
-        let parts = (0..kernel.header.lanes).map(|lane| instructions(kernel, lane, level)).collect();
+        let parts = (0..kernel.header.lanes).map(|lane| instructions(kernel, lane, machine.level())).collect();
         Program { machine, kernel, parts }
     }
 
     pub fn start(&self) -> State {
-        let lane = Lane { position: 0, registers: [0; 8], pending: Vec::new() };
+        let lane = Lane { position: 0, registers: [0; 8], pending: Pending::default() };
         let header = &self.kernel.header;
         State { lanes: vec![lane; header.lanes], memory: vec![0; header.locations], locks: vec![0; header.locks] }
     }
@@ -139,8 +144,9 @@ impl<'a> Program<'a> {
                 own.registers[a] = value;
                 loaded = Some(Loaded { lane, position: next.origin, value });
             }
-            STORE => own.pending.push(Entry::Store { location: next.b, value: own.registers[a] }),
-            UNLOCK => own.pending.push(Entry::Release { lock: next.b }),
+            STORE => own.pending.append(Entry::Store { location: next.b, value: own.registers[a] }),
+            UNLOCK => own.pending.append(Entry::Release { lock: next.b }),
+            SS => own.pending.mark(),
             SKIP if own.registers[a] == 0 => own.position = next.word as usize,
             LOCK => after.locks[b] = holder,
             _ => {}
@@ -150,20 +156,22 @@ impl<'a> Program<'a> {
 
     fn permits(&self, state: &State, lane: usize, next: &Instruction) -> bool {
         let pending = &state.lanes[lane].pending;
-        let ordered = pending.iter().any(|entry| self.ordered(entry));
+        let ordered = pending.entries().any(|entry| self.ordered(entry));
         let volatile = next.operation == LOAD && self.kernel.volatile(next.b);
         let locks = next.operation == LOCK;
         let list = match self.machine {
             Machine::Source => !(volatile || locks) || !ordered,
             Machine::Tso => !(next.operation == MFENCE || locks) || pending.is_empty(),
+            // "the store-load barrier and LOCK need an empty list"
+            Machine::Pso => !(next.operation == SL || locks) || pending.is_empty(),
         };
         list && (!locks || state.locks[usize::from(next.b)] == 0)
     }
 
     /// Whether an entry is a volatile store or an UNLOCK.
-    fn ordered(&self, entry: &Entry) -> bool {
+    fn ordered(&self, entry: Entry) -> bool {
         match entry {
-            Entry::Store { location, .. } => self.kernel.volatile(*location),
+            Entry::Store { location, .. } => self.kernel.volatile(location),
             Entry::Release { .. } => true,
         }
     }
@@ -174,34 +182,34 @@ impl<'a> Program<'a> {
         if self.machine == Machine::Source && self.kernel.volatile(from) {
             return memory;
         }
-        let own = state.lanes[lane].pending.iter().rev().find_map(|entry| match entry {
-            Entry::Store { location, value } if *location == from => Some(*value),
+        let own = state.lanes[lane].pending.entries().rev().find_map(|entry| match entry {
+            Entry::Store { location, value } if location == from => Some(value),
             _ => None,
         });
         own.unwrap_or(memory)
     }
 
     fn commit(&self, state: &State, lane: usize, index: usize) -> Turn {
-        let pending = &state.lanes[lane].pending;
-        if index >= pending.len() || !self.may_commit(&pending[..index], &pending[index]) {
-            return Turn::Waits;
-        }
+        let entry = match state.lanes[lane].pending.nth(index) {
+            Some((older, entry)) if self.may_commit(older, entry) => entry,
+            _ => return Turn::Waits,
+        };
         let mut after = state.clone();
-        match after.lanes[lane].pending.remove(index) {
+        after.lanes[lane].pending.remove(index);
+        match entry {
             Entry::Store { location, value } => after.memory[usize::from(location)] = value,
             Entry::Release { lock } => after.locks[usize::from(lock)] = 0,
         }
         Turn::Done(after, None)
     }
 
-    fn may_commit(&self, older: &[Entry], entry: &Entry) -> bool {
-        let same = |other: &Entry| match (other, entry) {
-            (Entry::Store { location: one, .. }, Entry::Store { location: two, .. }) => one == two,
-            _ => false,
-        };
+    fn may_commit(&self, older: &[Item], entry: Entry) -> bool {
+        let same = |item: &Item| matches!(item, Item::Entry(other) if other.same(entry));
         match self.machine {
             Machine::Source if !self.ordered(entry) => !older.iter().any(same),
-            _ => older.is_empty(),
+            Machine::Source | Machine::Tso => older.is_empty(),
+            // "when no older entry has the same location or lock and no SS mark is older"
+            Machine::Pso => !older.iter().any(same) && !older.contains(&Item::Mark),
         }
     }
 }

@@ -1,4 +1,4 @@
-//! Slow implementation of paper 01 with requests 1 to 3 of paper 02: their sentences written down as directly as they
+//! Slow implementation of paper 01 with requests 1 to 4 of paper 02: their sentences written down as directly as they
 //! can be run, with no care for speed.
 
 pub mod kernel;
@@ -6,6 +6,7 @@ pub mod listing;
 pub mod machines;
 pub mod outcomes;
 pub mod page;
+pub mod pending;
 pub mod placement;
 mod record;
 pub mod sheets;
@@ -28,7 +29,7 @@ pub fn answer(result: Result<usize, Refusal>) -> u64 {
     }
 }
 
-/// Lowers a kernel file into the output buffer; level 1 or 2.
+/// Lowers a kernel file into the output buffer; level 1, 2 or 3.
 pub fn lower(level: u8, file: &[u8], out: &mut [u8]) -> u64 {
     answer(put_into(out, &lowered(level, file)))
 }
@@ -46,7 +47,11 @@ pub fn run(machine: Machine, file: &[u8], moves: &[u8], out: &mut [u8]) -> u64 {
 
 /// The sheet, or a refusal of 1 to 8.
 pub fn lowered(level: u8, file: &[u8]) -> Result<Vec<u8>, Refusal> {
-    let level = if level == 1 { Level::One } else { Level::Two };
+    let level = match level {
+        1 => Level::One,
+        2 => Level::Two,
+        _ => Level::Three,
+    };
     check(file).map(|kernel| sheet(&kernel, level))
 }
 

@@ -17,7 +17,7 @@ pub fn outcomes(machine: Machine, file: &[u8]) -> Result<BTreeSet<Outcome>, Refu
     let program = Program::new(machine, &kernel);
     // a choice beyond the list waits
     let lane_moves = |state: &State, lane: usize| {
-        let choices = state.lanes[lane].pending.len().min(machine.highest_choice().into());
+        let choices = state.lanes[lane].pending.count().min(machine.highest_choice().into());
         (0..=choices).filter_map(|choice| done(&program, state, lane, choice)).collect::<Vec<_>>()
     };
     Ok(search(&program, lane_moves))

@@ -1,7 +1,8 @@
 //! Slow implementation: a run as C asks for it, and the state record of 2,280 bytes.
 
 use super::kernel::{Refusal, check, refuse};
-use super::machines::{Entry, Lane, Machine, Program, Run};
+use super::machines::{Lane, Machine, Program, Run};
+use super::pending::Entry;
 
 pub const STATE: usize = 2280;
 const LANE: usize = 548;
@@ -33,18 +34,19 @@ fn record(run: &Run) -> Vec<u8> {
 
 fn lane_record(lane: &Lane) -> Vec<u8> {
     let mut bytes = (lane.position as u16).to_le_bytes().to_vec();
-    bytes.extend((lane.pending.len() as u16).to_le_bytes());
+    bytes.extend((lane.pending.count() as u16).to_le_bytes());
     bytes.extend(words(&lane.registers));
-    bytes.extend(lane.pending.iter().flat_map(entry_record));
+    bytes.extend(lane.pending.marked().into_iter().flat_map(entry_record));
     padded(bytes, LANE)
 }
 
-fn entry_record(entry: &Entry) -> Vec<u8> {
+/// Byte 2 is 1 where a mark stands directly behind the entry.
+fn entry_record((entry, marked): (Entry, bool)) -> Vec<u8> {
     let (kind, place, value) = match entry {
-        Entry::Store { location, value } => (1, *location, *value),
-        Entry::Release { lock } => (2, *lock, 0),
+        Entry::Store { location, value } => (1, location, value),
+        Entry::Release { lock } => (2, lock, 0),
     };
-    [vec![kind, place, 0, 0], value.to_le_bytes().to_vec()].concat()
+    [vec![kind, place, marked.into(), 0], value.to_le_bytes().to_vec()].concat()
 }
 
 fn words(values: &[u32]) -> Vec<u8> {

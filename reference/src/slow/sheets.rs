@@ -1,9 +1,11 @@
-//! Slow implementation: the instructions of a lane at each level, and the sheets of paper 01 as bytes, with request 1
-//! of paper 02.
+//! Slow implementation: the instructions of a lane at each level, and the sheets of paper 01 as bytes, with requests 1
+//! and 4 of paper 02.
 
 use super::kernel::{Kernel, LOCK, SKIP};
 use super::placement::{Barrier, placement};
 
+pub const SS: u8 = 13;
+pub const SL: u8 = 14;
 pub const MFENCE: u8 = 15;
 
 /// What a lane carries out: the chain itself (source machine) or a lane's part of a sheet.
@@ -12,6 +14,7 @@ pub enum Level {
     Chain,
     One,
     Two,
+    Three,
 }
 
 impl Level {
@@ -19,14 +22,26 @@ impl Level {
     /// `next`.
     fn code(self, barrier: Barrier, next: u8) -> Option<u8> {
         match (self, barrier) {
+            // "From now on level 2 writes no MFENCE directly before a LOCK .. Level 1 keeps its SL."
+            // "Job 1's rule serves levels 2 and 3"
+            (Level::Two | Level::Three, Barrier::SL) if next == LOCK => None,
+            (Level::Two, Barrier::SL) => Some(MFENCE),
             (Level::One, Barrier::LL) => Some(11),
             (Level::One, Barrier::LS) => Some(12),
-            (Level::One, Barrier::SS) => Some(13),
-            (Level::One, Barrier::SL) => Some(14),
-            // "From now on level 2 writes no MFENCE directly before a LOCK .. Level 1 keeps its SL."
-            (Level::Two, Barrier::SL) if next == LOCK => None,
-            (Level::Two, Barrier::SL) => Some(MFENCE),
+            // "Level 3 writes 13 and 14 as level 1 does"
+            (Level::One | Level::Three, Barrier::SS) => Some(SS),
+            (Level::One | Level::Three, Barrier::SL) => Some(SL),
             _ => None,
+        }
+    }
+
+    /// The level byte of its sheet.
+    fn number(self) -> u8 {
+        match self {
+            Level::Chain => 0,
+            Level::One => 1,
+            Level::Two => 2,
+            Level::Three => 3,
         }
     }
 }
@@ -65,10 +80,11 @@ pub fn instructions(kernel: &Kernel, lane: usize, level: Level) -> Vec<Instructi
 
 pub fn sheet(kernel: &Kernel, level: Level) -> Vec<u8> {
     let header = &kernel.header;
-    let (number, mask) = if level == Level::One { (1, header.mask) } else { (2, 0) };
+    // "mask (zero at level 2)"; "Level 3 writes .. a zero mask"
+    let mask = if matches!(level, Level::Two | Level::Three) { 0 } else { header.mask };
     let parts: Vec<Vec<Instruction>> = (0..header.lanes).map(|lane| instructions(kernel, lane, level)).collect();
     let count = |lane: usize| parts.get(lane).map_or(0, |part| part.len() as u16);
-    let mut bytes = vec![header.lanes as u8, header.locations as u8, header.locks as u8, number];
+    let mut bytes = vec![header.lanes as u8, header.locations as u8, header.locks as u8, level.number()];
     bytes.extend(mask.to_le_bytes());
     bytes.extend([0, 0]);
     bytes.extend((0..4).flat_map(|lane| count(lane).to_le_bytes()));

@@ -20,20 +20,20 @@ use Rattle.barrier_placement.specs.Steps.{stepOf, steps}
 use Rattle.barrier_placement.proofs.Laws.Layout.{start-zero, start-suc}
 use Rattle.barrier_placement.proofs.Laws.Pass.{Reached, reached-none}
 use Rattle.sheet_format.specs.declared.Level.{Level}
-use Rattle.sheet_format.specs.declared.Level.the-variants.{Level1, Level2}
+use Rattle.sheet_format.specs.declared.Level.the-variants.{Level1, Level2, Level3}
 use Rattle.sheet_format.specs.Levels.{keeps, placed}
 use Rattle.sheet_format.specs.Items.{operationAt}
 use Rattle.sheet_format.proofs.Before.{chosen-ext, stands-none, placed-before}
 use Rattle.sheet_format.proofs.PlacedLanes.{placed-count}
-use Rattle.barrier_pass.specs.Plan.{setBy, planSet, atLevels, beginNumber, planNumber, widthAt, Widths}
+use Rattle.barrier_pass.specs.Plan.{setBy, planSet, beginNumber, planNumber, widthAt, widthNumber, Widths}
 use Rattle.barrier_pass.proofs.Laws.Sets.{set-is, plan-set-small, plan-set-kept}
 
 -- ## how many instructions an operation makes
 
-pub width-small : {w : List ℕ} → Widths w → (x : ℕ) → x < 32 → getD w x 0 ≤ 16544
+pub width-small : {w : List ℕ} → Widths w → (x : ℕ) → x < 32 → getD w x 0 ≤ 6308000
 width-small ok x h =
-    let width : ℕ → ℕ = λ k. atLevels (widthAt Level1 k) (widthAt Level2 k) in
-    omega (arith, ok .each x h, leb-true (width x) 16544 (values-at (λ k. leb (width k) 16544) (λ k. true) 32 x refl h))
+    let few = values-at (λ k. leb (widthNumber k) 6308000) (λ k. true) 32 x refl h in
+    omega (arith, ok .each x h, leb-true (widthNumber x) 6308000 few)
 
 -- ## where positions begin
 
@@ -57,7 +57,13 @@ width-as l o x h f e =
 
 module _ (vol : ℕ → Bool) (ops : List Op) where
   pub begin-zero : beginNumber vol ops 0 ≡ 0
-  begin-zero = omega (arith, start-zero (placed Level1 vol ops), start-zero (placed Level2 vol ops))
+  begin-zero =
+      omega (
+        arith,
+        start-zero (placed Level1 vol ops),
+        start-zero (placed Level2 vol ops),
+        start-zero (placed Level3 vol ops),
+      )
 
   -- the next position begins where the table of widths says
   pub begin-next : {w : List ℕ} → Widths w → (p x : ℕ) → p < length ops → x < 16
@@ -71,8 +77,10 @@ module _ (vol : ℕ → Bool) (ops : List Op) where
         ok .each (planSet o x) (plan-set-small o x small),
         width-as Level1 o x small f e,
         width-as Level2 o x small f e,
+        width-as Level3 o x small f e,
         next-begins Level1 vol ops p h,
         next-begins Level2 vol ops p h,
+        next-begins Level3 vol ops p h,
       )
 
 -- ## the plan while it is written

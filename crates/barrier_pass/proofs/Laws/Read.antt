@@ -12,10 +12,10 @@ use Rattle.barrier_placement.specs.Place.{stands}
 use Rattle.barrier_placement.specs.Steps.{steps}
 use Rattle.barrier_placement.proofs.Laws.Layout.{start-zero}
 use Rattle.sheet_format.specs.declared.Level.{Level}
-use Rattle.sheet_format.specs.declared.Level.the-variants.{Level0, Level1, Level2}
+use Rattle.sheet_format.specs.declared.Level.the-variants.{Level0, Level1, Level2, Level3}
 use Rattle.sheet_format.specs.Levels.{keeps, placed}
 use Rattle.sheet_format.specs.Items.{operationAt}
-use Rattle.sheet_format.proofs.Laws.Cells.{lane-start}
+use Rattle.sheet_format.proofs.Laws.Cells.{widest-few, lane-start}
 use Rattle.barrier_pass.specs.Plan.{setBy, planSet, keptIn, planNumber, beginIn}
 use Rattle.barrier_pass.proofs.Laws.Plan.{next-begins}
 use Rattle.barrier_pass.proofs.Laws.Sets.{set-small, bit-set, plan-set-small, plan-set-kept, kept-lowest}
@@ -24,6 +24,7 @@ pub begin-small : (l : Level) (x p : ℕ) → p ≤ 64 → beginIn l x p < 256
 begin-small Level0 x p h = omega arith
 begin-small Level1 x p h = omega arith
 begin-small Level2 x p h = omega arith
+begin-small Level3 x p h = omega arith
 
 -- ## the barriers
 
@@ -35,7 +36,9 @@ module _ (vol : ℕ → Bool) (ops : List Op) where
       let o = operationAt ops p in
       let f : Barrier → Bool = λ a. stands (steps vol ops) a p in
       let x = setBy f in
-      let high : ℕ = start (placed Level1 vol ops) p + 256 * start (placed Level2 vol ops) p in
+      let high : ℕ =
+      start (placed Level1 vol ops) p + 256 * start (placed Level2 vol ops) p
+      + 65536 * start (placed Level3 vol ops) p in
       let whole : planNumber vol ops p ≡ planSet o x + 32 * high = omega arith in
       ap (λ n. keptIn l n b) whole ∙ kept-lowest l high (planSet o x) (plan-set-small o x (set-small f)) b
       ∙ plan-set-kept l o x (set-small f) b ∙ ap (λ t. keeps l o b && t) (bit-set f b)
@@ -51,20 +54,12 @@ module _ (vol : ℕ → Bool) (ops : List Op) where
   low p = plan-set-small (operationAt ops p) _ (set-small (λ b. stands (steps vol ops) b p))
 
   module _ (short : length ops ≤ 64) where
+    begins-few : (l : Level) (p : ℕ) → start (placed l vol ops) p < 256
+    begins-few l p = omega (arith, lane-start l vol ops short p, widest-few l)
+
     pub plan-begins : (l : Level) (p : ℕ) → p ≤ length ops
         → beginIn l (planNumber vol ops p) p ≡ start (placed l vol ops) p
     plan-begins Level0 p h = sym (level0-begins p h)
-    plan-begins Level1 p h =
-        omega (
-          arith,
-          low p,
-          lane-start Level1 vol ops short p,
-          lane-start Level2 vol ops short p,
-        )
-    plan-begins Level2 p h =
-        omega (
-          arith,
-          low p,
-          lane-start Level1 vol ops short p,
-          lane-start Level2 vol ops short p,
-        )
+    plan-begins Level1 p h = omega (arith, low p, begins-few Level1 p)
+    plan-begins Level2 p h = omega (arith, low p, begins-few Level1 p, begins-few Level2 p)
+    plan-begins Level3 p h = omega (arith, low p, begins-few Level1 p, begins-few Level2 p, begins-few Level3 p)

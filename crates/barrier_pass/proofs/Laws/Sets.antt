@@ -19,10 +19,10 @@ use Rattle.barrier_placement.proofs.Laws.Bits.{bit-four}
 use Rattle.barrier_placement.proofs.Laws.Bytes.{bit-small}
 use Rattle.barrier_placement.proofs.Laws.Cookbook.{everyBarrier, barrier-at}
 use Rattle.sheet_format.specs.declared.Level.{Level}
-use Rattle.sheet_format.specs.declared.Level.the-variants.{Level0, Level1, Level2}
+use Rattle.sheet_format.specs.declared.Level.the-variants.{Level0, Level1, Level2, Level3}
 use Rattle.sheet_format.specs.Levels.{drains, keeps}
 use Rattle.sheet_rows.specs.Lanes.{fieldsOf}
-use Rattle.barrier_pass.specs.Plan.{setBy, planSet, keptIn}
+use Rattle.barrier_pass.specs.Plan.{setBy, planSet, fenceIn, keptIn}
 
 pub set-small : (f : Barrier → Bool) → setBy f < 16
 set-small f =
@@ -84,6 +84,15 @@ drains-code (Skip a t) = refl
 pub plan-set-small : (o : Op) (x : ℕ) → x < 16 → planSet o x < 32
 plan-set-small o x h = omega (arith, boolByte-small (drains o))
 
+-- it has SL for the targets where SL is in the set and the operation does not drain
+fence-kept : (o : Op) (x : ℕ) → x < 16 → fenceIn (planSet o x) ≡ (not (drains o) && bit x 3)
+fence-kept o x h =
+    let t : Bool = drains o in
+    let fifth : (x + 16 * boolByte t) / 16 % 2 ≡ boolByte t = omega (arith, boolByte-small t) in
+    ap₂ (λ u v. not u && v)
+    (ap (λ n. eqb n 1) fifth ∙ by-test (λ u. eqb (boolByte u) 1 ≡ u) refl refl t)
+    (bit-lowest (boolByte t) x h SL)
+
 -- at each level it has those barriers of the set that the level keeps before the operation
 pub plan-set-kept : (l : Level) (o : Op) (x : ℕ) → x < 16 → (b : Barrier)
     → keptIn l (planSet o x) b ≡ (keeps l o b && bit x (bitOf b))
@@ -92,26 +101,35 @@ plan-set-kept Level1 o x h b = bit-lowest (boolByte (drains o)) x h b
 plan-set-kept Level2 o x h LL = refl
 plan-set-kept Level2 o x h LS = refl
 plan-set-kept Level2 o x h SS = refl
-plan-set-kept Level2 o x h SL =
-    let t : Bool = drains o in
-    let fifth : (x + 16 * boolByte t) / 16 % 2 ≡ boolByte t = omega (arith, boolByte-small t) in
-    ap₂ (λ u v. not u && v)
-    (ap (λ n. eqb n 1) fifth ∙ by-test (λ u. eqb (boolByte u) 1 ≡ u) refl refl t)
-    (bit-lowest (boolByte t) x h SL)
+plan-set-kept Level2 o x h SL = fence-kept o x h
+plan-set-kept Level3 o x h LL = refl
+plan-set-kept Level3 o x h LS = refl
+plan-set-kept Level3 o x h SS = bit-lowest (boolByte (drains o)) x h SS
+plan-set-kept Level3 o x h SL = fence-kept o x h
 
--- whatever stands above it
-pub kept-lowest : (l : Level) (a x : ℕ) → x < 32 → (b : Barrier) → keptIn l (x + 32 * a) b ≡ keptIn l x b
-kept-lowest Level0 a x h b = refl
-kept-lowest Level1 a x h b =
+-- ## whatever stands above it
+
+bit-below : (a x : ℕ) → x < 32 → (b : Barrier) → bit (x + 32 * a) (bitOf b) ≡ bit x (bitOf b)
+bit-below a x h b =
     let low : x % 16 < 16 = omega arith in
     let whole : x + 32 * a ≡ x % 16 + 16 * (x / 16 + 2 * a) = omega arith in
     let alone : x ≡ x % 16 + 16 * (x / 16) = omega arith in
     ap (λ n. bit n (bitOf b)) whole ∙ bit-lowest (x / 16 + 2 * a) (x % 16) low b
     ∙ sym (ap (λ n. bit n (bitOf b)) alone ∙ bit-lowest (x / 16) (x % 16) low b)
+
+fence-below : (a x : ℕ) → x < 32 → fenceIn (x + 32 * a) ≡ fenceIn x
+fence-below a x h =
+    let fifth : (x + 32 * a) / 16 % 2 ≡ x / 16 % 2 = omega arith in
+    ap₂ (λ u v. not (eqb u 1) && v) fifth (bit-below a x h SL)
+
+pub kept-lowest : (l : Level) (a x : ℕ) → x < 32 → (b : Barrier) → keptIn l (x + 32 * a) b ≡ keptIn l x b
+kept-lowest Level0 a x h b = refl
+kept-lowest Level1 a x h b = bit-below a x h b
 kept-lowest Level2 a x h LL = refl
 kept-lowest Level2 a x h LS = refl
 kept-lowest Level2 a x h SS = refl
-kept-lowest Level2 a x h SL =
-    let fifth : (x + 32 * a) / 16 % 2 ≡ x / 16 % 2 = omega arith in
-    let fourth : (x + 32 * a) / 8 % 2 ≡ x / 8 % 2 = omega arith in
-    ap₂ (λ u v. not (eqb u 1) && eqb v 1) fifth fourth
+kept-lowest Level2 a x h SL = fence-below a x h
+kept-lowest Level3 a x h LL = refl
+kept-lowest Level3 a x h LS = refl
+kept-lowest Level3 a x h SS = bit-below a x h SS
+kept-lowest Level3 a x h SL = fence-below a x h

@@ -38,7 +38,7 @@ pub bit-xor : (a b j : ℕ) → bit (bitXor a b) j ≡ differ (bit a j) (bit b j
 bit-xor = bit-by bitXor differ xor-shr xor-mod refl refl refl refl
 
 -- the low bits of a number are its own
-bit-low : (n j k : ℕ) → bit (n % 2 ^ (j + 1 + k)) k ≡ bit n k
+pub bit-low : (n j k : ℕ) → bit (n % 2 ^ (j + 1 + k)) k ≡ bit n k
 bit-low n j k =
     ap (λ (x : ℕ). eqb (x % 2) 1) (field n (j + 1) k) ∙ ap (λ (x : ℕ). eqb x 1) (mod-mod-pow (n / 2 ^ k) j 1)
 

@@ -25,5 +25,6 @@ pub pending-length : (l : Lane) (vs : List Val) → Is T.the-row l vs → length
 pending-length l vs is = length-take (l .len) (entriesOf (l .cells) (l .values)) ∙ ap (min (l .len)) (room l vs is)
 
 -- two lanes are one where their parts are
-pub lane-eq : {s t : TextLane} → s .control .pos ≡ t .control .pos → s .regs ≡ t .regs → s .pending ≡ t .pending → s ≡ t
-lane-eq p q r = λ i. record { control = record { pos = p i }; regs = q i; pending = r i }
+pub lane-eq : {s t : TextLane} → s .control .pos ≡ t .control .pos → s .control .marks ≡ t .control .marks
+    → s .regs ≡ t .regs → s .pending ≡ t .pending → s ≡ t
+lane-eq p m q r = λ i. record { control = record { pos = p i; marks = m i }; regs = q i; pending = r i }

@@ -1,7 +1,7 @@
 -- Laws of the bytes of entries: a store, a release, and a place of a lane's list.
 use Prim.Native.Nat.{ℕ, suc, _-_, _≤_, _<_}
 use mathlib.Core.Path.{_≡_, sym, ap, _∙_}
-use mathlib.Core.Bool.{cond}
+use mathlib.Core.Bool.{Bool, cond}
 use mathlib.Core.List.{List}
 use mathlib.Core.Option.{none, some}
 use native.Mathlib.Decide.{decLe}
@@ -15,13 +15,19 @@ use Rattle.sheet_format.specs.Bytes.{row}
 use Rattle.machine_spec.specs.Entries.{Entry, write, release}
 use Rattle.machine_lane.specs.Lanes.{noEntry, entryOf, entriesOf}
 use Rattle.machine_lane.proofs.Laws.Entries.{entries-length, entries-at}
-use Rattle.machine_record.specs.Lanes.{entryBytes}
+use Rattle.machine_record.specs.Lanes.{flag, entryBytes}
 
-pub store-bytes : (c v : ℕ) → c < 16 → row 1 c 0 v ≡ entryBytes (entryOf c v)
-store-bytes c v h = ap (λ b. entryBytes (cond b (write c v) (release (c - 16)))) (sym (lt-ltb c 16 h))
+-- f being the flag of the mark
+module _ {f : ℕ} (m : Bool) (told : f ≡ flag m) (c v : ℕ) where
+  pub store-bytes : c < 16 → row 1 c f v ≡ entryBytes m (entryOf c v)
+  store-bytes h =
+      ap (λ n. row 1 c n v) told
+      ∙ ap (λ b. entryBytes m (cond b (write c v) (release (c - 16)))) (sym (lt-ltb c 16 h))
 
-pub release-bytes : (c v : ℕ) → 16 ≤ c → row 2 (c - 16) 0 0 ≡ entryBytes (entryOf c v)
-release-bytes c v h = ap (λ b. entryBytes (cond b (write c v) (release (c - 16)))) (sym (le-ltb c 16 h))
+  pub release-bytes : 16 ≤ c → row 2 (c - 16) f 0 ≡ entryBytes m (entryOf c v)
+  release-bytes h =
+      ap (λ n. row 2 (c - 16) n 0) told
+      ∙ ap (λ b. entryBytes m (cond b (write c v) (release (c - 16)))) (sym (le-ltb c 16 h))
 
 -- what stands at place i of the first n entries of full rows
 pub place-is : (cs vs : List ℕ) (n i : ℕ) → length cs ≡ 64 → length vs ≡ 64 → i < 64

@@ -27,7 +27,15 @@ use Rattle.machine_record.proofs.Sizes.{head-length, record-length}
 
 -- a lane of zeros
 abbrev pub none : Stored
-none = record { at = 0; registers = replicate 8 0; cells = replicate 64 0; values = replicate 64 0; len = 0 }
+none = record {
+  at = 0;
+  registers = replicate 8 0;
+  cells = replicate 64 0;
+  values = replicate 64 0;
+  len = 0;
+  low = 0;
+  high = 0;
+}
 
 -- a lane of zeros is written as the idle one
 zeros : stateLane (laneIn none) ≡ stateLane idle

@@ -82,6 +82,9 @@ module _ (s : Blocks) (t : ℕ) (h : Lies s t) where
       ∙ ap (min (storedIn (getD s t []) .len)) (entries-length 64 (rowAt s t CELLS) (rowAt s t VALUES)
       (own .words CELLS (omega arith)) (own .words VALUES (omega arith)))
 
+  pub pending-low : (i : ℕ) → i < length (laneOf s t .pending) → i < 64
+  pending-low i k = omega (arith, pending-count, k)
+
 -- a lane that came out equal, an array that came out equal, one write after another
 pub became : {s e : Blocks} {t : ℕ} {l k : Lane} → l ≡ k → Became s t l e → Became s t k e
 became {s} {e} {t} q b = subst (λ l. Became s t l e) q b

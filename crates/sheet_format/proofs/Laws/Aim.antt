@@ -10,7 +10,7 @@ use Rattle.barrier_placement.specs.declared.cookbook.Barrier.{Barrier}
 use Rattle.barrier_placement.specs.declared.cookbook.Barrier.the-variants.{LL, LS, SS, SL}
 use Rattle.sheet_format.specs.Layout.{aim}
 use Rattle.sheet_format.specs.declared.Level.{Level}
-use Rattle.sheet_format.specs.declared.Level.the-variants.{Level0, Level1, Level2}
+use Rattle.sheet_format.specs.declared.Level.the-variants.{Level0, Level1, Level2, Level3}
 use Rattle.sheet_format.specs.Levels.{drains, keeps}
 
 -- an operation that keeps its target
@@ -57,3 +57,7 @@ keeps-aim Level2 r o LL = refl
 keeps-aim Level2 r o LS = refl
 keeps-aim Level2 r o SS = refl
 keeps-aim Level2 r o SL = ap not (aim-blind drains (λ a t u. refl) r o)
+keeps-aim Level3 r o LL = refl
+keeps-aim Level3 r o LS = refl
+keeps-aim Level3 r o SS = refl
+keeps-aim Level3 r o SL = ap not (aim-blind drains (λ a t u. refl) r o)

@@ -3,22 +3,24 @@ use Prim.Native.Nat.{ℕ, zero, suc, _*_, _≤_}
 use native.Mathlib.Nat.{suc-mul, mul-le-mul-right}
 use native.Mathlib.Omega.{arith}
 use mathlib.Core.Path.{_≡_, refl, subst}
-use mathlib.Core.Bool.{Bool, true, false, _&&_}
+use mathlib.Core.Bool.{Bool, true, false, _&&_, and-false}
 use mathlib.Core.List.{List, [], _∷_, _++_, map}
 use mathlib.Core.Option.{some}
 use lib.ListN.{length, getElem?}
+use Rattle.laws.proofs.Bools.{by-test}
 use Rattle.file_format.specs.declared.accepted.Op.{Op}
 use Rattle.barrier_placement.specs.declared.cookbook.Barrier.{Barrier}
-use Rattle.barrier_placement.specs.declared.cookbook.Barrier.the-variants.{SL}
+use Rattle.barrier_placement.specs.declared.cookbook.Barrier.the-variants.{SS, SL}
 use Rattle.barrier_placement.specs.Chain.{Chain}
 use Rattle.barrier_placement.specs.Steps.{steps}
 use Rattle.barrier_placement.specs.Place.{stands, keep, chosen}
 use Rattle.barrier_placement.specs.Layout.{Placed, start}
-use Rattle.barrier_placement.proofs.Laws.Kinds.{before-few}
+use Rattle.barrier_placement.proofs.Laws.Chosen.{keep-one}
+use Rattle.barrier_placement.proofs.Laws.Kinds.{store-once, before-few}
 use Rattle.barrier_placement.proofs.Laws.Layout.{layout-end}
 use Rattle.sheet_format.specs.Layout.{Instr, op, barrier, aim, cells, sheet}
 use Rattle.sheet_format.specs.declared.Level.{Level}
-use Rattle.sheet_format.specs.declared.Level.the-variants.{Level0, Level1, Level2}
+use Rattle.sheet_format.specs.declared.Level.the-variants.{Level0, Level1, Level2, Level3}
 use Rattle.sheet_format.specs.Levels.{keeps, widest, placeFrom, placed}
 
 -- P holds of each element
@@ -50,11 +52,16 @@ kept-few : (l : Level) (o : Op) (s : Chain) (p : ℕ)
 kept-few Level0 o s p = omega arith
 kept-few Level1 o s p = omega (arith, before-few s p)
 kept-few Level2 o s p = omega (arith, keep-length (keeps Level2 o SL && stands s SL p) SL [])
+kept-few Level3 o s p =
+    let once = by-test (λ t. (stands s SS p && (t && stands s SL p)) ≡ false) (store-once s p)
+    (and-false (stands s SS p)) (keeps Level3 o SL) in
+    omega (arith, keep-one (stands s SS p) (keeps Level3 o SL && stands s SL p) SS SL [] once)
 
 pub widest-few : (l : Level) → widest l ≤ 3
 widest-few Level0 = omega arith
 widest-few Level1 = omega arith
 widest-few Level2 = omega arith
+widest-few Level3 = omega arith
 
 module _ (l : Level) (s : Chain) where
   start-small : (os : List Op) (p i : ℕ) → start (placeFrom l s p os) i ≤ length os * widest l

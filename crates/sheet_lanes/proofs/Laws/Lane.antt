@@ -23,7 +23,7 @@ use Rattle.barrier_placement.specs.Placed.{bit, bitOf}
 use Rattle.barrier_placement.specs.Steps.{steps}
 use Rattle.barrier_placement.proofs.Laws.Kinds.{load-once, store-once}
 use Rattle.sheet_format.specs.declared.Level.{Level}
-use Rattle.sheet_format.specs.declared.Level.the-variants.{Level0, Level1, Level2}
+use Rattle.sheet_format.specs.declared.Level.the-variants.{Level1}
 use Rattle.sheet_format.specs.Layout.{op, barrier, aim, cells, sheet}
 use Rattle.sheet_format.specs.Levels.{keeps, placeFrom, placed}
 use Rattle.sheet_format.specs.Bytes.{opBytes, quadBytes, barrierCode, laneBytes}
@@ -49,20 +49,18 @@ module _ (l : Level) where
   keep-bytes true b bs = refl
   keep-bytes false b bs = refl
 
--- the rows of a plan's set are those of its barriers at the level
-barriers-bytes : (l : Level) (x : ℕ) → laneBytes l (map barrier (chosen (keptIn l x))) ≡ barrierRows l x
-barriers-bytes Level0 x = refl
-barriers-bytes Level1 x =
-    let ss = rowIf (bit x 2) 13 in
-    let sl = rowIf (bit x 3) 14 in
-    keep-bytes Level1 (bit x 0) LL (keep (bit x 1) LS (keep (bit x 2) SS (keep (bit x 3) SL [])))
-    ∙ ap (λ z. rowIf (bit x 0) 11 ++ z)
-    (keep-bytes Level1 (bit x 1) LS (keep (bit x 2) SS (keep (bit x 3) SL []))
-    ∙ ap (λ z. rowIf (bit x 1) 12 ++ z)
-    (keep-bytes Level1 (bit x 2) SS (keep (bit x 3) SL [])
-    ∙ ap (λ z. ss ++ z) (keep-bytes Level1 (bit x 3) SL [] ∙ append-nil sl)))
-    ∙ sym (append-assoc (rowIf (bit x 0) 11) (rowIf (bit x 1) 12) (ss ++ sl))
-barriers-bytes Level2 x = keep-bytes Level2 (keptIn Level2 x SL) SL [] ∙ append-nil (rowIf (keptIn Level2 x SL) 15)
+  -- the rows of a plan's set are those of its barriers at the level
+  barriers-bytes : (x : ℕ) → laneBytes l (map barrier (chosen (keptIn l x))) ≡ barrierRows l x
+  barriers-bytes x =
+      let at : Barrier → List ℕ = λ b. rowIf (keptIn l x b) (barrierCode l b) in
+      keep-bytes (keptIn l x LL) LL
+      (keep (keptIn l x LS) LS (keep (keptIn l x SS) SS (keep (keptIn l x SL) SL [])))
+      ∙ ap (λ z. at LL ++ z)
+      (keep-bytes (keptIn l x LS) LS (keep (keptIn l x SS) SS (keep (keptIn l x SL) SL []))
+      ∙ ap (λ z. at LS ++ z)
+      (keep-bytes (keptIn l x SS) SS (keep (keptIn l x SL) SL [])
+      ∙ ap (λ z. at SS ++ z) (keep-bytes (keptIn l x SL) SL [] ∙ append-nil (at SL))))
+      ∙ sym (append-assoc (at LL) (at LS) (at SS ++ at SL))
 
 -- ## the operation's own row
 

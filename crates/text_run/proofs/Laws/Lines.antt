@@ -63,13 +63,13 @@ module _ (b : List ℕ) {m : Machine} {s : List ℕ} {i : ℕ} {rows before afte
       ∙ legal-take (length (k .lanes)) (limit m) (suc i) mvs (here .legals)
 
   pub line-of : {n : ℕ} → n ≡ i + 1
-      → moveLine rows before after n (getD b (2 * i) 0) (getD b (2 * i + 1) 0) ≡ runLine m (verdict s) mvs i
+      → moveLine m rows before after n (getD b (2 * i) 0) (getD b (2 * i + 1) 0) ≡ runLine m (verdict s) mvs i
   line-of {n} e =
       let one : n ≡ suc i = omega arith in
       let then = w .after-is ∙ ap (λ l. stateBytes (answerBy m s l)) (moves-next b i (w .there)) in
       let named = legal-named (length (k .lanes)) (limit m) mvs i mv (here .legals)
       (moves-at b i (inside b i (w .there))) in
-      (λ j. moveLine rows (w .before-is j) (then j) (one j) (mv .lane) (mv .choice))
+      (λ j. moveLine m rows (w .before-is j) (then j) (one j) (mv .lane) (mv .choice))
       ∙ line-told s k (here .accepts) m (take i mvs) mv lets (omega (arith, length-take i mvs, w .there, w .few)) rows
       (w .rows-of k (here .accepts) (mv .lane) (named .0)) (suc i)
       ∙ (λ j. moveTold m (volatileIn k) (programFor m k) (runBy m s (here .accepts j) (take i mvs) .state) (suc i)

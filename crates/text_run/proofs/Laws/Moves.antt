@@ -10,10 +10,11 @@ use Rattle.sheet_rows.specs.declared.read.Row.{Row}
 use Rattle.sheet_rows.specs.Rows.{rowIn}
 use Rattle.sheet_format.specs.Layout.{Instr}
 use Rattle.sheet_format.specs.Read.{instrBy, readInstr}
+use Rattle.machine_spec.specs.declared.Machine.{Machine}
 use Rattle.machine_record.specs.Fields.{Fields}
 use Rattle.text_put.specs.Words.{named}
-use Rattle.text_listing.specs.Line.{instrText}
 use Rattle.text_run.specs.Words.{valueWord}
+use Rattle.text_run.specs.Names.{instrOn}
 use Rattle.text_run.specs.Places.{nextRow, nextInstr}
 use Rattle.text_run.specs.Moves.{loadedText, carriedText}
 
@@ -41,11 +42,11 @@ module _ (a b w : ℕ) (f : Fields) (t : ℕ) where
       (either (eqb o 7) _ _ (λ e. refl) refl))))))
 
 -- the instruction, from its row, and what it loaded
-pub carried-row : (rows : List ℕ) (before after : Fields) (t : ℕ) {from : ℕ} {row : Row} → from ≡ nextRow rows before t
-    → row ≡ rowIn (drop from rows)
-    → instrText (instrBy (row .code) (row .a) (row .b) (row .word))
+pub carried-row : (m : Machine) (rows : List ℕ) (before after : Fields) (t : ℕ) {from : ℕ} {row : Row}
+    → from ≡ nextRow rows before t → row ≡ rowIn (drop from rows)
+    → instrOn m (instrBy (row .code) (row .a) (row .b) (row .word))
     ++ loadedText (instrBy (row .code) (row .a) (row .b) (row .word)) after t
-    ≡ carriedText (nextInstr rows before t) after t
-carried-row rows before after t {from} {row} e r =
-    ap (λ (y : Row). carriedText (instrBy (y .code) (y .a) (y .b) (y .word)) after t) r
-    ∙ ap (λ k. carriedText (readInstr (drop k rows)) after t) e
+    ≡ carriedText m (nextInstr rows before t) after t
+carried-row m rows before after t {from} {row} e r =
+    ap (λ (y : Row). carriedText m (instrBy (y .code) (y .a) (y .b) (y .word)) after t) r
+    ∙ ap (λ k. carriedText m (readInstr (drop k rows)) after t) e

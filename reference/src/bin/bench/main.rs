@@ -9,7 +9,7 @@ mod worst;
 use reference::random::{Random, draft_of, numbered};
 use reference::{Lower, fast, library};
 use std::hint::black_box;
-use table::{print_head, print_row, time};
+use table::{print_columns, print_row, time};
 
 const KERNELS: usize = 16;
 /// Room for the sheets of 256 records: no access has more than two barriers before it.
@@ -20,12 +20,15 @@ const PAGE: usize = 17_226;
 fn main() {
     let rounds = std::env::args().nth(1).and_then(|word| word.parse().ok()).unwrap_or(301);
     println!("Buffers are not cleared between calls. Each size goes round {KERNELS} kernels.");
-    print_head(rounds);
+    println!("Medians of {rounds} rounds; the spread leaves out a tenth of them at each end.");
+    print_columns("library", "fast");
     lowering(rounds);
     #[cfg(feature = "runs")]
     runs::runs(rounds);
     worst::worst(rounds);
     refusals::refusals(rounds);
+    #[cfg(feature = "runs")]
+    runs::pso_to_tso(rounds);
 }
 
 /// Kernels of the given lane lengths without end, records shuffled.
@@ -41,15 +44,16 @@ fn lowering(rounds: usize) {
     for lengths in [&[3, 3][..], &[20, 20], &[64, 64, 64, 64]] {
         let files: Vec<Vec<u8>> = kernels(lengths).take(KERNELS).collect();
         let records: usize = lengths.iter().sum();
-        both_levels(rounds, &format!("{records} records"), &files);
+        each_level(rounds, &format!("{records} records"), &files);
         line::<PAGE>(rounds, &format!("page, {records} records"), &files, library::page, fast::page);
     }
 }
 
 /// A line for each level, of files that are accepted.
-fn both_levels(rounds: usize, what: &str, files: &[Vec<u8>]) {
+fn each_level(rounds: usize, what: &str, files: &[Vec<u8>]) {
     line::<SHEET>(rounds, &format!("level 1, {what}"), files, library::lower1, fast::lower1);
     line::<SHEET>(rounds, &format!("level 2, {what}"), files, library::lower2, fast::lower2);
+    line::<SHEET>(rounds, &format!("level 3, {what}"), files, library::lower3, fast::lower3);
 }
 
 /// A line of files that are accepted, with an output buffer of this length.

@@ -5,21 +5,21 @@ use std::time::{Duration, Instant};
 /// The shortest time a sample may take.
 const SAMPLE: Duration = Duration::from_micros(200);
 
-pub fn print_head(rounds: usize) {
-    println!("Medians of {rounds} rounds; the spread leaves out a tenth of them at each end.\n");
-    println!("| what | library, ns | fast, ns | ratio | spread of the ratio |");
+/// The head of a table of two sides.
+pub fn print_columns(left: &str, right: &str) {
+    println!("\n| what | {left}, ns | {right}, ns | ratio | spread of the ratio |");
     println!("|---|---|---|---|---|");
 }
 
 /// One line from samples in nanoseconds; each side goes first in every other round.
-pub fn print_row(name: &str, rounds: usize, library: impl Fn() -> f64, fast: impl Fn() -> f64) {
+pub fn print_row(name: &str, rounds: usize, left: impl Fn() -> f64, right: impl Fn() -> f64) {
     let round = |number: usize| {
         if number.is_multiple_of(2) {
-            let left = library();
-            (left, fast())
+            let first = left();
+            (first, right())
         } else {
-            let right = fast();
-            (library(), right)
+            let first = right();
+            (left(), first)
         }
     };
     let samples: Vec<(f64, f64)> = (0..rounds).map(round).collect();

@@ -1,6 +1,6 @@
 //! Benchmark of lowering kernels of one kind of record, four lanes of 64: volatile accesses, locks, and SKIPs between.
 
-use super::{KERNELS, both_levels};
+use super::{KERNELS, each_level};
 use reference::random::{Random, numbered};
 use reference::slow::kernel::{LOAD, LOCK, SKIP, STORE, UNLOCK};
 use reference::writer::{Draft, Step};
@@ -14,7 +14,7 @@ pub fn worst(rounds: usize) {
         [("all volatile", 0xffff, accesses), ("all locks", 0, locks), ("dense skips", 0x00ff, skips)];
     for (kind, mask, lane) in kinds {
         let files: Vec<Vec<u8>> = (0..KERNELS).map(|seed| kernel(seed as u64, mask, lane)).collect();
-        both_levels(rounds, &format!("256 records, {kind}"), &files);
+        each_level(rounds, &format!("256 records, {kind}"), &files);
     }
 }
 

@@ -30,7 +30,7 @@ use Rattle.barrier_pass.proofs.place.place_lane.Tie as tie
 
 abbrev Inv-loop : tie.InvT-loop
 Inv-loop known widths rows n mask plan₀ due₀ brought₀ at₀ p₀ plan due brought at p =
-    (p ≤ n) × (length brought ≡ 65) × (length plan ≡ length plan₀) × (at ≤ 16544 * p)
+    (p ≤ n) × (length brought ≡ 65) × (length plan ≡ length plan₀) × (at ≤ 6308000 * p)
     × ((j : ℕ) → n < j → getD plan j 0 ≡ getD plan₀ j 0)
     × ((ops : List Op) → Holds rows n ops → Placing (isVolatile mask) ops due brought plan at p)
 

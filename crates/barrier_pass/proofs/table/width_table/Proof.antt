@@ -7,23 +7,22 @@ use lib.Dec.{eqb}
 use lib.ListN.{getD}
 use borrow.Author.Tests.{eqb-true}
 use Rattle.laws.proofs.Numbers.{values-at}
-use Rattle.sheet_format.specs.declared.Level.the-variants.{Level1, Level2}
-use Rattle.barrier_pass.specs.Plan.{atLevels, widthAt}
+use Rattle.barrier_pass.specs.Plan.{widthNumber}
 use Rattle.barrier_pass.proofs.table.width_table.Statement.{statement}
 use Rattle.barrier_pass.proofs.table.width_table.Tie as tie
 
 abbrev table : List ℕ
 table =
-    8224 ∷ 8256 ∷ 8256 ∷ 8288 ∷ 8256 ∷ 8288 ∷ 8288 ∷ 8320
-    ∷ 16448 ∷ 16480 ∷ 16480 ∷ 16512 ∷ 16480 ∷ 16512 ∷ 16512 ∷ 16544
-    ∷ 8224 ∷ 8256 ∷ 8256 ∷ 8288 ∷ 8256 ∷ 8288 ∷ 8288 ∷ 8320
-    ∷ 8256 ∷ 8288 ∷ 8288 ∷ 8320 ∷ 8288 ∷ 8320 ∷ 8320 ∷ 8352
+    2105376 ∷ 2105408 ∷ 2105408 ∷ 2105440 ∷ 4202560 ∷ 4202592 ∷ 4202592 ∷ 4202624
+    ∷ 4210752 ∷ 4210784 ∷ 4210784 ∷ 4210816 ∷ 6307936 ∷ 6307968 ∷ 6307968 ∷ 6308000
+    ∷ 2105376 ∷ 2105408 ∷ 2105408 ∷ 2105440 ∷ 4202560 ∷ 4202592 ∷ 4202592 ∷ 4202624
+    ∷ 2105408 ∷ 2105440 ∷ 2105440 ∷ 2105472 ∷ 4202592 ∷ 4202624 ∷ 4202624 ∷ 4202656
     ∷ []
 
-width-is : (x : ℕ) → x < 32 → getD table x 0 ≡ atLevels (widthAt Level1 x) (widthAt Level2 x)
+width-is : (x : ℕ) → x < 32 → getD table x 0 ≡ widthNumber x
 width-is x h =
-    eqb-true (getD table x 0) (atLevels (widthAt Level1 x) (widthAt Level2 x))
-    (values-at (λ k. eqb (getD table k 0) (atLevels (widthAt Level1 k) (widthAt Level2 k))) (λ k. true) 32 x refl h)
+    eqb-true (getD table x 0) (widthNumber x)
+    (values-at (λ k. eqb (getD table k 0) (widthNumber k)) (λ k. true) 32 x refl h)
 
 returns : tie.Need-returns
 returns c = record { each = width-is }

@@ -18,7 +18,7 @@ returns : tie.Need-returns
 returns c =
     let a = c .before .before .before .before .before .before .args in
     puts-as
-    (ap (λ b. placeBytes (cond b (some (entryOf (a .cell) (a .value))) none))
+    (ap (λ b. placeBytes (a .mark) (cond b (some (entryOf (a .cell) (a .value))) none))
     (sym (c .before .before .before .before .if1 .taken)))
     (c .before .before .write-entry .ensures)
 
@@ -26,7 +26,7 @@ returns-2 : tie.Need-returns-2
 returns-2 c =
     let a = c .before .before .before .before .before .before .args in
     puts-as
-    (ap (λ b. placeBytes (cond b (some (entryOf (a .cell) (a .value))) none))
+    (ap (λ b. placeBytes (a .mark) (cond b (some (entryOf (a .cell) (a .value))) none))
     (sym (c .before .before .before .before .if1 .left)))
     (c .before .before .store-row .ensures)
 

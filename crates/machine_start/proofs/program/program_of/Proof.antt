@@ -1,47 +1,47 @@
 -- `machine_start::program::program_of` meets its contract.
 use Prim.Native.Nat.{ℕ}
-use mathlib.Core.Path.{_≡_, refl, sym, ap, _∙_}
+use mathlib.Core.Path.{_≡_, sym, ap, _∙_}
 use mathlib.Core.List.{List}
-use Rattle.file_verdict.specs.Verdict.{Verdict, verdict}
-use Rattle.sheet_format.specs.declared.Level.the-variants.{Level2}
+use Rattle.file_verdict.specs.Verdict.{verdict}
+use Rattle.sheet_format.specs.declared.WriteResult.{WriteResult}
 use Rattle.sheet_format.specs.Bytes.{lowerBy}
 use Rattle.machine_spec.specs.Run.{levelOf}
 use Rattle.machine_spec.specs.declared.Machine.{Machine}
 use Rattle.machine_spec.specs.declared.Machine.the-variants.{Target}
-use Rattle.machine_spec.specs.declared.Model.{Model}
-use Rattle.machine_spec.specs.declared.Model.the-variants.{Tso}
 use borrow.Author.Needs.{needs}
 use Rattle.machine_start.proofs.program.program_of.Statement.{statement}
 use Rattle.machine_start.proofs.program.program_of.Tie as tie
 
-target-program : (k : Model) (v : Verdict) (b : List ℕ) → lowerBy Level2 v b ≡ lowerBy (levelOf (Target k)) v b
-target-program Tso v b = refl
-
-chain-file-requires : tie.Need-chain-file-requires
-chain-file-requires c κs = search needs
-
-lower2-requires : tie.Need-lower2-requires
-lower2-requires c κs = search needs
+-- what lowering at the level of a machine answers, of the machine that the match found
+answered : {m n : Machine} (file rows : List ℕ) {z : WriteResult × List ℕ} → m ≡ n
+    → z ≡ lowerBy (levelOf n) (verdict file) rows → z ≡ lowerBy (levelOf m) (verdict file) rows
+answered file rows same e = e ∙ ap (λ m. lowerBy (levelOf m) (verdict file) rows) (sym same)
 
 returns : tie.Need-returns
 returns c =
     let t = c .before .before .before .before in
     let a = t .before .before .before .before .args in
-    c .before .before .chain-file .ensures
-    ∙ ap (λ (m : Machine). lowerBy (levelOf m) (verdict (a .file .now)) (a .rows .now))
-    (sym (t .enum-told .given .1))
+    answered (a .file .now) (a .rows .now) (t .enum-told .given .1) (c .before .before .chain-file .ensures)
 
 returns-2 : tie.Need-returns-2
 returns-2 c =
     let t = c .before .before .before .before in
-    let a = t .before .before .before .before .args in
-    c .before .before .lower2 .ensures
-    ∙ target-program (t .enum-told2 .given .0 .0) (verdict (a .file .now)) (a .rows .now)
-    ∙ ap (λ (m : Machine). lowerBy (levelOf m) (verdict (a .file .now)) (a .rows .now))
-    (sym (t .enum-told2 .given .1))
+    let k = t .before .before .before in
+    let a = k .before .before .before .before .args in
+    answered (a .file .now) (a .rows .now) (k .machine .given .1 ∙ ap Target (t .enum-told2 .given .1))
+    (c .before .before .lower2 .ensures)
+
+returns-3 : tie.Need-returns-3
+returns-3 c =
+    let t = c .before .before .before .before in
+    let k = t .before .before .before in
+    let a = k .before .before .before .before .args in
+    answered (a .file .now) (a .rows .now) (k .machine .given .1 ∙ ap Target (t .enum-told3 .given .1))
+    (c .before .before .lower3 .ensures)
 
 pub program-of-spec : {M : Type 1} → statement M
 program-of-spec =
     tie.close
-    (tie.spec (λ c. search needs) chain-file-requires (λ c. search needs) lower2-requires (λ c. search needs) returns
-    (λ c. search needs) returns-2)
+    (tie.spec (λ c. search needs) (λ c κs. search needs) (λ c. search needs) (λ c. search needs) (λ c κs. search needs)
+    (λ c. search needs) (λ c κs. search needs) (λ c. search needs) returns (λ c. search needs) returns-2
+    (λ c. search needs) returns-3)

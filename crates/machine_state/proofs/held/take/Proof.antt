@@ -10,22 +10,25 @@ use Rattle.machine_state.proofs.held.take.Tie as tie
 
 returns : tie.Need-returns
 returns c =
-    let c4 = c .before .before .before .before in
-    let s = c4 .before in
+    let c6 = c .before .before .before .before .before .before in
+    let s = c6 .before in
     let w = s .args .state .now in
     let t = s .args .t in
     let long = own w t (s .pre) .words HEAD (omega arith) in
-    let regs = c4 .registers .ensures ∙ first-words 8 (rowAt w t HEAD) (omega (arith, long)) in
+    let regs = c6 .registers .ensures ∙ first-words 8 (rowAt w t HEAD) (omega (arith, long)) in
     λ i. record {
-      at = c .before .word-at .ensures i;
+      at = c .before .before .before .word-at .ensures i;
       registers = regs i;
       cells = rowAt w t CELLS;
       values = rowAt w t VALUES;
-      len = c .word-at2 .ensures i;
+      len = c .before .before .word-at2 .ensures i;
+      low = c .before .word-at3 .ensures i;
+      high = c .word-at4 .ensures i;
     }
 
 pub take-spec : {M : Type 1} → statement M
 take-spec =
     tie.close
     (tie.spec (λ c κs. search needs) (λ c. search needs) (λ c. search needs) (λ c. search needs) (λ c. search needs)
-    (λ c. search needs) (λ c. search needs) (λ c κs. search needs) (λ c κs. search needs) returns)
+    (λ c. search needs) (λ c. search needs) (λ c κs. search needs) (λ c κs. search needs)
+    (λ c κs. search needs) (λ c κs. search needs) returns)

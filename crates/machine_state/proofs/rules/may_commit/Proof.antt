@@ -1,13 +1,13 @@
 -- `machine_state::rules::may_commit` meets its contract.
-use Prim.Native.Nat.{_<_}
 use mathlib.Core.Path.{_≡_, ap, sym, _∙_}
 use mathlib.Core.Bool.{not}
-use native.Mathlib.Omega.{arith}
-use lib.ListN.{getD, take}
+use borrow.Author.Tests.{ne-eqb}
+use lib.ListN.{getD}
+use Rattle.machine_spec.specs.Marks.{noMark}
 use Rattle.machine_lane.specs.Lanes.{flags, noEntry, entryOf}
 use Rattle.machine_state.specs.States.{VALUES, wordAt, laneOf}
-use Rattle.machine_state.proofs.Laws.States.{pending-count}
-use Rattle.machine_state.proofs.Laws.Rules.{oldest-may, target-may, pending-at, some-older}
+use Rattle.machine_state.proofs.Laws.States.{pending-low}
+use Rattle.machine_state.proofs.Laws.Rules.{oldest-may, pso-may, pending-at, some-older}
 use borrow.Author.Needs.{needs}
 use Rattle.machine_state.proofs.rules.may_commit.Statement.{statement}
 use Rattle.machine_state.proofs.rules.may_commit.Tie as tie
@@ -16,14 +16,13 @@ returns : tie.Need-returns
 returns c =
     let a = c .before .before .args in
     let at-start : a .index ≡ 0 = c .if1 .taken in
-    rw at-start (oldest-may (a .machine) (flags (a .volatile .now))
+    rw at-start (oldest-may (a .machine) (flags (a .volatile .now)) (laneOf (a .state .now) (a .t) .control .marks)
     (getD (laneOf (a .state .now) (a .t) .pending) 0 noEntry))
 
 word-at-requires : tie.Need-word-at-requires
 word-at-requires c κs =
     let s = c .before .before .before .before in
-    let low : s .args .index < 64 =
-    omega (arith, pending-count (s .args .state .now) (s .args .t) (s .pre .0), s .pre .1) in
+    let low = pending-low (s .args .state .now) (s .args .t) (s .pre .0) (s .args .index) (s .pre .1) in
     search needs
 
 is-sync-requires : tie.Need-is-sync-requires
@@ -57,16 +56,54 @@ returns-3 c =
 
 returns-4 : tie.Need-returns-4
 returns-4 c =
-    let s = c .before .before .before .before .before in
+    let s = c .before .before .before .before .before .before .before in
     let a = s .args in
-    let es = laneOf (a .state .now) (a .t) .pending in
-    let one = target-may (c .before .machine .given .0 .0) (flags (a .volatile .now)) (take (a .index) es)
-    (getD es (a .index) noEntry) in
-    rw (c .before .machine .given .1)
-    (sym (one ∙ some-older es (a .index) (c .before .before .before .if1 .left) (s .pre .1)))
+    let later = c .before .before .before .before .before .if1 .left in
+    rw (c .before .before .before .machine .given .1, c .enum-told2 .given .1)
+    (ne-eqb (a .index) 0 later
+    ∙ sym (some-older (laneOf (a .state .now) (a .t) .pending) (a .index) later (s .pre .1)))
+
+no-mark-requires : tie.Need-no-mark-requires
+no-mark-requires c κs =
+    let s = c .before .before .before .before .before .before .before .before in
+    pending-low (s .args .state .now) (s .args .t) (s .pre .0) (s .args .index) (s .pre .1)
+
+word-at-requires-2 : tie.Need-word-at-requires-2
+word-at-requires-2 c κs =
+    let s = c .before .before .before .before .before .before .before .before .before .before in
+    let low = pending-low (s .args .state .now) (s .args .t) (s .pre .0) (s .args .index) (s .pre .1) in
+    search needs
+
+returns-5 : tie.Need-returns-5
+returns-5 c =
+    let c4 = c .before .before .before .before in
+    let s = c4 .before .before .before .before .before .before .before .before in
+    let a = s .args in
+    let w = a .state .now in
+    let v = wordAt w (a .t) VALUES (a .index) in
+    let here = pending-at w (a .t) (a .index) (s .pre .1)
+    ∙ ap (λ x. entryOf x v) (sym (c .before .word-at2 .ensures)) in
+    let free = sym (c .before .before .before .no-mark .ensures ∙ ap (noMark (a .index)) (c4 .marks .ensures))
+    ∙ c .before .before .if3 .taken in
+    rw (c4 .before .before .before .before .machine .given .1, c4 .before .enum-told3 .given .1, here)
+    (ap not (c .has-older2 .ensures v) ∙ pso-may (flags (a .volatile .now)) (laneOf w (a .t) .control .marks)
+    (laneOf w (a .t) .pending) (a .index) _ (s .pre .1) free)
+
+returns-6 : tie.Need-returns-6
+returns-6 c =
+    let c3 = c .before .before .before in
+    let s = c3 .before .before .before .before .before .before .before in
+    let a = s .args in
+    let w = a .state .now in
+    let free = sym (c .before .no-mark .ensures ∙ ap (noMark (a .index)) (c .before .before .marks .ensures))
+    ∙ c .if3 .left in
+    rw (c3 .before .before .before .machine .given .1, c3 .enum-told3 .given .1)
+    (pso-may (flags (a .volatile .now)) (laneOf w (a .t) .control .marks) (laneOf w (a .t) .pending) (a .index) _
+    (s .pre .1) free)
 
 pub may-commit-spec : {M : Type 1} → statement M
 may-commit-spec =
     tie.close
     (tie.spec returns (λ c. search needs) word-at-requires is-sync-requires has-older-requires (λ c. search needs)
-    returns-2 returns-3 returns-4)
+    (λ c. search needs) (λ c. search needs) (λ c κs. search needs) no-mark-requires word-at-requires-2
+    (λ c κs. search needs) returns-2 returns-3 returns-4 returns-5 returns-6)

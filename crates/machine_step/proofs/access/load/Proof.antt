@@ -49,7 +49,7 @@ returns-2 c =
     let seen = sees (a .machine) (flags (a .volatile .now)) (laneOf w (a .t) .pending) (a .x) in
     let value = c4 .sees .ensures ∙ ap seen (c4 .before .memory-at .ensures) in
     rw test (took-does w w _ (a .t) _ _ (kept w h)
-    (became (lane-eq (c .before .before .next-position .ensures) (ap (set (laneOf w (a .t) .regs) (a .a)) value)
+    (became (lane-eq (c .before .before .next-position .ensures) refl (ap (set (laneOf w (a .t) .regs) (a .a)) value)
     refl)
     (c .write-register .ensures)) _)
 

@@ -28,7 +28,7 @@ returns c =
     let entry = write-of (a .x) _ (s .pre .asked .0)
     ∙ ap (write (a .x)) (c .before .before .before .before .register .ensures) in
     λ m f. took-does w w _ (a .t) _ _ (kept w h)
-    (became (lane-eq (c .before .before .next-position .ensures) refl
+    (became (lane-eq (c .before .before .next-position .ensures) refl refl
     (ap (λ e. appendEntry (laneOf w (a .t) .pending) (some e)) entry)) (c .issue .ensures)) _
 
 pub store-spec : {M : Type 1} → statement M

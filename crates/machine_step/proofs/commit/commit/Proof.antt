@@ -10,9 +10,9 @@ use Rattle.machine_spec.specs.Step.{landed, freed}
 use Rattle.machine_lane.specs.declared.lane.Lane.{Lane}
 use Rattle.machine_lane.specs.Lanes.{entryOf, laneIn, withPending}
 use Rattle.machine_state.specs.States.{stateIn}
-use Rattle.machine_state.proofs.Laws.States.{became, shared}
+use Rattle.machine_state.proofs.Laws.States.{became, then-became, shared}
 use Rattle.machine_step.proofs.Laws.Turns.{same-lane}
-use Rattle.machine_step.proofs.Laws.Commits.{commit-past, commit-waits, commit-does}
+use Rattle.machine_step.proofs.Laws.Commits.{shifted, commit-past, commit-waits, commit-does}
 use borrow.Author.Needs.{needs}
 use Rattle.machine_step.proofs.commit.commit.Statement.{statement}
 use Rattle.machine_step.proofs.commit.commit.Tie as tie
@@ -66,27 +66,35 @@ put-list-requires c κs =
     let s = c8 .before .before .before .before .before .before .before .before .before in
     record { lane = s .pre .lane; sized = c .before .settle .ensures .sized }
 
+shift-marks-requires : tie.Need-shift-marks-requires
+shift-marks-requires c κs =
+    let c9 = c .before .before .before .before .before .before .before .before .before in
+    let s = c9 .before .before .before .before .before .before .before .before .before .before in
+    record { lane = s .pre .lane; sized = c .before .put-list .ensures .sized }
+
 returns-3 : tie.Need-returns-3
 returns-3 c =
-    let c2 = c .before .before in
-    let c9 = c2 .before .before .before .before .before .before .before in
-    let c14 = c9 .before .before .before .before .before in
-    let s = c14 .before .before .before .before in
+    let c4 = c .before .before .before .before in
+    let c11 = c4 .before .before .before .before .before .before .before in
+    let c16 = c11 .before .before .before .before .before in
+    let s = c16 .before .before .before .before in
     let a = s .args in
     let w = a .state .now in
-    let entry = ap₂ entryOf (c2 .before .before .before .before .word-at .ensures)
-    (c2 .before .before .word-at2 .ensures) in
+    let entry = ap₂ entryOf (c4 .before .before .before .before .word-at .ensures)
+    (c4 .before .before .word-at2 .ensures) in
     let settled = shared (ap (landed (stateIn w .memory)) entry) (ap (freed (stateIn w .locks)) entry)
-    (c2 .settle .ensures) in
+    (c4 .settle .ensures) in
     let rest : Lane → List Entry = λ l. without (a .index) (laneIn l .pending) in
-    let left = ap (λ l. l .pending) (c2 .before .before .before .before .before .before .commit .ensures)
-    ∙ ap rest (c9 .take .ensures) in
+    let left = ap (λ l. l .pending) (c4 .before .before .before .before .before .before .commit .ensures)
+    ∙ ap rest (c11 .take .ensures) in
+    let listed = became (ap₂ withPending (same-lane settled (s .pre .lane)) left)
+    (c .before .before .put-list .ensures) in
     commit-does (a .machine) _ w (a .t) (a .index) _ _
-    (omega (arith, c14 .if1 .left, c14 .before .count .ensures .0))
-    (granted (c9 .before .before .before .may-commit .ensures) (c9 .before .before .if2 .left))
-    settled (became (ap₂ withPending (same-lane settled (s .pre .lane)) left) (c .put-list .ensures))
+    (omega (arith, c16 .if1 .left, c16 .before .count .ensures .0))
+    (granted (c11 .before .before .before .may-commit .ensures) (c11 .before .before .if2 .left)) settled
+    (then-became listed (became (ap shifted (listed .lane)) (c .shift-marks .ensures)))
 
 pub commit-spec : {M : Type 1} → statement M
 commit-spec =
     tie.close (tie.spec count-requires returns may-commit-requires returns-2 take-requires commit-requires
-    word-at-requires word-at-requires-2 settle-requires put-list-requires returns-3)
+    word-at-requires word-at-requires-2 settle-requires put-list-requires shift-marks-requires returns-3)

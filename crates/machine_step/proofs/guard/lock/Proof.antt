@@ -66,7 +66,7 @@ returns-3 c =
     (c .before .before .set-lock .ensures) in
     let next = c4 .next-position .ensures in
     rw (test, free) (took-does w _ _ (a .t) _ _ words
-    (became (ap (λ l. placedAt l (c4 .next-position .result)) (same-lane words (s .pre .lies .lane)) ∙ lane-eq next
+    (became (ap (λ l. placedAt l (c4 .next-position .result)) (same-lane words (s .pre .lies .lane)) ∙ lane-eq next refl
     refl refl) (c .go .ensures)) _)
 
 pub lock-spec : {M : Type 1} → statement M

@@ -39,7 +39,7 @@ returns-2 c =
     let c4 = c .before .before .before .before in
     let test = eq-eqb _ _ (sym (c4 .before .lock-at .ensures) ∙ c4 .if1 .left ∙ add-one (a .t)) in
     λ m f. rw test (took-does w w _ (a .t) _ _ (kept w h)
-    (became (lane-eq (c .before .before .next-position .ensures) refl
+    (became (lane-eq (c .before .before .next-position .ensures) refl refl
     (ap (λ e. appendEntry (laneOf w (a .t) .pending) (some e)) (release-of (a .l) 0))) (c .issue .ensures)) _)
 
 pub unlock-spec : {M : Type 1} → statement M

@@ -36,7 +36,7 @@ returns c =
     ∙ ap₂ (λ x y. (x + y) % (2 ^ 32)) (c4 .before .before .before .register .ensures) (c4 .before .register2 .ensures)
     in
     λ m f. took-does w w _ (a .t) _ _ (kept w h)
-    (became (lane-eq (c .before .before .next-position .ensures) (ap (set (laneOf w (a .t) .regs) (a .a)) sum)
+    (became (lane-eq (c .before .before .next-position .ensures) refl (ap (set (laneOf w (a .t) .regs) (a .a)) sum)
     refl)
     (c .write-register .ensures)) _
 

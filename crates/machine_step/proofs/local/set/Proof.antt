@@ -20,7 +20,7 @@ returns c =
     let w = a .state .now in
     let h = s .pre .lies .sized in
     λ m f. took-does w w _ (a .t) _ _ (kept w h)
-    (became (lane-eq (c .before .before .next-position .ensures) refl refl) (c .write-register .ensures)) _
+    (became (lane-eq (c .before .before .next-position .ensures) refl refl refl) (c .write-register .ensures)) _
 
 pub set-spec : {M : Type 1} → statement M
 set-spec = tie.close (tie.spec next-position-requires write-register-requires returns)

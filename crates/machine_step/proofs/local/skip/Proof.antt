@@ -38,7 +38,7 @@ returns-2 c =
     let c4 = c .before .before .before .before in
     let test = ne-eqb _ 0 (λ e. c4 .if1 .left (c4 .before .register .ensures ∙ e)) in
     λ m f. rw test (took-does w w _ (a .t) _ _ (kept w h)
-    (became (lane-eq (c .before .before .next-position .ensures) refl refl) (c .go2 .ensures)) _)
+    (became (lane-eq (c .before .before .next-position .ensures) refl refl refl) (c .go2 .ensures)) _)
 
 pub skip-spec : {M : Type 1} → statement M
 skip-spec =

@@ -12,11 +12,11 @@ use Rattle.sheet_lanes.proofs.lane.write_lane.Statement.{statement}
 use Rattle.sheet_lanes.proofs.lane.write_lane.Tie as tie
 
 abbrev Inv-loop : tie.InvT-loop
-Inv-loop level part₀ rows n plan at₀ p₀ part at p =
+Inv-loop level codes part₀ rows n plan at₀ p₀ part at p =
     (p ≤ n) × Puts part₀ 0 (laneRows level plan rows p) part at
 
 abbrev μ-loop : tie.MeasureT-loop
-μ-loop level part₀ rows n plan at₀ p₀ part at p = n - p
+μ-loop level codes part₀ rows n plan at₀ p₀ part at p = n - p
 
 loop-holds : tie.Need-loop-holds Inv-loop μ-loop
 loop-holds c = (omega arith, turn-none _)
@@ -27,7 +27,7 @@ put-step-requires c κs =
     let a = c .before .before .before .before .before .before in
     let text = stepRows (a .args .level) (a .args .plan .now) (a .args .rows .now) in
     let room : 0 + length (inTurn text (a .args .n)) ≤ length (a .args .part .now) = omega (arith, a .pre .1) in (
-      (omega arith, omega (arith, a .pre .0 .1), a .pre .0 .2 (l .p) (omega arith)),
+      (omega arith, omega (arith, a .pre .0 .1), a .pre .0 .2 (l .p) (omega arith), a .pre .0 .3),
       turn-fits text (a .args .n) (l .p) room (omega arith) (l .inv .1) .1,
     )
 

@@ -11,7 +11,7 @@ put-barriers-requires : tie.Need-put-barriers-requires
 put-barriers-requires c κs =
     let s = c .before .before .before .before .before in
     let size = step-length (s .args .level) (s .args .plan .now) (s .args .rows .now) (s .args .p) (s .pre .0 .0) in
-    (s .pre .0 .2, omega (arith, size, s .pre .1))
+    (s .pre .0 .2, omega (arith, size, s .pre .1), s .pre .0 .3)
 
 put-own-requires : tie.Need-put-own-requires
 put-own-requires c κs =

@@ -24,6 +24,7 @@ write-lane-requires c κs =
         omega (arith, a .pre .0 .0, part-length rows (g .first) (omega (arith, a .pre .0 .0))),
         omega (arith, a .pre .0 .1, part-length plan (g .place) (omega (arith, a .pre .0 .1))),
         subst (λ x. SingleTo x (g .n)) (sym (take-rest (g .place) plan)) (a .pre .1 .0),
+        a .pre .0 .2,
       ),
       omega (arith, text, part-length (g .out .now) (g .at) inside, a .pre .1 .1),
     )

@@ -15,12 +15,12 @@ use Rattle.sheet_lanes.proofs.whole.write_lanes.Statement.{statement}
 use Rattle.sheet_lanes.proofs.whole.write_lanes.Tie as tie
 
 abbrev Inv-loop : tie.InvT-loop
-Inv-loop level out₀ rows plan from count at₀ place₀ t₀ out at place t =
+Inv-loop level out₀ rows plan codes from count at₀ place₀ t₀ out at place t =
     (t ≤ 4) × (place ≡ planFrom rows t) × Puts out₀ 16 (inTurn (laneText level rows plan) t) out at
     × (place ≤ 65 * t)
 
 abbrev μ-loop : tie.MeasureT-loop
-μ-loop level out₀ rows plan from count at₀ place₀ t₀ out at place t = 4 - t
+μ-loop level out₀ rows plan codes from count at₀ place₀ t₀ out at place t = 4 - t
 
 loop-holds : tie.Need-loop-holds Inv-loop μ-loop
 loop-holds c = (omega arith, refl, turn-none _, omega arith)
@@ -28,7 +28,8 @@ loop-holds c = (omega arith, refl, turn-none _, omega arith)
 put-lane-requires : tie.Need-put-lane-requires Inv-loop μ-loop
 put-lane-requires c κs =
     let l = c .before .before .loop in
-    let s = c .before .before .before .before .before .before .before .before in
+    let k = c .before .before .before .before .before in
+    let s = k .before .before .before .before in
     let g = s .args in
     let rows = g .rows .now in
     let plan = g .plan .now in
@@ -42,6 +43,7 @@ put-lane-requires c κs =
       (
         part-inside rows (ok .0) (ok .1) (l .t) (omega arith),
         omega (arith, plan-room rows (l .t) (omega arith) (ok .2), l .inv .1, many),
+        k .codes-of .ensures,
       ),
       (
         subst (λ x. SingleTo x count) there (λ p h. s .pre .1 .0 (l .t) (omega arith) p (omega (arith, many))),
@@ -53,14 +55,14 @@ add-place : tie.Need-add-place Inv-loop μ-loop
 add-place c =
     let f = c .before .before in
     let l = f .before .before .before .loop in
-    let s = f .before .before .before .before .before .before .before .before .before in
+    let s = f .before .before .before .before .before .before .before .before .before .before in
     omega (arith, l .inv .3, part-few (s .args .rows .now) (s .pre .0 .0) (s .pre .0 .1) (l .t) (omega arith))
 
 add-place-2 : tie.Need-add-place-2 Inv-loop μ-loop
 add-place-2 c =
     let f = c .before .before in
     let l = f .before .before .before .loop in
-    let s = f .before .before .before .before .before .before .before .before .before in
+    let s = f .before .before .before .before .before .before .before .before .before .before in
     omega (arith, l .inv .3, part-few (s .args .rows .now) (s .pre .0 .0) (s .pre .0 .1) (l .t) (omega arith))
 
 loop-less : tie.Need-loop-less Inv-loop μ-loop
@@ -70,7 +72,7 @@ loop-again : tie.Need-loop-again Inv-loop μ-loop
 loop-again c =
     let f = c .before .before in
     let l = f .before .before .before .loop in
-    let s = f .before .before .before .before .before .before .before .before .before in
+    let s = f .before .before .before .before .before .before .before .before .before .before in
     let g = s .args in
     let rows = g .rows .now in
     let plan = g .plan .now in
@@ -92,13 +94,13 @@ same-length c = puts-length (c .before .loop .inv .2)
 returns : tie.Need-returns Inv-loop μ-loop
 returns c =
     let l = c .before .loop in
-    let g = c .before .before .before .before .before .before .before .args in
+    let g = c .before .before .before .before .before .before .before .before .args in
     let last : l .t ≡ 4 = omega arith in
     puts-as (ap (inTurn (laneText (g .level) (g .rows .now) (g .plan .now))) last) (l .inv .2) .bytes
 
 pub write-lanes-spec : {M : Type 1} → statement M
 write-lanes-spec =
     tie.close
-    (tie.spec Inv-loop μ-loop loop-holds (λ c. search needs) (λ c. search needs) (λ c. search needs) (λ c. search needs)
-    put-lane-requires (λ c. search needs) (λ c. search needs) add-place add-place-2 (λ c. search needs) loop-less
-    loop-again same-length returns)
+    (tie.spec Inv-loop μ-loop (λ c κs. search needs) loop-holds (λ c. search needs) (λ c. search needs)
+    (λ c. search needs) (λ c. search needs) put-lane-requires (λ c. search needs) (λ c. search needs) add-place
+    add-place-2 (λ c. search needs) loop-less loop-again same-length returns)

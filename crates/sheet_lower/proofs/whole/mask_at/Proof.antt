@@ -15,7 +15,11 @@ returns-2 c = λ k e. e ∙ ap (λ (m : Level). maskAt m k) (sym (c .enum-told2 
 returns-3 : tie.Need-returns-3
 returns-3 c = λ k e. ap (λ (m : Level). maskAt m k) (sym (c .enum-told3 .given .1))
 
+returns-4 : tie.Need-returns-4
+returns-4 c = λ k e. ap (λ (m : Level). maskAt m k) (sym (c .enum-told4 .given .1))
+
 pub mask-at-spec : {M : Type 1} → statement M
 mask-at-spec =
     tie.close
-    (tie.spec (λ c. search needs) (λ c. search needs) (λ c. search needs) returns returns-2 returns-3)
+    (tie.spec (λ c. search needs) (λ c. search needs) (λ c. search needs) (λ c. search needs) returns returns-2
+    returns-3 returns-4)

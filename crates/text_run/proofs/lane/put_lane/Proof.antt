@@ -14,7 +14,7 @@ use Rattle.text_run.proofs.lane.put_lane.Tie as tie
 
 abbrev Inv-loop : tie.InvT-loop
 Inv-loop out₀ start s t count at₀ i₀ out at i =
-    (i ≤ count) × (at ≤ at₀ + 61 * i) × Puts out₀ at₀ (inTurn (pendingLine (fieldsIn s) t) i) out at
+    (i ≤ count) × (at ≤ at₀ + 88 * i) × Puts out₀ at₀ (inTurn (pendingLine (fieldsIn s) t) i) out at
 
 abbrev μ-loop : tie.MeasureT-loop
 μ-loop out₀ start s t count at₀ i₀ out at i = count - i

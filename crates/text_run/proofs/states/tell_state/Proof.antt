@@ -14,7 +14,7 @@ use Rattle.text_run.proofs.states.tell_state.Tie as tie
 
 abbrev Inv-loop : tie.InvT-loop
 Inv-loop out₀ «record» rows lanes at₀ t₀ out at t =
-    (t ≤ lanes) × (at ≤ at₀ + 2 ^ 22 * t) × Puts out₀ at₀ (inTurn (laneText (fieldsIn «record»)) t) out at
+    (t ≤ lanes) × (at ≤ at₀ + 2 ^ 23 * t) × Puts out₀ at₀ (inTurn (laneText (fieldsIn «record»)) t) out at
 
 abbrev μ-loop : tie.MeasureT-loop
 μ-loop out₀ «record» rows lanes at₀ t₀ out at t = lanes - t

@@ -31,7 +31,7 @@ returns c =
     let h : l .len < length es = omega (arith, room l _ (s .good .0), pending-length l _ (s .good .0)) in
     let low : l .len < 64 = omega (arith, room l _ (s .good .0)) in
     record {
-      lane = lane-eq refl refl
+      lane = lane-eq refl refl refl
           (rw (add-one, entries-set (l .cells) (l .values) (l .len) (s .args .cell) (s .args .value))
           (take-suc-set es (l .len) (entryOf (s .args .cell) (s .args .value)) h));
       len = add-one (l .len);

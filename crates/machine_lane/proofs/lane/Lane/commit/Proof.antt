@@ -62,7 +62,7 @@ returns c =
     let whole : suc last ≡ length (take (a .self .len) es) = omega arith in
     let rest : take (suc last) es ≡ take (a .self .len) es =
     ap (λ n. take n es) whole ∙ take-length-take (a .self .len) es in
-    lane-eq refl refl (kept ∙ ap (without (a .index)) rest)
+    lane-eq refl refl refl (kept ∙ ap (without (a .index)) rest)
 
 pub commit-spec : {M : Type 1} → statement M
 commit-spec =
