@@ -8,7 +8,7 @@ use Prim.Native.Nat.{ℕ, zero, suc}
 use native.Mathlib.Omega.{arith}
 use lib.Dec.{eqb}
 use Rattle.file_format.specs.declared.accepted.Op.the-variants.{Set, Add, Load, Store, Lock, Unlock, Skip}
-use Rattle.barrier_placement.specs.declared.cookbook.Barrier.the-variants.{SL}
+use Rattle.barrier_placement.specs.declared.cookbook.Barrier.the-variants.{SS, SL}
 use Rattle.barrier_placement.specs.declared.cookbook.Class.the-variants.{PL, PS, VL, VS}
 use Rattle.barrier_placement.specs.declared.steps.Step.the-variants.{Access, Skip as Jump, Other}
 use Rattle.barrier_placement.specs.Sheet.{bar, op as step}
@@ -16,7 +16,7 @@ use Rattle.sheet_format.specs.Layout.{Instr, op, barrier}
 use Rattle.sheet_format.specs.Items.{items}
 use Rattle.machine_spec.specs.Entries.{write}
 use Rattle.machine_spec.specs.declared.Machine.the-variants.{Target}
-use Rattle.machine_spec.specs.declared.Model.the-variants.{Tso}
+use Rattle.machine_spec.specs.declared.Model.the-variants.{Tso, Pso}
 use Rattle.machine_spec.specs.Schedule.{Move, move}
 use Rattle.machine_spec.specs.State.{Lane, State, startState, begin, moveTurn}
 use Rattle.claims.specs.Schedules.{sourceSchedule, targetSchedule}
@@ -90,6 +90,16 @@ source-matches :
     (move 0 0 ∷ move 0 0 ∷ move 0 1 ∷ move 0 0 ∷ move 0 0 ∷ [])
     ≡ move 0 0 ∷ move 0 1 ∷ move 0 0 ∷ []
 source-matches = refl
+
+-- from pso to source: the move that passes SS, and that of a commit which its mark holds back, are left out
+abbrev ordered : List (List Instr)
+ordered = (op (Store 0 0) ∷ barrier SS ∷ op (Store 0 1) ∷ []) ∷ []
+
+pso-matches :
+    sourceSchedule Pso vol ordered (begin (startState 1 (0 ∷ 0 ∷ []) 0))
+    (move 0 0 ∷ move 0 0 ∷ move 0 0 ∷ move 0 2 ∷ move 0 1 ∷ move 0 1 ∷ [])
+    ≡ move 0 0 ∷ move 0 0 ∷ move 0 1 ∷ move 0 1 ∷ []
+pso-matches = refl
 
 -- from source to tso: MFENCE is passed before the LOAD
 tso-matches :

@@ -144,7 +144,7 @@ table =
     -- but with other values
     ∷ ends (Target Tso) (storeBuffering 3) (straight 0 ++ straight 1) true (0 ∷ 1 ∷ [])
     ∷ ends Source (storeBuffering 3) (straight 0 ++ straight 1) true (0 ∷ 1 ∷ [])
-    -- mask 1 instead: no barrier at either level; both zero is possible on both machines
+    -- mask 1 instead: no barrier at either level; both zero is possible on either
     ∷ shows Level1 (storeBuffering 1) ((1, 1) ∷ (4, 0) ∷ (3, 0) ∷ (1, 1) ∷ (4, 0) ∷ (3, 0) ∷ [])
     ∷ shows Level2 (storeBuffering 1) ((1, 1) ∷ (4, 0) ∷ (3, 0) ∷ (1, 1) ∷ (4, 0) ∷ (3, 0) ∷ [])
     ∷ ends Source (storeBuffering 1) race true (0 ∷ 0 ∷ [])

@@ -1,3 +1,3 @@
-// A schedule's bytes run on either machine; whether it is legal, and whether a run has finished.
+// A schedule's bytes run on a machine; whether it is legal, and whether a run has finished.
 pub mod judge;
 pub mod run;

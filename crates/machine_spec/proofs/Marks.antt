@@ -13,13 +13,13 @@ use lib.Dec.{eqb}
 use lib.ListN.{length, getElem?, take}
 use Rattle.laws.proofs.Bools.{by-test, and-true}
 use Rattle.machine_spec.specs.Entries.{Entry, anySame, without}
-use Rattle.machine_spec.specs.Marks.{noMark, afterSS, afterCommit}
-use Rattle.machine_spec.specs.Listed.{EntryOrMark, entry, mark, listed, entries, endsInEntry, passSS, older}
-use Rattle.machine_spec.specs.Listed.{anyMark, mayLeave, removed, vanish}
+use Rattle.machine_spec.specs.Marks.{markAt, noMark, afterSS, afterCommit}
+use Rattle.machine_spec.specs.Listed.{EntryOrMark, entry, mark, listed, entries, markBehind, endsInEntry}
+use Rattle.machine_spec.specs.Listed.{passSS, older, anyMark, mayLeave, removed, vanish}
 use Rattle.machine_spec.specs.declared.Machine.the-variants.{Target}
 use Rattle.machine_spec.specs.declared.Model.the-variants.{Pso}
 use Rattle.machine_spec.specs.Rules.{mayCommit}
-use Rattle.machine_spec.proofs.Laws.Marks.{none-before-oldest, ss-marks, no-mark-suc, length-at}
+use Rattle.machine_spec.proofs.Laws.Marks.{none-before-oldest, ss-marks, commit-shifts, no-mark-suc, length-at}
 
 -- a list with or without a mark in front
 abbrev marked : Bool → List EntryOrMark → List EntryOrMark
@@ -33,6 +33,20 @@ entries-listed (e ∷ es) ks = ap (λ l. e ∷ l) (go (eqb (ks % 2) 1) ∙ entri
     go : (b : Bool) → entries (marked b (listed es (ks / 2))) ≡ entries (listed es (ks / 2))
     go true = refl
     go false = refl
+
+-- each mark is where its bit says
+pub mark-listed : (i : ℕ) (es : List Entry) (ks : ℕ) → i < length es → markBehind i (listed es ks) ≡ markAt ks i
+mark-listed i [] ks h = absurd (omega arith)
+mark-listed zero (x ∷ es) ks h = first es (eqb (ks % 2) 1) ∙ ap (λ n. eqb (n % 2) 1) (sym (div-one ks))
+  where
+    first : (es : List Entry) (b : Bool) → markBehind 0 (entry x ∷ marked b (listed es (ks / 2))) ≡ b
+    first es true = refl
+    first [] false = refl
+    first (y ∷ es) false = refl
+mark-listed (suc i) (x ∷ es) ks h =
+    by-test (λ b. markBehind i (marked b (listed es (ks / 2))) ≡ markBehind i (listed es (ks / 2))) refl refl
+    (eqb (ks % 2) 1)
+    ∙ mark-listed i es (ks / 2) (omega arith) ∙ commit-shifts i ks
 
 -- ## SS
 

@@ -21,6 +21,15 @@ entries [] = []
 entries (entry e ∷ xs) = e ∷ entries xs
 entries (mark ∷ xs) = entries xs
 
+-- a mark stands directly behind the entry that has i older ones
+abbrev pub markBehind : ℕ → List EntryOrMark → Bool
+markBehind i [] = false
+markBehind i (mark ∷ xs) = markBehind i xs
+markBehind zero (entry e ∷ []) = false
+markBehind zero (entry e ∷ mark ∷ xs) = true
+markBehind zero (entry e ∷ entry f ∷ xs) = false
+markBehind (suc i) (entry e ∷ xs) = markBehind i xs
+
 -- an entry is the newest
 abbrev pub endsInEntry : List EntryOrMark → Bool
 endsInEntry [] = false

@@ -4,11 +4,10 @@ use mathlib.Core.Bool.{Bool}
 use Prim.Native.Nat.{ℕ, zero, suc, _/_, _%_, _^_}
 use lib.Bits.{bitOr}
 use lib.Dec.{eqb}
-use Rattle.barrier_placement.specs.Placed.{bit}
 
 -- a mark stands directly behind the entry that has i older ones
 abbrev pub markAt : ℕ → ℕ → Bool
-markAt ks i = bit ks i
+markAt ks i = eqb (ks / 2 ^ i % 2) 1
 
 -- no mark is older than the entry that has n older ones
 abbrev pub noMark : ℕ → ℕ → Bool

@@ -15,7 +15,8 @@ use Rattle.sheet_format.specs.Layout.{Instr, op, barrier}
 use Rattle.sheet_format.specs.Bytes.{sheetBytes}
 use Rattle.sheet_format.specs.Read.{readSheet}
 use Rattle.machine_spec.specs.Entries.{Entry, write, release}
-use Rattle.machine_spec.specs.Listed.{EntryOrMark, entry, mark, listed, passSS, mayLeave, removed, vanish}
+use Rattle.machine_spec.specs.Listed.{EntryOrMark, entry, mark, listed, markBehind, passSS, mayLeave, removed}
+use Rattle.machine_spec.specs.Listed.{vanish}
 use Rattle.machine_spec.specs.declared.Machine.{Machine}
 use Rattle.machine_spec.specs.declared.Machine.the-variants.{Source, Target}
 use Rattle.machine_spec.specs.declared.Model.the-variants.{Tso, Pso}
@@ -144,6 +145,9 @@ again = entry (write 0 5) ∷ entry (write 2 6) ∷ entry (write 0 4) ∷ []
 
 abbrev parted : List EntryOrMark
 parted = entry (write 0 5) ∷ mark ∷ entry (write 2 6) ∷ []
+
+behind-holds : map (λ i. markBehind i parted) (0 ∷ 1 ∷ []) ≡ true ∷ false ∷ []
+behind-holds = refl
 
 leave-holds :
     mayLeave 0 (write 0 5) again ∷ mayLeave 1 (write 2 6) again ∷ mayLeave 2 (write 0 4) again

@@ -1,4 +1,4 @@
--- Every answer of an accepted kernel, of either machine and whatever its number, fits a state record: `answer-fits`.
+-- Every answer of an accepted kernel, of every machine and whatever its number, fits a state record: `answer-fits`.
 use Prim.Native.Nat.{ℕ, suc, _+_, _^_, _≤_, _<_}
 use mathlib.Core.Path.{_≡_, refl, ap, sym, subst, _∙_}
 use mathlib.Core.Bool.{Bool, true, false, cond}
