@@ -21,6 +21,7 @@ use Rattle.machine_spec.specs.Step.{valueOf}
 use Rattle.machine_spec.specs.Step.{loads, after, next, emit, locked, coreAfter, effect, execute, landed, freed, settle}
 use Rattle.machine_spec.specs.Step.{committed, commit, turn}
 use Rattle.machine_spec.specs.Shape.{EntrySmall, AllSmall}
+use Rattle.claims.proofs.Laws.Pending.{length-without}
 
 -- ## pending lists
 
@@ -48,12 +49,6 @@ module _ (ls ks : ℕ) where
       go true = h .0 .1
       go false = hm
   newest-small x m (release l ∷ es) hm h = newest-small x m es hm (h .1)
-
-without-length : (i : ℕ) (es : List Entry) → length (without i es) ≤ length es
-without-length zero [] = omega arith
-without-length (suc i) [] = omega arith
-without-length zero (x ∷ es) = omega arith
-without-length (suc i) (x ∷ es) = omega (arith, without-length i es)
 
 -- ## a lane's move
 
@@ -191,11 +186,11 @@ module _ (n ls ks : ℕ) (os : List Op) (w : LawfulLane ls ks os) (vol : ℕ →
     set-all (λ i z. z ≤ n) 0 (c .locks) l 0 (h .locks-small) (omega arith),
   )
 
-  settle-fit : (x : ℕ) (e : Entry) → EntrySmall ls ks e
+  settle-fit : (x : ℕ) (e : Entry) → getElem? (c .pending) x ≡ some e
       → Fit n ls ks (length os) (i .pos) (settle c (without x (c .pending)) e)
-  settle-fit x e small = record {
+  settle-fit x e k = record {
     place = h .place;
-    few = omega (arith, h .few, without-length x (c .pending));
+    few = omega (arith, h .few, length-without (c .pending) x e k);
     regs-count = h .regs-count;
     regs-small = h .regs-small;
     entries = all-without ls ks x (c .pending) (h .entries);
@@ -204,6 +199,9 @@ module _ (n ls ks : ℕ) (os : List Op) (w : LawfulLane ls ks os) (vol : ℕ →
     locks-count = freed-fit e .0;
     locks-small = freed-fit e .1;
   }
+    where
+      small : EntrySmall ls ks e
+      small = all-at ls ks x (c .pending) e k (h .entries)
 
   pub turn-keeps : (k : ℕ) → Keeps n ls ks (length os) (turn Source vol (suc t) (map op os) i c k)
   turn-keeps zero = go (getElem? os (i .pos)) refl
@@ -227,7 +225,7 @@ module _ (n ls ks : ℕ) (os : List Op) (w : LawfulLane ls ks os) (vol : ℕ →
     where
       act : (e : Entry) → getElem? (c .pending) x ≡ some e → (b : Bool)
           → Keeps n ls ks (length os) (cond b (does (committed i) (settle c (without x (c .pending)) e) none) waits)
-      act e k true = settle-fit x e (all-at ls ks x (c .pending) e k (h .entries))
+      act e k true = settle-fit x e k
       act e k false = tt
 
       go : (e : Option Entry) → getElem? (c .pending) x ≡ e → Keeps n ls ks (length os) (commit Source vol i c x e)

@@ -2,6 +2,7 @@
 use mathlib.Core.Path.{_≡_, refl, ap, _∙_, sym, subst, subst₂}
 use mathlib.Core.Bool.{Bool, true, false, cond}
 use mathlib.Core.List.{List, []}
+use mathlib.Core.Logic.{_≢_}
 use mathlib.Core.Option.{none}
 use Prim.Native.Nat.{ℕ}
 use lib.ListN.{length, getD, replicate, List·getD-map}
@@ -19,6 +20,7 @@ use Rattle.sheet_format.proofs.ReadBack.{bytes-back}
 use Rattle.machine_spec.specs.declared.Machine.{Machine}
 use Rattle.machine_spec.specs.declared.Machine.the-variants.{Source, Target}
 use Rattle.machine_spec.specs.declared.Model.{Model}
+use Rattle.machine_spec.specs.declared.Model.the-variants.{Pso}
 use Rattle.machine_spec.specs.Schedule.{Move, limit, legal}
 use Rattle.machine_spec.specs.State.{Run, Outcome, ran, begin, run}
 use Rattle.machine_spec.specs.View.{View, Seen, saw, refusal as seenRefusal, observe}
@@ -35,9 +37,9 @@ use Rattle.claims.proofs.DirectMatching.{direct-matching}
 use Rattle.claims.proofs.Stuck.{stuck}
 use Rattle.claims.proofs.ReleasesHeld.{source-runs, target-runs}
 use Rattle.claims.proofs.HeldSets.{heldAt}
-use Rattle.machine_spec.specs.Shape.{Shaped, Within, MarksBehind}
+use Rattle.machine_spec.specs.Shape.{Shaped, Within, MarksBehind, Unmarked}
 use Rattle.claims.proofs.BoundedRuns.{source-shaped, source-within}
-use Rattle.claims.proofs.MarksBehind.{marks-behind}
+use Rattle.claims.proofs.MarksKept.{marks-kept}
 use Rattle.claims.proofs.KernelLanes.{fenced, disciplined, source-program}
 
 counts-legal : (m : Machine) (k : Program) (mvs : List Move)
@@ -191,11 +193,11 @@ module _ (k : Program) (w : Lawful k) where
       go (Target m) r le e = target-stays m mvs r e
 
   program-marks : (m : Machine) (mvs : List Move) → legal n (limit m) mvs ≡ true
-      → MarksBehind (runProgram m k mvs .state)
+      → MarksBehind (runProgram m k mvs .state) × (m ≢ Target Pso → Unmarked (runProgram m k mvs .state))
   program-marks m mvs le =
       let x = ran-to m mvs le in
       rw (answered m k mvs (x .0) le (x .1))
-      (marks-behind m vol (programFor m k) n zeros (k .locks) mvs (x .0) (x .1))
+      (marks-kept m vol (programFor m k) n zeros (k .locks) mvs (x .0) (x .1))
 
   source-bounds : (mvs : List Move) → legal n 64 mvs ≡ true → Shaped k (shown (runProgram Source k mvs))
   source-bounds mvs le =
@@ -241,5 +243,7 @@ bounds s k e =
       within = λ m mvs. subst (λ a. Within (programFor m k) (a .state)) (from-bytes m s k e (countsAs m k mvs))
           (program-within k w m (countsAs m k mvs) (counts-legal m k mvs));
       marks = λ m mvs. subst (λ a. MarksBehind (a .state)) (from-bytes m s k e (countsAs m k mvs))
-          (program-marks k w m (countsAs m k mvs) (counts-legal m k mvs));
+          (program-marks k w m (countsAs m k mvs) (counts-legal m k mvs) .0);
+      unmarked = λ m ne mvs. subst (λ a. Unmarked (a .state)) (from-bytes m s k e (countsAs m k mvs))
+          (program-marks k w m (countsAs m k mvs) (counts-legal m k mvs) .1 ne);
     }

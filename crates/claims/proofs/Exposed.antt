@@ -12,11 +12,12 @@ use Rattle.barrier_placement.specs.declared.cookbook.Barrier.{Barrier}
 use Rattle.barrier_placement.specs.declared.cookbook.Barrier.the-variants.{LL, LS, SS, SL}
 use Rattle.barrier_placement.specs.Cookbook.{same}
 use Rattle.machine_spec.specs.Entries.{Entry, isSync, anySync, isNil, anySame, without}
-use Rattle.machine_spec.specs.Marks.{noMark, afterSS, afterCommit}
+use Rattle.machine_spec.specs.Marks.{noMark, afterCommit}
 use Rattle.machine_spec.specs.declared.Machine.the-variants.{Source, Target}
 use Rattle.machine_spec.specs.declared.Model.{Model}
 use Rattle.machine_spec.specs.declared.Model.the-variants.{Tso, Pso}
-use Rattle.machine_spec.specs.Rules.{mayCommit, mayPass, leavesMark}
+use Rattle.machine_spec.specs.Rules.{mayCommit, mayPass}
+use Rattle.machine_spec.specs.Step.{marksPast}
 use Rattle.machine_spec.proofs.Laws.Marks.{length-at, ss-keeps}
 use Rattle.claims.specs.Direct.{appends}
 use Rattle.claims.proofs.Fenced.{publishes, opens, KeptAt}
@@ -60,13 +61,9 @@ exposed-without SS vol ks es i e k h =
     rw (length-without es i e k) (not-mono _ _ (commit-seals (length (without i es)) ks) h)
 exposed-without SL vol ks es i e k h = sync-without vol i es h
 
--- the marks behind a barrier that is passed
-abbrev pub marksPast : Model → Barrier → List Entry → ℕ → ℕ
-marksPast m x es ks = cond (leavesMark (Target m) x) (afterSS (length es) ks) ks
-
 -- a barrier that is passed and leaves something exposed is another one, and it was exposed before
 pub exposed-pass : (m : Model) (b x : Barrier) (vol : ℕ → Bool) (ks : ℕ) (es : List Entry) → KeptAt m b
-    → mayPass (Target m) x es ≡ true → exposed b vol (marksPast m x es ks) es ≡ true
+    → mayPass (Target m) x es ≡ true → exposed b vol (marksPast (Target m) x es ks) es ≡ true
     → (same b x ≡ false) × (exposed b vol ks es ≡ true)
 exposed-pass m LL x vol ks es v p h = absurd (false≢true h)
 exposed-pass m LS x vol ks es v p h = absurd (false≢true h)
@@ -91,7 +88,7 @@ ordered-nil Tso vol ks = tt
 ordered-nil Pso vol ks = λ j e k s. cc
 
 pub ordered-pass : (m : Model) (x : Barrier) (vol : ℕ → Bool) (ks : ℕ) (es : List Entry) → Ordered m vol ks es
-    → Ordered m vol (marksPast m x es ks) es
+    → Ordered m vol (marksPast (Target m) x es ks) es
 ordered-pass Tso x vol ks es q = tt
 ordered-pass Pso LL vol ks es q = q
 ordered-pass Pso LS vol ks es q = q

@@ -27,7 +27,7 @@ pub mod ReleasesHeld
 -- bounds
 pub mod BoundedTurns
 pub mod BoundedRuns
-pub mod MarksBehind
+pub mod MarksKept
 -- accepted kernels
 pub mod KernelLanes
 pub mod LeftOut

@@ -4,7 +4,7 @@
 use mathlib.Core.Path.{_≡_}
 use mathlib.Core.Bool.{Bool, true, false, _&&_}
 use mathlib.Core.List.{List, [], _∷_, _++_, map}
-use mathlib.Core.Logic.{_⊎_, _↔_}
+use mathlib.Core.Logic.{_≢_, _⊎_, _↔_}
 use mathlib.Core.Option.{none, some}
 use Prim.Native.Nat.{ℕ, _≤_, _<_}
 use lib.ListN.{length, getD, getElem?}
@@ -30,10 +30,11 @@ use Rattle.sheet_format.specs.Before.{barriersBefore, standsBefore}
 use Rattle.machine_spec.specs.declared.Machine.{Machine}
 use Rattle.machine_spec.specs.declared.Machine.the-variants.{Source, Target}
 use Rattle.machine_spec.specs.declared.Model.{Model}
+use Rattle.machine_spec.specs.declared.Model.the-variants.{Pso}
 use Rattle.machine_spec.specs.Schedule.{Move, limit, legal}
 use Rattle.machine_spec.specs.State.{begin}
 use Rattle.machine_spec.specs.Run.{Answer, startOf, programFor, runFile, shown, countsAs}
-use Rattle.machine_spec.specs.Shape.{Shaped, Within, MarksBehind}
+use Rattle.machine_spec.specs.Shape.{Shaped, Within, MarksBehind, Unmarked}
 use Rattle.claims.specs.Schedules.{sourceSchedule, targetSchedule}
 use Rattle.claims.specs.Stuck.{Stuck, AllHalted}
 use Rattle.claims.specs.Direct.{direct}
@@ -208,7 +209,7 @@ Runs s k = (m : Machine) (mvs : List Move) → legal (length (k .lanes)) (limit 
 -- Shaped: in each lane 8 registers and at most 64 entries pending, of locations below L and locks below K; L memory
 --   values and K lock words; each value below 2^32, each lock word at most T
 -- Within: no lane stands past the end of its program
--- MarksBehind: each mark stands behind an entry that is pending
+-- MarksBehind: each mark stands behind an entry that is pending; Unmarked: no mark stands anywhere
 
 -- after every schedule of a machine the state fits a record of fixed length, and each lane stands within its program:
 -- the chain of the source machine, the sheet part of a target
@@ -216,6 +217,8 @@ pub record Bounds (s : List ℕ) (k : Program) : Type 0 where
   pub shaped : (m : Machine) (mvs : List Move) → Shaped k (shown (answerFor m s k mvs))
   pub within : (m : Machine) (mvs : List Move) → Within (programFor m k) (answerFor m s k mvs .state)
   pub marks : (m : Machine) (mvs : List Move) → MarksBehind (answerFor m s k mvs .state)
+  -- only the pso machine leaves any
+  pub unmarked : (m : Machine) → m ≢ Target Pso → (mvs : List Move) → Unmarked (answerFor m s k mvs .state)
 
 -- ## all of it, of a kernel file s that stands for the kernel k
 

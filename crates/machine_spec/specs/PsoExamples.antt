@@ -7,7 +7,7 @@ use mathlib.Core.Option.{Option, none, some}
 use Prim.Native.Nat.{ℕ}
 use lib.Dec.{eqb}
 use lib.ListN.{replicate}
-use Rattle.file_format.specs.declared.accepted.Op.the-variants.{Set, Load, Store, Lock}
+use Rattle.file_format.specs.declared.accepted.Op.the-variants.{Set, Load, Store, Lock, Unlock}
 use Rattle.file_format.specs.Accepted.{Program}
 use Rattle.barrier_placement.specs.declared.cookbook.Barrier.the-variants.{LL, LS, SS, SL}
 use Rattle.barrier_placement.specs.Place.{stands, due, dueAfter}
@@ -29,9 +29,9 @@ use Rattle.machine_spec.specs.Run.{Answer, runProgram}
 abbrev vol : ℕ → Bool
 vol x = eqb x 1
 
--- memory holds 7, 8 and 9, and lock 0 is free
+-- memory holds 7, 8 and 9, lock 0 is free and lock 1 is this lane's
 abbrev core : List Entry → Core
-core es = record { regs = replicate 8 0; pending = es; memory = 7 ∷ 8 ∷ 9 ∷ []; locks = 0 ∷ [] }
+core es = record { regs = replicate 8 0; pending = es; memory = 7 ∷ 8 ∷ 9 ∷ []; locks = 0 ∷ 1 ∷ [] }
 
 -- ## turns
 
@@ -107,6 +107,7 @@ tries =
     ∷ pso (op (Lock 0)) [] 0 0 (some 0)
     ∷ pso (op (Load 0 1)) (write 1 5 ∷ []) 1 0 (some 1)
     ∷ pso (op (Store 0 1)) (write 1 5 ∷ []) 1 0 (some 1)
+    ∷ pso (op (Unlock 1)) (write 1 5 ∷ []) 1 0 (some 1)
     -- k beyond the list waits; marks are not counted
     ∷ pso (op (Load 0 0)) two 1 3 none
     ∷ pso (op (Load 0 0)) [] 0 1 none

@@ -38,3 +38,7 @@ Within prog s = (t : ℕ) → posAt s t ≤ length (getD prog t [])
 -- each mark stands behind an entry that is pending
 abbrev pub MarksBehind : State → Type 0
 MarksBehind s = (t : ℕ) → laneAt s t .control .marks < 2 ^ length (laneAt s t .pending)
+
+-- no mark stands anywhere
+abbrev pub Unmarked : State → Type 0
+Unmarked s = (t : ℕ) → laneAt s t .control .marks ≡ 0

@@ -130,12 +130,12 @@ abbrev pub effect : Machine → (ℕ → Bool) → ℕ → Control → Core → 
 effect m vol w k c o =
     cond (holds w c o) (does (goto k (next c o (k .pos))) (coreAfter m vol w c o) (loads m vol c o)) refuses
 
--- behind a barrier
+-- behind a barrier: the marks, and where the lane stands
+abbrev pub marksPast : Machine → Barrier → List Entry → ℕ → ℕ
+marksPast m b es ks = cond (leavesMark m b) (afterSS (length es) ks) ks
+
 abbrev pub passed : Machine → Control → Core → Barrier → Control
-passed m k c b = record {
-  pos = suc (k .pos);
-  marks = cond (leavesMark m b) (afterSS (length (c .pending)) (k .marks)) (k .marks);
-}
+passed m k c b = record { pos = suc (k .pos); marks = marksPast m b (c .pending) (k .marks) }
 
 -- the instruction at the lane's position; past the last one is the end, where choice 0 waits
 abbrev pub execute : Machine → (ℕ → Bool) → ℕ → Control → Core → Option Instr → Turn

@@ -33,14 +33,11 @@ pub fn may_commit(
         (laneOf (now (state .entry)) t .control .marks) (take index (laneOf (now (state .entry)) t .pending))
         (getD (laneOf (now (state .entry)) t .pending) index noEntry) ⌝ }
 {
-    if index == 0 {
-        return true;
-    }
     match machine {
         Machine::Source => {
             let cell = word_at(state, t, CELLS, index);
             if is_sync(volatile, cell) {
-                false
+                index == 0
             } else {
                 !has_older(state, t, index, cell)
             }

@@ -3,10 +3,10 @@ ghost use mathlib.Core.Bool.{Bool};
 ghost use Prim.Native.Nat.{ℕ};
 ghost use Rattle.file_format.specs.declared.accepted.Op.the-variants.{Set, Add, Skip};
 ghost use Rattle.sheet_format.specs.Layout.{op, barrier};
-ghost use Rattle.machine_spec.specs.Step.{passed};
+ghost use Rattle.machine_spec.specs.Step.{marksPast};
 ghost use Rattle.machine_lane.specs.Lanes.{withMarks};
 ghost use Rattle.machine_state.specs.Ready.{Ready};
-ghost use Rattle.machine_state.specs.States.{laneOf, coreIn, Lies, Became};
+ghost use Rattle.machine_state.specs.States.{laneOf, Lies, Became};
 ghost use Rattle.machine_step.specs.Turns.{Carried};
 use barrier_placement::cookbook::Barrier;
 use machine_lane::marks::after_ss;
@@ -66,8 +66,8 @@ fn leave_mark(machine: Machine, kind: Barrier, t: usize, state: &mut State)
     requires { ⌜ Lies (now state) t ⌝ }
     ensures { λ _. ⌜ Became (now (state .entry)) t
         (withMarks (laneOf (now (state .entry)) t)
-        (passed machine (laneOf (now (state .entry)) t .control) (coreIn (now (state .entry)) t) kind .marks))
-        (now (state .exit)) ⌝ }
+        (marksPast machine kind (laneOf (now (state .entry)) t .pending)
+        (laneOf (now (state .entry)) t .control .marks))) (now (state .exit)) ⌝ }
 {
     if leaves_mark(machine, kind) {
         let left = after_ss(count(state, t), marks(state, t));

@@ -1,31 +1,23 @@
--- Laws of the rules: the oldest entry commits on every machine, what a younger one needs.
+-- Laws of the rules: what is pending, what is older, and what a commit on Sparc PSO needs.
 use Prim.Native.Nat.{ℕ, zero, suc, _<_}
 use mathlib.Core.Path.{_≡_, refl, ap, sym, _∙_}
-use mathlib.Core.Bool.{Bool, true, false, not, _&&_, cond}
+use mathlib.Core.Bool.{Bool, not, _&&_}
 use mathlib.Core.List.{List, [], _∷_}
-use native.Mathlib.Nat.{mod-one}
 use native.Mathlib.Omega.{arith}
 use borrow.Author.Tests.{ne-eqb}
 use lib.Dec.{eqb}
 use lib.ListN.{length, getD, take, length-take}
 use lib.Seq.{getD-take}
-use Rattle.laws.proofs.Bools.{by-test}
-use Rattle.machine_spec.specs.Entries.{Entry, isSync, isNil, anySame}
-use Rattle.machine_spec.specs.declared.Machine.{Machine}
-use Rattle.machine_spec.specs.declared.Machine.the-variants.{Source, Target}
-use Rattle.machine_spec.specs.declared.Model.the-variants.{Tso, Pso}
+use Rattle.machine_spec.specs.Entries.{Entry, isNil, anySame}
+use Rattle.machine_spec.specs.declared.Machine.the-variants.{Target}
+use Rattle.machine_spec.specs.declared.Model.the-variants.{Pso}
 use Rattle.machine_spec.specs.Marks.{noMark}
 use Rattle.machine_spec.specs.Rules.{mayCommit}
 use Rattle.machine_lane.specs.Lanes.{entryOf, entriesOf, noEntry}
 use Rattle.machine_state.specs.States.{Blocks, CELLS, VALUES, rowAt, wordAt, storedIn, laneOf}
 use Rattle.machine_lane.proofs.Laws.Entries.{entries-at}
 
-pub oldest-may : (m : Machine) (f : ℕ → Bool) (ks : ℕ) (e : Entry) → true ≡ mayCommit m f ks [] e
-oldest-may Source f ks e = by-test (λ b. true ≡ cond b true true) refl refl (isSync f e)
-oldest-may (Target Tso) f ks e = refl
-oldest-may (Target Pso) f ks e = rw (mod-one ks) refl
-
--- on Sparc PSO also one that has i older ones, with no mark before it and none of them for its location or lock
+-- on Sparc PSO an entry that has i older ones commits with no mark before it and none of them for its location or lock
 pub pso-may : (f : ℕ → Bool) (ks : ℕ) (es : List Entry) (i : ℕ) (e : Entry) {b : Bool} → i < length es
     → noMark i ks ≡ b → (b && not (anySame e (take i es))) ≡ mayCommit (Target Pso) f ks (take i es) e
 pso-may f ks es i e h free =
@@ -47,8 +39,8 @@ pub none-pending : (es : List Entry) → eqb (length es) 0 ≡ isNil es
 none-pending [] = refl
 none-pending (x ∷ es) = ne-eqb (suc (length es)) 0 (λ z. omega arith)
 
--- with an older one before it
-pub some-older : (es : List Entry) (i : ℕ) → (i ≡ 0 → ⊥) → i < length es → isNil (take i es) ≡ false
-some-older es zero h k = absurd (h refl)
-some-older [] (suc i) h k = absurd (omega arith)
-some-older (x ∷ es) (suc i) h k = refl
+-- nothing is older exactly at index 0
+pub none-older : (es : List Entry) (i : ℕ) → i < length es → eqb i 0 ≡ isNil (take i es)
+none-older es zero k = refl
+none-older [] (suc i) k = absurd (omega arith)
+none-older (x ∷ es) (suc i) k = ne-eqb (suc i) 0 (λ z. omega arith)
