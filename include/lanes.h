@@ -9,14 +9,16 @@
  * 0 where none is named. After a refusal the output buffer is as it was; after a success the bytes behind the result
  * are as they were.
  *
- *   1 file under 16 bytes                   6 a chain of more than 64 records
- *   2 bad header                            7 a SKIP whose target is not later in its lane
- *   3 bad length                            8 a lock taken or released against the rule
+ *   1 file under 16 bytes                   7 a SKIP whose target is not later in its lane
+ *   2 bad header                            8 a lock taken or released against the rule
+ *   3 bad length                           12 a lock taken while one that is not below it is held
  *   4 bad record                            9 the output buffer is shorter than the result
  *   5 a record in no lane, or met twice    10 a move with no such lane or choice, or an odd number of bytes
+ *   6 a chain of more than 64 records
  *
- * Checks are made in this order, 10 over the whole schedule before its first move. Refusal 11, the release of a lock
- * that is not held, is never given: no kernel that passes 1 to 8 meets it. docs/FORMATS.md has the layouts. */
+ * Checks are made in this order, 8 in every lane before 12 in any, and 10 over the whole schedule before its first
+ * move. Refusal 11, the release of a lock that is not held, is never given: no kernel that passes 1 to 8 meets it.
+ * docs/FORMATS.md has the layouts. */
 #ifndef LANES_H
 #define LANES_H
 
@@ -61,7 +63,8 @@ uint64_t lanes_page(const uint8_t *kernel, size_t kernel_len, uint8_t *page, siz
  * sheet and on the pso machine (Sparc PSO) over its level 3 sheet. A move is two bytes: the lane, then the choice, of
  * which 0 carries out the lane's next instruction and k, up to 64, on the tso machine 1, commits its k-th oldest
  * pending entry. `state` receives the state record at the end. Its first byte is 1 where the run is finished: every
- * lane stands at its end and nothing is pending, so that no further move changes its memory. */
+ * lane stands at its end and nothing is pending, so that no further move changes its memory. Until then some lane has
+ * a permitted move with choice 0 or 1: no kernel that is accepted can be run into a dead end. */
 uint64_t lanes_run_source(const uint8_t *kernel, size_t kernel_len, const uint8_t *moves, size_t moves_len,
                           uint8_t *state, size_t state_len);
 uint64_t lanes_run_tso(const uint8_t *kernel, size_t kernel_len, const uint8_t *moves, size_t moves_len,

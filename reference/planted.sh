@@ -75,7 +75,7 @@ build counts
 "$out/planted/counts"
 
 check=src/fast/check.rs flow=src/fast/flow.rs sheet=src/fast/sheet.rs page=src/fast/page.rs machine=src/fast/machine.rs
-paged=src/slow/page.rs pending=src/slow/pending.rs
+paged=src/slow/page.rs pending=src/slow/pending.rs locks=src/slow/locks.rs calls=src/fast/mod.rs
 
 fault 'a barrier on one side of a SKIP covers the other' $flow 's/self.live |= other.live;//'
 fault 'cell VS, VS is empty' $flow 's/\[0, 0, SL, SS\]\]/[0, 0, SL, 0]]/'
@@ -242,6 +242,48 @@ fault 'SS leaves a mark with nothing pending' $pending 's/if !self.is_empty() \&
 fault 'a mark that becomes the oldest stays' $pending 's/while self.items.first()/while false \&\& self.items.first()/'
 fault 'a mark vanishes with the first entry before it' $pending \
     's/while self.items.first() ==/while self.items.get(1) ==/; s/self.items.remove(0)/self.items.remove(1)/'
+
+fault '12 is never given' $flow 's/if falling == 0 { Ok/if falling < 257 { Ok/'
+fault '12 is numbered 8' $flow 's/Refusal::new(12, falling)/Refusal::new(8, falling)/'
+fault 'a lock one below a held one passes' $flow 's/& 3) > 0/\& 3) > 3/'
+fault 'lock 0 passes where lock 3 is held' $flow 's/& 3) > 0/\& 3) \& 7 > 0/'
+fault 'the lowest held lock alone counts for 12' $flow \
+    's/self.held >> (record\[2\] & 3) > 0/self.held > 0 \&\& self.held.trailing_zeros() > u32::from(record[2])/'
+fault 'the lock taken last alone counts for 12' $flow \
+    's/let mut first = 0;/& let mut last = 0;/
+    s/if ways.falls(record)/let fell = ways.falls(record) \&\& ways.held >> last \& 1 == 1;\
+    if record[0] == LOCK { last = record[2] } if fell/'
+fault 'a released lock counts for 12' $flow \
+    's/let mut first = 0;/& let mut ever = 0;/
+    s/if ways.falls(record)/ever |= ways.held; if record[0] == LOCK \&\& ever >> record[2] > 1/'
+fault 'only lane 0 is looked at for 12' $flow 's/if falling == 0 { own }/if lane == 0 { own }/'
+fault '12 names the last lane' $flow 's/if falling == 0 { own }/if own > 0 { own }/'
+fault '12 names the last LOCK of a lane' $flow 's/ways.falls(record) \&\& first == 0/ways.falls(record)/'
+fault '12 names the lowest record of a lane' $flow 's/first == 0 {/(first == 0 || usize::from(*name) < first) {/'
+fault '12 names the lowest record of all lanes' $flow \
+    's/if falling == 0 { own } else { falling }/if falling.min(own) == 0 { falling + own } else { falling.min(own) }/'
+fault '12 names the LOCK of the held lock' $flow \
+    's/let mut first = 0;/& let mut takers = [0; 8];/
+    s/if ways.falls(record)/if record[0] == LOCK { takers[usize::from(record[2])] = usize::from(*name) + 1 } &/
+    s/first = usize::from(\*name) + 1;/first = takers[ways.held.ilog2() as usize];/'
+fault '12 before 8 of a later lane' $flow 's/falling = if/if own > 0 { return Err(Refusal::new(12, own)); } &/'
+fault '12 before 8 of the same lane' $flow \
+    's/first = usize::from(\*name) + 1;/return Err(Refusal::new(12, usize::from(*name) + 1));/'
+fault '12 before a lock held at the end' $flow 's/!= 0 => Err/!= 0 \&\& first == 0 => Err/'
+fault 'no 12 at level 1' $flow 's/if falling == 0 { Ok/if falling == 0 || LEVEL == 1 { Ok/'
+fault 'no 12 at level 3' $flow 's/if falling == 0 { Ok/if falling == 0 || LEVEL == 3 { Ok/'
+fault 'no 12 on the source machine' $flow 's/if falling == 0 { Ok/if falling == 0 || LEVEL == 0 { Ok/'
+fault 'no 12 for the page' $calls \
+    's/answer(\(put_out.*page::write)\))/match \1 { Err(Refusal(own)) if own >> 32 == 12 => 33, it => answer(it) }/'
+fault '12 after 9' $calls 's/plan.lay::<LEVEL>(&kernel)?;/plan.lay::<LEVEL>(\&kernel)\
+    .map_err(|own| if own.0 >> 32 == 12 \&\& out.is_empty() { Refusal::new(9, 0) } else { own })?;/'
+fault '12 after 10' $machine 's/plan.lay::<LEVEL>(&kernel)?;/plan.lay::<LEVEL>(\&kernel)\
+    .map_err(|own| if own.0 >> 32 == 12 \&\& moves.len() % 2 == 1 { Refusal::new(10, 0) } else { own })?;/'
+fault 'a byte is written on refusal 12' $calls \
+    's/plan.lay::<LEVEL>(&kernel)?;/if let Err(own) = plan.lay::<LEVEL>(\&kernel) {\
+        out.iter_mut().take((own.0 >> 32 == 12).into()).for_each(|byte| *byte ^= 1); return Err(own); }/'
+fault 'a refusal 12 listed as 8' $locks 's/refuse(12, \*number)/refuse(8, *number)/' $listings "$cases"
+fault 'pages of a kernel that 12 refuses' $locks 's/|held| \*held < b)/|held| *held < b + 4)/' $pages "$cases"
 
 # leave no faulty archive where a test could link it
 rm -rf "$copy" "$LANES_LIB"

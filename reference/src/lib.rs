@@ -1,4 +1,4 @@
-//! Reference for paper 01 with requests 1 to 4 of paper 02: a slow and a fast implementation, and what tests and
+//! Reference for paper 01 with requests 1 to 4 and 6 of paper 02: a slow and a fast implementation, and what tests and
 //! measures them and the library.
 
 pub mod compare;

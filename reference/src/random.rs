@@ -8,7 +8,8 @@ mod schedules;
 
 pub use cases::{Case, Cases};
 pub use edges::Edge;
-pub use kernels::{draft_of, numbered};
+pub use faults::turn;
+pub use kernels::{draft_of, nested_draft, numbered};
 pub use schedules::long_schedule;
 
 pub struct Random(u64);

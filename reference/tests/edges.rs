@@ -1,8 +1,10 @@
 //! Tests: the first 2,000 cases of seed 1 have every edge, and each edge is answered as its rule says; they have LOCKs
-//! without their MFENCE in every place, kernels at the end of a page, and moves of the pso machine about its marks.
+//! without their MFENCE in every place, locks nested upward and not, kernels at the end of a page, and moves of the pso
+//! machine about its marks.
 
 use reference::random::{Case, Cases};
-use reference::slow::kernel::{Kernel, LOAD, LOCK, Refusal, SKIP, STORE, UNLOCK, check};
+use reference::slow::kernel::{Kernel, LOAD, LOCK, Refusal, SKIP, STORE, UNLOCK, check, check_to_7};
+use reference::slow::locks::{lane_lock_fault, lane_lock_order};
 use reference::slow::machines::{Machine, Program, State, Turn};
 use reference::slow::pending::{Item, Pending};
 use reference::slow::placement::{Barrier, placement};
@@ -154,6 +156,49 @@ fn locks_without_their_mfence() {
     });
     let rare: Vec<_> = met.iter().filter(|(_, count)| **count < 100).collect();
     assert!(met.len() == 6 && rare.is_empty(), "{met:?}");
+}
+
+/// How deep a lane nests its locks, and whether it releases one below another.
+fn nests(kernel: &Kernel, lane: usize) -> Vec<&'static str> {
+    let (mut held, mut met): (Vec<u8>, Vec<_>) = (Vec::new(), Vec::new());
+    for record in (0..kernel.length(lane)).map(|position| kernel.at(lane, position)) {
+        match record.operation {
+            LOCK => held.push(record.b),
+            UNLOCK if held.last() != Some(&record.b) => met.push("not the newest released"),
+            _ => {}
+        }
+        if record.operation == UNLOCK {
+            held.retain(|lock| *lock != record.b);
+        }
+        met.extend([2, 3, 4].contains(&held.len()).then(|| ["two deep", "three deep", "four deep"][held.len() - 2]));
+    }
+    met.sort();
+    met.dedup();
+    met
+}
+
+#[test]
+fn nested_locks_and_their_order() {
+    let mut met: BTreeMap<&str, usize> = BTreeMap::new();
+    for_each_case(&Cases::new(1), |case| {
+        let Ok(kernel) = check_to_7(&case.file) else { return };
+        let lanes = 0..kernel.header.lanes;
+        let faults: Vec<_> = lanes.clone().filter_map(|lane| lane_lock_fault(&kernel, lane).err()).collect();
+        let whole = lanes.clone().filter(|lane| lane_lock_fault(&kernel, *lane).is_ok());
+        let falls: Vec<_> = whole.filter_map(|lane| lane_lock_order(&kernel, lane).err()).collect();
+        let kinds = match (&faults[..], &falls[..]) {
+            ([], []) => lanes.flat_map(|lane| nests(&kernel, lane)).collect(),
+            ([], [_]) => vec!["12 in one lane"],
+            ([], _) => vec!["12 in several lanes"],
+            (_, [_, ..]) => vec!["8 and 12 in different lanes"],
+            _ => vec![],
+        };
+        for kind in kinds.into_iter().filter(|_| case.edge.is_none()) {
+            *met.entry(kind).or_default() += 1;
+        }
+    });
+    let rare: Vec<_> = met.iter().filter(|(_, count)| **count < 10).collect();
+    assert!(met.len() == 7 && rare.is_empty(), "{met:?}");
 }
 
 /// Instructions and pages of the kernels that are made for a number of instructions.

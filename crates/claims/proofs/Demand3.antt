@@ -26,7 +26,7 @@ use Rattle.machine_spec.specs.State.{Run, Outcome, ran, begin, run}
 use Rattle.machine_spec.specs.View.{View, Seen, saw, refusal as seenRefusal, observe}
 use Rattle.claims.specs.Schedules.{sourceSchedule, targetSchedule}
 use Rattle.claims.specs.Direct.{direct}
-use Rattle.claims.proofs.Fenced.{sheetProgram}
+use Rattle.claims.proofs.Fenced.{kernelProgram, sheetProgram}
 use Rattle.machine_spec.specs.Run.{answerOf, refusal, startOf, levelOf, programFor, runOn, runProgram, runFile, shown}
 use Rattle.machine_spec.specs.Run.{runBy, countsAs}
 use Rattle.claims.specs.Claims.{Shares, sourceFor, targetFor, answerFor, Demand3, Runs, Bounds}
@@ -94,7 +94,7 @@ module _ (k : Program) (w : Lawful k) where
     Q = programFor (Target m) k
 
     -- what the bytes of the sheet stand for are its lanes
-    target-program : sheetProgram ks ≡ Q
+    pub target-program : sheetProgram ks ≡ Q
     target-program = sym (bytes-back (levelOf (Target m)) k w)
 
     target-ran : (mvs : List Move) → legal n (limit (Target m)) mvs ≡ true
@@ -158,6 +158,12 @@ module _ (k : Program) (w : Lawful k) where
         let le = counts-legal Source k mvs in
         shares cs (targetFor m k mvs) le (target-legal m vol Q n begun cs le) (direct-seen cs le st)
 
+    -- where it ran to beside the source machine
+    pub ran-matched : (mvs : List Move) (r : Run) → run (Target m) vol (sheetProgram ks) begun mvs ≡ ran r
+        → Matched m vol ks (run Source vol (kernelProgram ks) begun (sourceSchedule m vol (sheetProgram ks) begun mvs))
+        (ran r)
+    ran-matched mvs r e = subst (Matched m vol ks _) e (matching m vol ks (fenced k w m) mvs begun begun begins)
+
     -- its lane stands in its sheet part, since it stands at the place of a source lane
     lane-within : (o : Outcome) (r : Run) → Matched m vol ks o (ran r) → Within (sheetProgram ks) (r .state)
     lane-within o r (both-ran e h) t =
@@ -170,14 +176,11 @@ module _ (k : Program) (w : Lawful k) where
     Stays q = (mvs : List Move) (r : Run) → run (Target m) vol q begun mvs ≡ ran r → Within q (r .state)
 
     target-stays : Stays Q
-    target-stays =
-        subst Stays target-program
-        (λ mvs r e. lane-within _ r
-        (subst (Matched m vol ks _) e (matching m vol ks (fenced k w m) mvs begun begun begins)))
+    target-stays = subst Stays target-program (λ mvs r e. lane-within _ r (ran-matched mvs r e))
 
   -- ## every machine
 
-  ran-to : (m : Machine) (mvs : List Move) → legal n (limit m) mvs ≡ true → (r : Run) × (runOn m k mvs ≡ ran r)
+  pub ran-to : (m : Machine) (mvs : List Move) → legal n (limit m) mvs ≡ true → (r : Run) × (runOn m k mvs ≡ ran r)
   ran-to Source = source-ran
   ran-to (Target m) = target-ran m
 

@@ -2,20 +2,21 @@
 use mathlib.Core.Path.{_≡_, refl, ap, _∙_, sym}
 use mathlib.Core.Bool.{Bool, true, false, not, _&&_, _||_, Bool·beq}
 use mathlib.Core.List.{List, [], _∷_}
-use mathlib.Core.Option.{some}
+use mathlib.Core.Option.{none, some}
 use Prim.Native.Nat.{ℕ, zero, suc, _≤_, _<_}
 use native.Mathlib.Omega.{arith}
-use native.Mathlib.Decide.{ℕ-discrete}
+use native.Mathlib.Decide.{ℕ-discrete, decLt}
 use lib.Dec.{eqb}
 use borrow.Author.Tests.{eq-eqb, ne-eqb}
-use lib.ListN.{length, getD, getElem?, take, set, length-set, List·getD-eq-default}
-use lib.Seq.{getD-set-same, getD-set-other}
+use lib.ListN.{length, getD, getElem?, take, set, List·getD-eq-default}
+use lib.Seq.{getD-set-same, getD-set-other, take-all, take-length}
 use Rattle.laws.proofs.Bools.{beq-true}
-use Rattle.laws.proofs.Lists.{getD-replicate-all}
+use Rattle.laws.proofs.Lists.{at-some, getD-replicate-all}
 use Rattle.file_format.specs.declared.accepted.Op.{Op}
 use Rattle.file_format.specs.declared.accepted.Op.the-variants.{Set, Add, Load, Store, Lock, Unlock, Skip}
 use Rattle.file_format.specs.Held.{noLocks, same, after, heldFrom, held}
 use Rattle.file_format.proofs.Laws.Search.{all-at}
+use Rattle.file_format.proofs.Laws.Held.{held-length}
 use Rattle.file_format.specs.Lawful.{LawfulLane}
 
 -- is l held after an operation, b telling whether it was before
@@ -31,27 +32,15 @@ heldAfter (Skip a t) l b = b
 -- holding p l: is lock l held on the way to position p, the same by every way; n locks
 pub record Disciplined (n : ℕ) (os : List Op) (holding : ℕ → ℕ → Bool) : Type 0 where
   pub starts : (l : ℕ) → holding 0 l ≡ false
-  pub takes : (p l : ℕ) → getElem? os p ≡ some (Lock l) → (holding p l ≡ false) × (l < n)
+  pub takes : (p l : ℕ) → getElem? os p ≡ some (Lock l) → l < n
   pub frees : (p l : ℕ) → getElem? os p ≡ some (Unlock l) → holding p l ≡ true
   pub onward : (p : ℕ) (o : Op) → getElem? os p ≡ some o → (l : ℕ) → holding (suc p) l ≡ heldAfter o l (holding p l)
   pub jumps : (p a t : ℕ) → getElem? os p ≡ some (Skip a t) → (l : ℕ) → holding t l ≡ holding p l
+  pub ends : (p l : ℕ) → getElem? os p ≡ none → holding p l ≡ false
+  pub rising : (p b l : ℕ) → getElem? os p ≡ some (Lock b) → holding p l ≡ true → l < b
 
 abbrev pub heldAt : List Op → ℕ → ℕ → Bool
 heldAt os p l = getD (held os p) l false
-
-after-length : (h : List Bool) (o : Op) → length (after h o) ≡ length h
-after-length h (Set a c) = refl
-after-length h (Add a c) = refl
-after-length h (Load a x) = refl
-after-length h (Store a x) = refl
-after-length h (Lock k) = length-set h k true
-after-length h (Unlock k) = length-set h k false
-after-length h (Skip a t) = refl
-
-held-length : (h : List Bool) (os : List Op) → length (heldFrom h os) ≡ length h
-unfolding heldFrom
-held-length h [] = refl
-held-length h (o ∷ os) = held-length (after h o) os ∙ after-length h o
 
 -- one operation more
 held-next : (h : List Bool) (os : List Op) (p : ℕ) (o : Op) → getElem? os p ≡ some o
@@ -107,20 +96,37 @@ same-flag h g lh lg e (suc (suc (suc (suc l)))) =
     List·getD-eq-default h false {n = suc (suc (suc (suc l)))} (omega arith)
     ∙ sym (List·getD-eq-default g false {n = suc (suc (suc (suc l)))} (omega arith))
 
+none-held : (l : ℕ) → getD noLocks l false ≡ false
+none-held = getD-replicate-all (λ b. b ≡ false) 4 false false refl refl
+
 start-free : (os : List Op) (l : ℕ) → heldAt os 0 l ≡ false
 unfolding heldFrom
-start-free os = getD-replicate-all (λ b. b ≡ false) 4 false false refl refl
+start-free os = none-held
+
+-- past the last operation the set is the one at the end
+held-beyond : (os : List Op) (p : ℕ) → getElem? os p ≡ none → held os p ≡ held os (length os)
+held-beyond os p e = ap (heldFrom noLocks) (take-all p os (past (decLt p (length os))) ∙ sym (take-length os))
+  where
+    past : Dec (p < length os) → length os ≤ p
+    past (no ge) = omega arith
+    past (yes lt) =
+        let z : _≡_ {A = ℕ} 0 1 = cc (at-some os p (Skip 0 0) lt) in
+        absurd (omega arith)
 
 pub lane-disciplined : (ls ks : ℕ) (os : List Op) → ks ≤ 4 → LawfulLane ls ks os → Disciplined ks os (heldAt os)
 lane-disciplined ls ks os few w = record {
   starts = start-free os;
-  takes = λ p l e. (w .disciplined p (Lock l) e, w .bounded p (Lock l) e);
+  takes = λ p l e. w .bounded p (Lock l) e;
   frees = λ p l e. w .disciplined p (Unlock l) e;
   onward = λ p o e l. ap (λ h. getD h l false) (held-next noLocks os p o e)
       ∙ flag-after (heldFrom noLocks (take p os)) o l (below o p e);
   jumps = λ p a t e l. sym
       (same-flag (heldFrom noLocks (take p os)) (heldFrom noLocks (take t os)) (held-length noLocks (take p os))
       (held-length noLocks (take t os)) (w .disciplined p (Skip a t) e) l);
+  ends = λ p l e. ap (λ h. getD h l false) (held-beyond os p e)
+      ∙ same-flag (held os (length os)) noLocks (held-length noLocks (take (length os) os)) refl (w .released) l
+      ∙ none-held l;
+  rising = w .rising;
 }
   where
     below : (o : Op) (p : ℕ) → getElem? os p ≡ some o → LockBelow (length (heldFrom noLocks (take p os))) o

@@ -1,5 +1,5 @@
--- What is proved of whole kernels and whole runs. Theorem has `claims`, the one theorem; Demand2, Demand3 and Over put
--- its parts together. Each other file is named after what it shows.
+-- What is proved of whole kernels and whole runs. Theorem has `claims`, the one theorem; Demand2, Demand3, Over and
+-- Progress put its parts together. Each other file is named after what it shows.
 
 -- small laws by subject
 pub mod Laws
@@ -34,6 +34,7 @@ pub mod LeftOut
 pub mod Demand2
 pub mod Demand3
 pub mod Over
+pub mod Progress
 pub mod Theorem
 -- a computed search over the states of a small kernel, for the examples
 pub mod Explore

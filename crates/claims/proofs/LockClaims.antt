@@ -4,12 +4,12 @@ use mathlib.Core.Bool.{Bool, true, false, _||_}
 use mathlib.Core.List.{List, [], _∷_, _++_}
 use mathlib.Core.Logic.{_≢_}
 use mathlib.Core.Option.{some}
-use Prim.Native.Nat.{ℕ, zero, suc, _+_, _≤_, _<_}
+use Prim.Native.Nat.{ℕ, zero, suc, _+_, _<_}
 use native.Mathlib.Omega.{arith}
-use native.Mathlib.Decide.{ℕ-discrete}
+use native.Mathlib.Decide.{ℕ-discrete, decLt}
 use lib.Dec.{eqb}
-use borrow.Author.Tests.{eq-eqb, ne-eqb}
-use lib.ListN.{length, getD, getElem?, length-set, set as update}
+use borrow.Author.Tests.{eqb-true, eq-eqb, ne-eqb}
+use lib.ListN.{length, getD, getElem?, length-set, List·getD-eq-default, set as update}
 use lib.Seq.{getD-set-same, getD-set-other}
 use Rattle.machine_spec.specs.Entries.{Entry, write, release, without}
 use Rattle.machine_spec.specs.Step.{Core}
@@ -17,10 +17,6 @@ use Rattle.machine_spec.specs.Step.{Core}
 abbrev pub one : Bool → ℕ
 one true = 1
 one false = 0
-
-one-le : (b : Bool) → one b ≤ 1
-one-le true = omega arith
-one-le false = omega arith
 
 abbrev pub single : ℕ → Entry → ℕ
 single l (write x v) = 0
@@ -45,100 +41,99 @@ releases-without l (suc i) (x ∷ es) e k = omega (arith, releases-without l i e
 abbrev pub claim : Bool → List Entry → ℕ → ℕ
 claim b es l = one b + releases l es
 
--- a lane's claims of the locks: at most one of each, and the word is its own
-pub record Claims (held : ℕ → Bool) (t : ℕ) (es : List Entry) (locks : List ℕ) : Type 0 where
-  pub few : (l : ℕ) → claim (held l) es l ≤ 1
-  pub own : (l : ℕ) → 0 < claim (held l) es l → getD locks l 0 ≡ suc t
+-- the word of a lock is lane t's exactly while the lane claims the lock, and it claims it once
+abbrev pub Claims : (ℕ → Bool) → ℕ → List Entry → List ℕ → Type 0
+Claims held t es locks = (l : ℕ) → claim (held l) es l ≡ one (eqb (getD locks l 0) (suc t))
+
+-- the word of a free lock is no lane's
+pub free-word : (t : ℕ) → eqb 0 (suc t) ≡ false
+free-word t = ne-eqb 0 (suc t) (λ z. omega arith)
+
+own-word : (t u : ℕ) → u ≢ t → eqb (suc t) (suc u) ≡ false
+own-word t u ne = ne-eqb (suc t) (suc u) (λ z. ne (omega arith))
 
 -- a turn of lane t keeps its claims, and other lanes' words
 pub record Kept (n : ℕ) (held : ℕ → Bool) (t : ℕ) (locks : List ℕ) (d : Core) : Type 0 where
   pub claims : Claims held t (d .pending) (d .locks)
-  pub foreign : (l u : ℕ) → u ≢ t → getD locks l 0 ≡ suc u → getD (d .locks) l 0 ≡ suc u
+  pub foreign : (l u : ℕ) → u ≢ t → eqb (getD (d .locks) l 0) (suc u) ≡ eqb (getD locks l 0) (suc u)
   pub count : length (d .locks) ≡ n
 
 module _ (n : ℕ) (t : ℕ) (es : List Entry) (locks : List ℕ) (len : length locks ≡ n) (held : ℕ → Bool)
     (h : Claims held t es locks) where
+  -- a lock that the lane claims has its word
+  pub claimed-word : (l : ℕ) → 0 < claim (held l) es l → eqb (getD locks l 0) (suc t) ≡ true
+  claimed-word l c = go (eqb (getD locks l 0) (suc t)) refl
+    where
+      go : (b : Bool) → eqb (getD locks l 0) (suc t) ≡ b → eqb (getD locks l 0) (suc t) ≡ true
+      go true w = w
+      go false w = let z : claim (held l) es l ≡ 0 = h l ∙ rw w in absurd (omega arith)
+
   -- nothing claimed changes
   pub unchanged : (held′ : ℕ → Bool) (d : Core) → ((l : ℕ) → claim (held′ l) (d .pending) l ≡ claim (held l) es l)
       → d .locks ≡ locks → Kept n held′ t locks d
-  unchanged held′ d e k = record {
-    claims = record { few = λ l. rw (e l) (h .few l); own = λ l c. rw k (h .own l (rw (e l) at c)) };
-    foreign = λ l u ne w. rw k w;
-    count = rw k len;
-  }
+  unchanged held′ d e k = record { claims = λ l. rw k (e l ∙ h l); foreign = λ l u ne. rw k; count = rw k len }
 
-  -- a free lock is taken
-  pub taken : (held′ : ℕ → Bool) (k : ℕ) (d : Core) → ((l : ℕ) → held′ l ≡ eqb k l || held l) → held k ≡ false → k < n
-      → getD locks k 0 ≡ 0
-      → d .pending ≡ es → d .locks ≡ update locks k (suc t) → Kept n held′ t locks d
-  taken held′ k d e no-k lt free ep el = record {
-    claims = record { few = few; own = own };
-    foreign = foreign;
-    count = rw el (length-set locks k (suc t) ∙ len);
+  -- the word of k, which is no other lane's, becomes b, which is none either
+  rewritten : (held′ : ℕ → Bool) (k b : ℕ) (d : Core) → ((u : ℕ) → u ≢ t → eqb (getD locks k 0) (suc u) ≡ false)
+      → ((u : ℕ) → u ≢ t → eqb b (suc u) ≡ false) → k < n → claim (held′ k) (d .pending) k ≡ one (eqb b (suc t))
+      → ((l : ℕ) → l ≢ k → claim (held′ l) (d .pending) l ≡ claim (held l) es l) → d .locks ≡ update locks k b
+      → Kept n held′ t locks d
+  rewritten held′ k b d was is lt here others el = record {
+    claims = λ l. rw el (claims l (ℕ-discrete l k));
+    foreign = λ l u ne. rw el (foreign l u ne (ℕ-discrete l k));
+    count = rw el (length-set locks k b ∙ len);
   }
     where
-      -- the lane had no claim of k
-      none-before : releases k es ≡ 0
-      none-before = go (ℕ-discrete (releases k es) 0)
-        where
-          go : Dec (releases k es ≡ 0) → releases k es ≡ 0
-          go (yes z) = z
-          go (no z) =
-              let some-claim : 0 < claim (held k) es k = omega arith in
-              let w : getD locks k 0 ≡ suc t = h .own k some-claim in
-              absurd (omega arith)
+      now : getD (update locks k b) k 0 ≡ b
+      now = getD-set-same locks k b 0 (rw len lt)
 
-      others : (l : ℕ) → l ≢ k → held′ l ≡ held l
-      others l ne = e l ∙ rw (ne-eqb k l (λ x. ne (sym x)))
+      claims : (l : ℕ) → Dec (l ≡ k)
+          → claim (held′ l) (d .pending) l ≡ one (eqb (getD (update locks k b) l 0) (suc t))
+      claims l (yes z) = rw (z, now) here
+      claims l (no z) = rw (getD-set-other locks k l b 0 z) (others l z ∙ h l)
 
-      few : (l : ℕ) → claim (held′ l) (d .pending) l ≤ 1
-      few l = go (ℕ-discrete l k)
-        where
-          go : Dec (l ≡ k) → claim (held′ l) (d .pending) l ≤ 1
-          go (yes z) = rw (ep, z) (omega (arith, one-le (held′ k), none-before))
-          go (no z) = rw (ep, others l z) (h .few l)
+      foreign : (l u : ℕ) → u ≢ t → Dec (l ≡ k)
+          → eqb (getD (update locks k b) l 0) (suc u) ≡ eqb (getD locks l 0) (suc u)
+      foreign l u ne (yes z) = rw (z, now) (is u ne ∙ sym (was u ne))
+      foreign l u ne (no z) = rw (getD-set-other locks k l b 0 z)
 
-      own : (l : ℕ) → 0 < claim (held′ l) (d .pending) l → getD (d .locks) l 0 ≡ suc t
-      own l c = go (ℕ-discrete l k)
-        where
-          go : Dec (l ≡ k) → getD (d .locks) l 0 ≡ suc t
-          go (yes z) = rw (el, z) (getD-set-same locks k (suc t) 0 (rw len lt))
-          go (no z) = rw (el, getD-set-other locks k l (suc t) 0 z) (h .own l (rw (ep, others l z) at c))
+  -- a free lock is taken
+  pub taken : (held′ : ℕ → Bool) (k : ℕ) (d : Core) → ((l : ℕ) → held′ l ≡ eqb k l || held l) → k < n
+      → getD locks k 0 ≡ 0 → d .pending ≡ es → d .locks ≡ update locks k (suc t) → Kept n held′ t locks d
+  taken held′ k d e lt free ep el =
+      rewritten held′ k (suc t) d (λ u ne. rw free (free-word u)) (own-word t) lt here
+      (λ l ne. rw (ep, e l, ne-eqb k l (λ x. ne (sym x)))) el
+    where
+      unclaimed : claim (held k) es k ≡ 0
+      unclaimed = h k ∙ rw (free, free-word t)
 
-      foreign : (l u : ℕ) → u ≢ t → getD locks l 0 ≡ suc u → getD (d .locks) l 0 ≡ suc u
-      foreign l u ne w = go (ℕ-discrete l k)
-        where
-          go : Dec (l ≡ k) → getD (d .locks) l 0 ≡ suc u
-          go (yes z) = let w′ : getD locks k 0 ≡ suc u = rw z at w in absurd (omega arith)
-          go (no z) = rw (el, getD-set-other locks k l (suc t) 0 z) w
+      here : claim (held′ k) (d .pending) k ≡ one (eqb (suc t) (suc t))
+      here = rw (ep, e k, eq-eqb k k refl, eq-eqb (suc t) (suc t) refl) (omega (arith, unclaimed))
 
   -- a pending release of k reaches memory
   pub let-go : (k : ℕ) (d : Core) → ((l : ℕ) → releases l es ≡ one (eqb k l) + releases l (d .pending))
       → d .locks ≡ update locks k 0 → Kept n held t locks d
-  let-go k d e el = record {
-    claims = record { few = λ l. omega (arith, h .few l, e l); own = own };
-    foreign = foreign;
-    count = rw el (length-set locks k 0 ∙ len);
-  }
+  let-go k d e el =
+      rewritten held k 0 d (λ u ne. rw mine (own-word t u ne)) (λ u ne. free-word u) inside here
+      (λ l ne. omega (arith, rw (ne-eqb k l (λ x. ne (sym x))) at (e l))) el
     where
+      there : releases k es ≡ 1 + releases k (d .pending)
+      there = e k ∙ rw (eq-eqb k k refl)
+
+      word : eqb (getD locks k 0) (suc t) ≡ true
+      word = claimed-word k (omega (arith, there))
+
       mine : getD locks k 0 ≡ suc t
-      mine =
-          let there : releases k es ≡ 1 + releases k (d .pending) = e k ∙ rw (eq-eqb k k refl) in
-          h .own k (omega arith)
+      mine = eqb-true (getD locks k 0) (suc t) word
 
-      own : (l : ℕ) → 0 < claim (held l) (d .pending) l → getD (d .locks) l 0 ≡ suc t
-      own l c = go (ℕ-discrete l k)
-        where
-          go : Dec (l ≡ k) → getD (d .locks) l 0 ≡ suc t
-          go (yes z) =
-              let there : releases k es ≡ 1 + releases k (d .pending) = e k ∙ rw (eq-eqb k k refl) in
-              let c′ : 0 < claim (held k) (d .pending) k = rw z at c in
-              absurd (omega (arith, h .few k))
-          go (no z) = rw (el, getD-set-other locks k l 0 0 z) (h .own l (omega (arith, e l)))
+      here : claim (held k) (d .pending) k ≡ one (eqb 0 (suc t))
+      here =
+          let once : claim (held k) es k ≡ 1 = h k ∙ rw word in
+          rw (free-word t) (omega (arith, there))
 
-      foreign : (l u : ℕ) → u ≢ t → getD locks l 0 ≡ suc u → getD (d .locks) l 0 ≡ suc u
-      foreign l u ne w = go (ℕ-discrete l k)
+      inside : k < n
+      inside = go (decLt k n)
         where
-          go : Dec (l ≡ k) → getD (d .locks) l 0 ≡ suc u
-          go (yes z) = let w′ : getD locks k 0 ≡ suc u = rw z at w in absurd (ne (omega (arith, mine)))
-          go (no z) = rw (el, getD-set-other locks k l 0 0 z) w
+          go : Dec (k < n) → k < n
+          go (yes lt) = lt
+          go (no ge) = absurd (omega (arith, mine, List·getD-eq-default locks 0 {n = k} (omega arith)))

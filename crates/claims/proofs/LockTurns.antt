@@ -6,7 +6,7 @@ use mathlib.Core.Option.{Option, none, some}
 use Prim.Native.Nat.{ℕ, zero, suc, _+_}
 use native.Mathlib.Omega.{arith}
 use lib.Dec.{eqb}
-use borrow.Author.Tests.{eqb-true, eq-eqb}
+use borrow.Author.Tests.{eqb-true}
 use lib.ListN.{length, getD, getElem?, take}
 use Rattle.laws.proofs.Bools.{and-true}
 use Rattle.laws.proofs.Lists.{getElem?-map}
@@ -20,7 +20,7 @@ use Rattle.machine_spec.specs.Step.{Control, Core, Turn, waits, refuses, passes
 use Rattle.machine_spec.specs.Step.{coreAfter, effect, execute, settle, committed, commit, turn}
 use Rattle.claims.proofs.HeldSets.{Disciplined}
 use Rattle.claims.proofs.LockClaims.{one, releases, releases-snoc, releases-without, claim, Claims, Kept}
-use Rattle.claims.proofs.LockClaims.{unchanged, taken, let-go}
+use Rattle.claims.proofs.LockClaims.{claimed-word, unchanged, taken, let-go}
 
 -- no turn of the source machine is refused, and none passes a barrier
 abbrev pub Sound : (n : ℕ) → (ℕ → ℕ → Bool) → ℕ → List ℕ → Turn → Type 0
@@ -53,7 +53,7 @@ module _ (n : ℕ) (os : List Op) (held : ℕ → ℕ → Bool) (D : Disciplined
       eqb-true (getD (c .locks) k 0) 0
       (and-true (not (anySync vol (c .pending))) (eqb (getD (c .locks) k 0) 0) may .1) in
       taken n t (c .pending) (c .locks) len (held (i .pos)) h (held (suc (i .pos))) k _ (D .onward (i .pos) (Lock k) e)
-      (D .takes (i .pos) k e .0) (D .takes (i .pos) k e .1) free refl refl
+      (D .takes (i .pos) k e) free refl refl
   op-kept (Unlock k) e may =
       unchanged n t (c .pending) (c .locks) len (held (i .pos)) h (held (suc (i .pos))) _ moved refl
     where
@@ -85,7 +85,7 @@ module _ (n : ℕ) (os : List Op) (held : ℕ → ℕ → Bool) (D : Disciplined
   op-holds (Lock k) e = refl
   op-holds (Unlock k) e =
       let has = D .frees (i .pos) k e in
-      eq-eqb (getD (c .locks) k 0) (suc t) (h .own k (rw has (omega arith)))
+      claimed-word n t (c .pending) (c .locks) len (held (i .pos)) h k (rw has (omega arith))
   op-holds (Skip a u) e = refl
 
   effect-sound : (o : Op) → getElem? os (i .pos) ≡ some o → permits Source vol c o ≡ true

@@ -1,13 +1,13 @@
 -- No run of an accepted kernel meets an UNLOCK of a lock that its lane does not hold: number 11 is never met.
-use mathlib.Core.Path.{_≡_, refl, _∙_}
-use mathlib.Core.Bool.{Bool, true, false, _&&_}
+use mathlib.Core.Path.{_≡_, refl, ap, sym, _∙_}
+use mathlib.Core.Bool.{Bool, true, _&&_}
 use mathlib.Core.List.{List, [], _∷_, map}
-use Prim.Native.Nat.{ℕ, _<_}
-use native.Mathlib.Omega.{arith}
-use lib.Dec.{ltb, leb}
+use Prim.Native.Nat.{ℕ, suc, _<_}
+use lib.Dec.{eqb, ltb, leb}
 use borrow.Author.Tests.{ltb-true}
 use lib.ListN.{length, getD, replicate, length-replicate, List·getD-map}
 use Rattle.laws.proofs.Bools.{and-true}
+use Rattle.laws.proofs.Lists.{getD-replicate-all}
 use Rattle.file_format.specs.declared.accepted.Op.{Op}
 use Rattle.barrier_placement.specs.Layout.{Placed, operations}
 use Rattle.sheet_format.specs.Layout.{op}
@@ -23,23 +23,23 @@ use Rattle.claims.proofs.Laws.Lanes.{set-lane-count, set-lane-each, sta
 use Rattle.claims.proofs.Matching.{Matched, both-ran, both-refused, matching, begin-matched}
 use Rattle.claims.proofs.Legal.{source-legal}
 use Rattle.claims.proofs.HeldSets.{Disciplined}
-use Rattle.claims.proofs.LockClaims.{claim, Claims}
+use Rattle.claims.proofs.LockClaims.{one, Claims, free-word}
 use Rattle.claims.proofs.LockTurns.{Sound, turn-sound}
 
--- of m lanes and n locks
+-- a state of m lanes, whose claims the words of n locks tell
+pub record Inv (m n : ℕ) (held : ℕ → ℕ → ℕ → Bool) (a : State) : Type 0 where
+  pub lanes : length (a .lanes) ≡ m
+  pub locks : length (a .locks) ≡ n
+  pub claims : (t : ℕ) → Claims (held t (posAt a t)) t (laneAt a t .pending) (a .locks)
+
+abbrev pub InvOut : (m n : ℕ) → (ℕ → ℕ → ℕ → Bool) → Outcome → Type 0
+InvOut m n held (ran r) = Inv m n held (r .state)
+InvOut m n held (refused t k) = ⊥
+
 module _ (m n : ℕ) (ks : List (List (Placed Op))) (held : ℕ → ℕ → ℕ → Bool)
     (D : (t : ℕ) → Disciplined n (operations (getD ks t [])) (held t)) (vol : ℕ → Bool) where
-  record Inv (a : State) : Type 0 where
-    lanes : length (a .lanes) ≡ m
-    locks : length (a .locks) ≡ n
-    claims : (t : ℕ) → Claims (held t (posAt a t)) t (laneAt a t .pending) (a .locks)
-
-  abbrev InvOut : Outcome → Type 0
-  InvOut (ran r) = Inv (r .state)
-  InvOut (refused t k) = ⊥
-
-  inv-land : (r : Run) (t k : ℕ) → t < m → Inv (r .state) → (u : Turn) → Sound n (held t) t (r .state .locks) u
-      → InvOut (applyTurn r t k u)
+  inv-land : (r : Run) (t k : ℕ) → t < m → Inv m n held (r .state) → (u : Turn) → Sound n (held t) t (r .state .locks) u
+      → InvOut m n held (applyTurn r t k u)
   inv-land r t k lt i waits s = record { lanes = i .lanes; locks = i .locks; claims = i .claims }
   inv-land r t k lt i refuses s = s
   inv-land r t k lt i (passes j d) s = absurd s
@@ -48,11 +48,11 @@ module _ (m n : ℕ) (ks : List (List (Placed Op))) (held : ℕ → ℕ → ℕ 
     locks = s .count;
     claims = set-lane-each (λ u l. Claims (held u (l .control .pos)) u (l .pending) (d .locks)) (r .state) t j d
         (rw (i .lanes) lt) (s .claims)
-        (λ u ne. record { few = i .claims u .few; own = λ l c. s .foreign l u ne (i .claims u .own l c) });
+        (λ u ne l. i .claims u l ∙ ap one (sym (s .foreign l u ne)));
   }
 
-  inv-step : (r : Run) (mv : Move) → mv .lane < m → Inv (r .state)
-      → InvOut (advance Source vol (kernelProgram ks) (ran r) mv)
+  inv-step : (r : Run) (mv : Move) → mv .lane < m → Inv m n held (r .state)
+      → InvOut m n held (advance Source vol (kernelProgram ks) (ran r) mv)
   inv-step r mv lt i =
       inv-land r (mv .lane) _ lt i (moveTurn Source vol (kernelProgram ks) (r .state) mv)
       (rw (List·getD-map (λ ps. map op (operations ps)) ks (mv .lane) [])
@@ -60,8 +60,8 @@ module _ (m n : ℕ) (ks : List (List (Placed Op))) (held : ℕ → ℕ → ℕ 
       (laneAt (r .state) (mv .lane) .control)
       (coreOf (r .state) (laneAt (r .state) (mv .lane))) (i .locks) (i .claims (mv .lane)) (mv .choice)))
 
-  inv-run : (mvs : List Move) (o : Outcome) → InvOut o → legal m 64 mvs ≡ true
-      → InvOut (run Source vol (kernelProgram ks) o mvs)
+  inv-run : (mvs : List Move) (o : Outcome) → InvOut m n held o → legal m 64 mvs ≡ true
+      → InvOut m n held (run Source vol (kernelProgram ks) o mvs)
   inv-run [] o i le = i
   inv-run (mv ∷ mvs) (refused t k) i le = absurd i
   inv-run (mv ∷ mvs) (ran r) i le =
@@ -69,7 +69,7 @@ module _ (m n : ℕ) (ks : List (List (Placed Op))) (held : ℕ → ℕ → ℕ 
       let lt : mv .lane < m = ltb-true (mv .lane) m (and-true (ltb (mv .lane) m) (leb (mv .choice) 64) (fits .0) .0) in
       inv-run mvs (advance Source vol (kernelProgram ks) (ran r) mv) (inv-step r mv lt i) (fits .1)
 
-  inv-start : (mem : List ℕ) → Inv (startState m mem n)
+  inv-start : (mem : List ℕ) → Inv m n held (startState m mem n)
   inv-start mem = record {
     lanes = length-replicate m _;
     locks = length-replicate n 0;
@@ -79,23 +79,24 @@ module _ (m n : ℕ) (ks : List (List (Placed Op))) (held : ℕ → ℕ → ℕ 
   }
     where
       unclaimed : (t : ℕ) → Claims (held t 0) t [] (replicate n 0)
-      unclaimed t =
-          record {
-            few = λ l. rw (D t .starts l) (omega arith);
-            own = λ l c. let none-held : 0 < claim false [] l =
-                rw (D t .starts l) at c in absurd (omega arith);
-          }
+      unclaimed t l =
+          rw (D t .starts l)
+          (getD-replicate-all (λ w. 0 ≡ one (eqb w (suc t))) n 0 0 (rw (free-word t)) (rw (free-word t)) l)
 
-  ran-of : (o : Outcome) → InvOut o → (r : Run) × (o ≡ ran r)
+  ran-of : (o : Outcome) → InvOut m n held o → (r : Run) × (o ≡ ran r)
   ran-of (ran r) i = (r, refl)
   ran-of (refused t k) i = absurd i
+
+  pub source-kept : (mem : List ℕ) (mvs : List Move) → legal m 64 mvs ≡ true
+      → InvOut m n held (run Source vol (kernelProgram ks) (begin (startState m mem n)) mvs)
+  source-kept mem mvs = inv-run mvs (begin (startState m mem n)) (inv-start mem)
 
   -- no source run is refused
   pub source-runs : (mem : List ℕ) (mvs : List Move) → legal m 64 mvs ≡ true → (r : Run)
       × (run Source vol (kernelProgram ks) (begin (startState m mem n)) mvs ≡ ran r)
-  source-runs mem mvs le = ran-of _ (inv-run mvs (begin (startState m mem n)) (inv-start mem) le)
+  source-runs mem mvs le = ran-of _ (source-kept mem mvs le)
 
-  matched-inv : (x : Model) (o o′ : Outcome) → Matched x vol ks o o′ → InvOut o → (r : Run) × (o′ ≡ ran r)
+  matched-inv : (x : Model) (o o′ : Outcome) → Matched x vol ks o o′ → InvOut m n held o → (r : Run) × (o′ ≡ ran r)
   matched-inv x o o′ (both-ran {s = s} e h) i = (s, refl)
   matched-inv x o o′ both-refused i = absurd i
 
@@ -106,5 +107,5 @@ module _ (m n : ℕ) (ks : List (List (Placed Op))) (held : ℕ → ℕ → ℕ 
   target-runs x f mem mvs le =
       let s = begin (startState m mem n) in
       matched-inv x _ _ (matching x vol ks f mvs s s (begin-matched x vol ks m mem n))
-      (inv-run (sourceSchedule x vol (sheetProgram ks) s mvs) s (inv-start mem)
+      (source-kept mem (sourceSchedule x vol (sheetProgram ks) s mvs)
       (source-legal x vol (sheetProgram ks) m s mvs le))

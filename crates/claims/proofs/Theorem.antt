@@ -8,6 +8,7 @@ use Rattle.claims.specs.Claims.{Claims}
 use Rattle.claims.proofs.Demand2.{records, demand2, placement, codes, whole, bytes}
 use Rattle.claims.proofs.Demand3.{demand3, runs, bounds}
 use Rattle.claims.proofs.Over.{over}
+use Rattle.claims.proofs.Progress.{progress}
 
 pub claims : (s : List ℕ) (k : Program) → verdict s ≡ accepted k → Claims s k
 claims s k e = record {
@@ -19,6 +20,7 @@ claims s k e = record {
   bytes = bytes s k e;
   demand3 = demand3 s k e;
   over = over s k e;
+  progress = progress s k e;
   runs = runs s k e;
   bounds = bounds s k e;
 }

@@ -1,12 +1,13 @@
 -- What is claimed of every kernel file that is accepted: that each record belongs to one lane, demands 2 and 3, that a
--- finished run is over, that number 11 is never met, and the bounds of sheets and states. The last record, `Claims`,
--- has all of it, and proofs/Theorem.antt proves it. A line `name: meaning` tells what a name of another file means.
+-- finished run is over and one that is not finished has a permitted move, that number 11 is never met, and the bounds
+-- of sheets and states. The last record, `Claims`, has all of it, and proofs/Theorem.antt proves it. A line
+-- `name: meaning` tells what a name of another file means.
 use mathlib.Core.Path.{_≡_}
 use mathlib.Core.Bool.{Bool, true, false, _&&_}
 use mathlib.Core.List.{List, [], _∷_, _++_, map}
 use mathlib.Core.Logic.{_≢_, _⊎_, _↔_}
 use mathlib.Core.Option.{none, some}
-use Prim.Native.Nat.{ℕ, _≤_, _<_}
+use Prim.Native.Nat.{ℕ, suc, _≤_, _<_}
 use lib.ListN.{length, getD, getElem?}
 use Rattle.file_format.specs.declared.accepted.Op.{Op}
 use Rattle.file_format.specs.Fields.{recordCount}
@@ -31,7 +32,7 @@ use Rattle.machine_spec.specs.declared.Machine.{Machine}
 use Rattle.machine_spec.specs.declared.Machine.the-variants.{Source, Target}
 use Rattle.machine_spec.specs.declared.Model.{Model}
 use Rattle.machine_spec.specs.declared.Model.the-variants.{Pso}
-use Rattle.machine_spec.specs.Schedule.{Move, limit, legal}
+use Rattle.machine_spec.specs.Schedule.{Move, move, limit, legal}
 use Rattle.machine_spec.specs.State.{begin}
 use Rattle.machine_spec.specs.Run.{Answer, startOf, programFor, runFile, shown, countsAs}
 use Rattle.machine_spec.specs.Shape.{Shaped, Within, MarksBehind, Unmarked}
@@ -197,6 +198,22 @@ abbrev pub Over : List ℕ → Program → Type 0
 Over s k = (m : Machine) (mvs more : List Move) → legal (length (k .lanes)) (limit m) more ≡ true
     → runFile m s mvs .finished ≡ true → shown (runFile m s (mvs ++ more)) ≡ shown (runFile m s mvs)
 
+-- ## progress
+
+-- `.done` of an answer: how many moves were done; a move that is not permitted is not one of them
+-- move t c: the move of lane t with choice c
+
+-- after the schedule mvs the move mv is permitted: behind them it is done
+abbrev pub Permitted : Machine → List ℕ → List Move → Move → Type 0
+Permitted m s mvs mv = runFile m s (mvs ++ (mv ∷ [])) .done ≡ suc (runFile m s mvs .done)
+
+-- after every schedule that is not refused with 10 the run is finished, or a lane below T has a permitted move, at
+-- choice 0 or 1
+abbrev pub Progress : List ℕ → Program → Type 0
+Progress s k = (m : Machine) (mvs : List Move) → legal (length (k .lanes)) (limit m) mvs ≡ true
+    → (runFile m s mvs .finished ≡ true)
+    ⊎ ((t : ℕ) × (c : ℕ) × (t < length (k .lanes)) × (c ≤ 1) × Permitted m s mvs (move t c))
+
 -- ## number 11
 
 -- a schedule that is not refused with 10 runs to its end: no run meets an UNLOCK whose lock its lane does not hold
@@ -254,5 +271,6 @@ pub record Claims (s : List ℕ) (k : Program) : Type 0 where
   pub bytes : Fitting (λ l buffer. (i : ℕ) → i < length (sheetBytes l k) → getD (lowered l s buffer) i 0 < 256) k
   pub demand3 : (m : Model) → Demand3 m s k
   pub over : Over s k
+  pub progress : Progress s k
   pub runs : Runs s k
   pub bounds : Bounds s k

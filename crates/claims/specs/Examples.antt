@@ -118,7 +118,7 @@ halted-holds :
     ≡ true ∷ true ∷ false ∷ false ∷ false ∷ false ∷ false ∷ false ∷ false ∷ false ∷ []
 halted-holds = refl
 
--- two lanes that take two locks in opposite order
+-- two lanes that take two locks in opposite order, as no accepted kernel does
 abbrev crossed : List (List Instr)
 crossed = (op (Lock 0) ∷ op (Lock 1) ∷ []) ∷ (op (Lock 1) ∷ op (Lock 0) ∷ []) ∷ []
 

@@ -8,6 +8,7 @@ use Rattle.file_format.specs.Linkage.{chain, walkOf, badLinkage, linkageFrom, c
 use Rattle.file_format.specs.Targets.{member, badTarget, unreachableTarget, position}
 use Rattle.file_format.specs.Accepted.{opOf, opsFrom}
 use Rattle.file_format.specs.Held.{heldFrom, same, conflictBelow, faultAt, faultPosition, recordAt, lockFault}
+use Rattle.file_format.specs.Rising.{allBelow, descentAt, descentPosition, lockOrder}
 use Rattle.file_verdict.specs.Verdict.{fieldsThen, structureThen, refusalOf}
 use Rattle.barrier_placement.specs.Place.{stands, due, dueAfter}
 use Rattle.sheet_format.specs.Bytes.{sheetBytes}
@@ -27,7 +28,7 @@ pub examples : Each table
 unfolding table refusalOf structureThen fieldsThen headerRule headRule badRecord recordRule limitA limitB limitConstant
     limitTarget lowest firstOf badLinkage linkageFrom chain member walkOf chainTooLong badTarget unreachableTarget
     lockFault
-    position
+    lockOrder allBelow descentAt descentPosition position
     opOf opsFrom recordAt faultPosition faultAt conflictBelow heldFrom same stands due dueAfter sheetBytes readSheet
     inTurn entriesBytes stateLane headBytes recordOf
     digits decimal instrText lineOf firstLine onesIn ones laneLines sheetLines listing
@@ -38,6 +39,7 @@ examples =
     ▸ refl ▸ refl ▸ refl ▸ refl ▸ refl ▸ refl ▸ refl ▸ refl ▸ refl
     ▸ refl ▸ refl ▸ refl ▸ refl ▸ refl
     ▸ refl ▸ refl ▸ refl ▸ refl ▸ refl ▸ refl ▸ never-on-pso ▸ refl ▸ refl
+    ▸ refl ▸ refl ▸ refl ▸ refl
     ▸ refl ▸ refl ▸ refl ▸ refl ▸ refl ▸ refl ▸ refl ▸ refl ▸ refl
     ▸ refl ▸ refl ▸ refl ▸ refl ▸ refl ▸ refl ▸ refl
     ▸ end

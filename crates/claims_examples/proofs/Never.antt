@@ -13,6 +13,7 @@ use Rattle.file_format.specs.Linkage.{chain, walkOf, badLinkage, linkageFrom, c
 use Rattle.file_format.specs.Targets.{member, badTarget, unreachableTarget, position}
 use Rattle.file_format.specs.Accepted.{Program, opOf, opsFrom}
 use Rattle.file_format.specs.Held.{heldFrom, same, conflictBelow, faultAt, faultPosition, recordAt, lockFault}
+use Rattle.file_format.specs.Rising.{allBelow, descentAt, descentPosition, lockOrder}
 use Rattle.file_verdict.specs.Verdict.{accepted, verdict, fieldsThen, structureThen, refusalOf}
 use Rattle.barrier_placement.specs.declared.cookbook.Barrier.the-variants.{SL}
 use Rattle.barrier_placement.specs.Place.{stands, due, dueAfter}
@@ -52,7 +53,7 @@ stands-for : verdict (storeBuffering 3) ≡ accepted kernel
 unfolding refusalOf structureThen fieldsThen headerRule headRule badRecord recordRule limitA limitB limitConstant
     limitTarget lowest firstOf badLinkage linkageFrom chain member walkOf chainTooLong badTarget unreachableTarget
     lockFault
-    position
+    lockOrder allBelow descentAt descentPosition position
     opOf opsFrom recordAt faultPosition faultAt conflictBelow heldFrom same
 stands-for = refl
 

@@ -72,6 +72,14 @@ LOCK = rec 5 0 0
 abbrev pub UNLOCK : Rec
 UNLOCK = rec 6 0 0
 
+-- locks a, then b, released in the other order
+abbrev pub nested : ℕ → ℕ → List Rec
+nested a b = rec 5 0 a ∷ rec 5 0 b ∷ rec 6 0 b ∷ rec 6 0 a ∷ []
+
+-- two lanes over two locks
+abbrev pub locking : List Rec → List Rec → List ℕ
+locking = double 1 2 0
+
 -- a SKIP to record t
 abbrev pub skipTo : ℕ → Rec
 skipTo t = record { code = 7; a = 0; b = 0; constant = 0; target = t }

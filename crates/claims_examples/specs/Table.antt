@@ -20,7 +20,7 @@ use Rattle.machine_spec.specs.Schedule.{Move, move}
 use Rattle.machine_spec.specs.Run.{Answer, runBy}
 use Rattle.machine_record.specs.Record.{stateBytes}
 use Rattle.claims_examples.specs.Kernels.{rec, recBytes, fileHeader, storeBuffering, lane, skipTo, sets}
-use Rattle.claims_examples.specs.Kernels.{PL, PS, VL, VS, LOCK, UNLOCK}
+use Rattle.claims_examples.specs.Kernels.{PL, PS, VL, VS, LOCK, UNLOCK, nested, locking}
 use Rattle.claims_examples.specs.FourLanes.{fourLanes, fourLanes1, fourLanes2, fourLanesText, fourLanesMoves}
 use Rattle.claims_examples.specs.FourLanes.{fourLanesSource, fourLanesTso}
 use Rattle.claims_examples.specs.FourLanesPso.{fourLanes3, fourLanesPso}
@@ -197,6 +197,12 @@ table =
     ∷ never (Target Pso) (storeBuffering 3)
     ∷ ends (Target Pso) (storeBuffering 3) (straight 0 ++ straight 1) true (0 ∷ 1 ∷ [])
     ∷ ends (Target Pso) (storeBuffering 1) race true (0 ∷ 0 ∷ [])
+    -- of paper 02, job 6: locks 0 then 1 in both lanes pass; 1 then 0 gives 12 at the second LOCK, before 9; a lock
+    -- fault in lane 1 comes before the order in lane 0
+    ∷ fills Level2 (locking (nested 0 1) (nested 0 1)) 80
+    ∷ refused-by Level2 (locking (nested 0 1) (nested 1 0)) 79 12 6
+    ∷ refused-by Level1 (locking (nested 1 0) (nested 1 0)) 200 12 2
+    ∷ refused-by Level3 (locking (nested 1 0) (UNLOCK ∷ [])) 200 8 5
     -- no records: 16-byte sheet
     ∷ fills Level1 (lane []) 16
     ∷ fills Level2 (lane []) 16

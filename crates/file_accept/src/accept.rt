@@ -19,7 +19,7 @@ use file_chains::targets::too_long;
 use file_fields::header::bad_length;
 use file_fields::header::header_rule;
 use file_fields::rules::bad_record;
-use file_locks::lock_fault;
+use file_locks::lock_refusal;
 use file_rows::whole::write_chains;
 use file_verdict::number::number_of;
 use file_verdict::refusal::Refusal;
@@ -44,8 +44,8 @@ pub fn field_refusal(file: &[u8]) -> Refusal
     Refusal::Accepted
 }
 
-// The refusal of checks 5 to 8, on a file that checks 1 to 4 pass. Its chains are written, and the records stand in
-// `order` lane after lane, once 5 to 7 have passed. What it leaves in `place` is open.
+// The refusal of checks 5 to 8 and 12, on a file that checks 1 to 4 pass. Its chains are written, and the records
+// stand in `order` lane after lane, once 5 to 7 have passed. What it leaves in `place` is open.
 pub fn linked_refusal(file: &[u8], rows: &mut [u8], order: &mut [u16], place: &mut [u16]) -> Refusal
     requires fields { ⌜ Fielded (now file) ⌝ }
     requires room { ⌜ 16 + 8 * recordCount (now file) ≤ length (now rows) ⌝ }
@@ -75,14 +75,10 @@ pub fn linked_refusal(file: &[u8], rows: &mut [u8], order: &mut [u16], place: &m
         return Refusal::BadTarget(target);
     }
     write_chains(rows, file, order, place, &ends);
-    let fault = lock_fault(file, rows, order, &ends);
-    if fault != 0 {
-        return Refusal::LockFault(fault);
-    }
-    Refusal::Accepted
+    lock_refusal(file, rows, order, &ends)
 }
 
-// The refusal, checks 1 to 8 in the order of the table. The chains of an accepted file stand at the front of
+// The refusal, checks 1 to 8 and 12 in the order of the table. The chains of an accepted file stand at the front of
 // `rows`, which a refusal leaves open.
 pub fn accept(file: &[u8], rows: &mut [u8]) -> Refusal
     requires room { ⌜ (Fielded (now file) → 16 + 8 * recordCount (now file) ≤ length (now rows)) ⌝ }

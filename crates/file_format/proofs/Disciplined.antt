@@ -1,40 +1,48 @@
--- The held-set discipline of a lane at which the rule is nowhere broken, said of its operations.
+-- The held-set discipline of a lane at which the rule is nowhere broken, and that it takes its locks upward where no
+-- LOCK descends, said of its operations.
 use Prim.Native.Nat.{ℕ, zero, suc, _+_, _-_, _≤_, _<_, min}
 use mathlib.Core.Path.{_≡_, refl, sym, ap, _∙_}
 use mathlib.Core.List.{List, [], _∷_}
-use mathlib.Core.Bool.{Bool, true, false, cond, true≢false}
+use mathlib.Core.Bool.{Bool, true, false, cond, true≢false, false≢true}
 use mathlib.Core.Option.{none, some}
-use lib.ListN.{getD, getElem?, length}
+use lib.Dec.{ltb}
+use lib.ListN.{getD, getElem?, length, take, List·getD-eq-default}
 use native.Mathlib.Omega.{arith}
 use native.Mathlib.Decide.{decLe}
-use borrow.Author.Tests.{eq-eqb, not-false}
+use borrow.Author.Tests.{eq-eqb, ltb-true, not-false}
 use Rattle.laws.proofs.Lists.{some-at, at-beyond}
 use Rattle.file_format.specs.declared.accepted.Op.{Op}
 use Rattle.file_format.specs.declared.accepted.Op.the-variants.{Set, Add, Load, Store, Lock, Unlock, Skip}
 use Rattle.file_format.specs.Search.{lowest}
 use Rattle.file_format.specs.Held.{noLocks, same, held, heldFrom, jumpFrom, conflictsBy, conflictBelow}
 use Rattle.file_format.specs.Held.{conflict, misuse}
-use Rattle.file_format.specs.Held.{faultAt}
-use Rattle.file_format.specs.Held.{faultPosition, recordAt, laneFault}
+use Rattle.file_format.specs.Held.{faultAt, faultPosition, recordAt, laneFault}
+use Rattle.file_format.specs.Rising.{allBelow, descentAt, descentPosition, laneDescent}
 use Rattle.file_format.specs.Lawful.{Bounded, Keeps}
-use Rattle.file_format.proofs.Laws.Search.{nothing-found}
+use Rattle.file_format.proofs.Laws.Search.{nothing-found, all-at}
+use Rattle.file_format.proofs.Laws.Held.{held-length}
 
--- a lane whose records are none of them 0 names a record wherever its rule breaks
-unbroken : (rs : List ℕ) (ops : List Op) → length rs ≡ length ops → ((p : ℕ) → p < length rs → 1 ≤ getD rs p 0)
-    → laneFault rs ops ≡ 0 → faultPosition ops ≡ 0
-unfolding recordAt faultPosition lowest faultAt conflictBelow heldFrom same
-unbroken [] [] len nonzero e = refl
-unbroken [] (o ∷ ops) len nonzero e = absurd (omega arith)
-unbroken (r ∷ rs) ops len nonzero e = go (decLe 1 (faultPosition ops))
+-- a place of a lane whose records are none of them 0 names one of them, unless it is 0
+named-none : (place : List Op → ℕ) → place [] ≡ 0 → (rs : List ℕ) (ops : List Op) → length rs ≡ length ops
+    → ((p : ℕ) → p < length rs → 1 ≤ getD rs p 0) → recordAt rs (place ops) ≡ 0 → place ops ≡ 0
+unfolding recordAt
+named-none place first [] [] len nonzero e = first
+named-none place first [] (o ∷ ops) len nonzero e = absurd (omega arith)
+named-none place first (r ∷ rs) ops len nonzero e = go (decLe 1 (place ops))
   where
     inside : (i : ℕ) → 1 ≤ i → i ≤ length (r ∷ rs) → 1 ≤ getD (0 ∷ r ∷ rs) i 0
     inside zero lo hi = absurd (omega arith)
     inside (suc i) lo hi = nonzero i (omega arith)
 
-    go : Dec (1 ≤ faultPosition ops) → faultPosition ops ≡ 0
+    go : Dec (1 ≤ place ops) → place ops ≡ 0
     go (no l) = omega arith
     go (yes l) =
-        absurd (omega (arith, e, inside (min (faultPosition ops) (length (r ∷ rs))) (omega arith) (omega arith)))
+        absurd (omega (arith, e, inside (min (place ops) (length (r ∷ rs))) (omega arith) (omega arith)))
+
+pub unbroken : (rs : List ℕ) (ops : List Op) → length rs ≡ length ops
+    → ((p : ℕ) → p < length rs → 1 ≤ getD rs p 0) → laneFault rs ops ≡ 0 → faultPosition ops ≡ 0
+unfolding faultPosition lowest faultAt conflictBelow heldFrom same
+unbroken = named-none faultPosition refl
 
 module _ (rs : List ℕ) (ops : List Op) (len : length rs ≡ length ops)
     (nonzero : (p : ℕ) → p < length rs → 1 ≤ getD rs p 0)
@@ -101,3 +109,39 @@ module _ (rs : List ℕ) (ops : List Op) (len : length rs ≡ length ops)
 
   pub released : same (held ops (length ops)) noLocks ≡ true
   released = not-false _ (rw (at-beyond ops (length ops) (omega arith)) at (split (length ops) (omega arith) .1))
+
+-- each lock of a set all of whose locks are below b
+below-at : (h : List Bool) (b : ℕ) → length h ≡ 4 → allBelow h b ≡ true → (l : ℕ) → getD h l false ≡ true → l < b
+unfolding allBelow
+below-at h b len e l has = go l has (ltb-true l b)
+  where
+    tests : List Bool
+    tests =
+        cond (getD h 0 false) (ltb 0 b) true ∷ cond (getD h 1 false) (ltb 1 b) true
+        ∷ cond (getD h 2 false) (ltb 2 b) true ∷ cond (getD h 3 false) (ltb 3 b) true
+        ∷ []
+
+    go : (l : ℕ) → getD h l false ≡ true → (ltb l b ≡ true → l < b) → l < b
+    go zero has is = is (rw has at (all-at tests 0 e))
+    go (suc zero) has is = is (rw has at (all-at tests 1 e))
+    go (suc (suc zero)) has is = is (rw has at (all-at tests 2 e))
+    go (suc (suc (suc zero))) has is = is (rw has at (all-at tests 3 e))
+    go (suc (suc (suc (suc l)))) has is =
+        absurd (false≢true (sym (List·getD-eq-default h false {n = suc (suc (suc (suc l)))} (omega arith)) ∙ has))
+
+-- where no LOCK descends, each finds the locks of its held set below its own
+module _ (rs : List ℕ) (ops : List Op) (len : length rs ≡ length ops)
+    (nonzero : (p : ℕ) → p < length rs → 1 ≤ getD rs p 0) (fine : laneDescent rs ops ≡ 0) where
+  undescended : descentPosition ops ≡ 0
+  unfolding descentPosition lowest
+  undescended = named-none descentPosition refl rs ops len nonzero fine
+
+  pub rising : (p b l : ℕ) → getElem? ops p ≡ some (Lock b) → getD (held ops p) l false ≡ true → l < b
+  unfolding descentPosition descentAt
+  rising p b l e has =
+      let at = some-at ops p (Lock b) (Set 0 0) e in
+      let back : p + 1 - 1 ≡ p = omega arith in
+      let up = rw (back, e) at
+      (nothing-found (λ i. descentAt ops (i - 1)) 1 (length ops) (p + 1) (omega arith) undescended (omega arith)
+      (omega (arith, at .0))) in
+      below-at (held ops p) b (held-length noLocks (take p ops)) (not-false _ up) l has

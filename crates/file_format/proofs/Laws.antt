@@ -5,4 +5,5 @@ pub mod Linkage
 pub mod Targets
 pub mod Accepted
 pub mod Lanes
+pub mod Held
 pub mod Stored

@@ -37,6 +37,8 @@ pub record LawfulLane (ls ks : ℕ) (ops : List Op) : Type 0 where
   pub bounded : (p : ℕ) (o : Op) → getElem? ops p ≡ some o → Bounded ls ks (length ops) p o
   pub disciplined : (p : ℕ) (o : Op) → getElem? ops p ≡ some o → Keeps ops p o
   pub released : same (held ops (length ops)) noLocks ≡ true
+  -- a LOCK finds each lock of the held set below its own
+  pub rising : (p b l : ℕ) → getElem? ops p ≡ some (Lock b) → getD (held ops p) l false ≡ true → l < b
 
 pub record Lawful (k : Program) : Type 0 where
   pub some-lanes : 1 ≤ length (k .lanes)

@@ -1,10 +1,10 @@
 -- What the held-set check of a lane computes on its way: sets of locks, and the ways to a position, as numbers.
 use Prim.Native.Nat.{ℕ, _+_, _-_, _*_, _/_, _%_, _^_}
 use mathlib.Core.List.{List, [], _∷_}
-use mathlib.Core.Bool.{Bool, not, cond, _||_}
+use mathlib.Core.Bool.{Bool, not, cond, _&&_, _||_}
 use mathlib.Core.Option.{Option, none, some}
 use lib.Bits.{bitAnd, bitXor}
-use lib.Dec.{eqb}
+use lib.Dec.{eqb, leb}
 use mir.Val.{boolByte}
 use Rattle.file_format.specs.declared.accepted.Op.{Op}
 use Rattle.file_format.specs.Held.{jumpFrom}
@@ -52,6 +52,15 @@ barred w code = cond (eqb code 5) w (w / 2 ^ 4)
 -- the ways differ, or the operation breaks the rule
 abbrev pub wrongAt : ℕ → ℕ → ℕ → Bool
 wrongAt w code bit = differ w || meets (barred w code) bit
+
+-- the operation takes the lock of `bit`, and the set on the ways has a lock that is not below it: as numbers, a set has
+-- a lock of number b or more exactly when it is at least 2^b
+abbrev pub descendsAt : ℕ → ℕ → ℕ → Bool
+descendsAt w code bit = eqb code 5 && leb bit (w % 16)
+
+-- the first of two that is not 0
+abbrev pub first : ℕ → ℕ → ℕ
+first a b = cond (eqb a 0) b a
 
 -- the ways after an operation that takes or frees the lock of `bit`: its two bits change places
 abbrev pub afterRow : ℕ → ℕ → ℕ

@@ -1,8 +1,10 @@
-// The held-set rule of the lanes (refusal 8), in one pass over each lane's rows. A set of locks is a number below 16,
-// bit l for lock l. The ways to a position are a number of eight bits: bit l is up where some way holds lock l, bit
-// 4 + l where some way does not; ways are joined by `|`, and differ where a lock has both bits.
+// The held-set rule of the lanes (refusal 8) and the order in which they take locks (12), in one pass over each lane's
+// rows. A set of locks is a number below 16, bit l for lock l. The ways to a position are a number of eight bits: bit l
+// is up where some way holds lock l, bit 4 + l where some way does not; ways are joined by `|`, and differ where a lock
+// has both bits.
 ghost use mathlib.Core.Path.{_≡_};
-ghost use mathlib.Core.List.{List};
+ghost use mathlib.Core.List.{List, _∷_};
+ghost use mathlib.Core.Bool.{cond};
 ghost use Prim.Native.Nat.{ℕ, _+_, _-_, _*_, _<_, _≤_};
 ghost use lib.Bits.{bitOr};
 ghost use lib.ListN.{length, set, getD, take, drop};
@@ -10,14 +12,22 @@ ghost use Rattle.file_format.specs.declared.accepted.Op.{Op};
 ghost use Rattle.file_format.specs.Fields.{recordCount};
 ghost use Rattle.file_format.specs.Structured.{Structured};
 ghost use Rattle.file_format.specs.Accepted.{programOf};
-ghost use Rattle.file_format.specs.Held.{faultPosition, laneFault, lockFault};
 ghost use Rattle.file_chains.specs.Ordered.{Ordered};
+ghost use Rattle.file_verdict.specs.Verdict.{lockRefusal};
 ghost use Rattle.sheet_format.specs.declared.Level.the-variants.{Level0};
 ghost use Rattle.sheet_format.specs.Bytes.{over, sheetBytes};
-ghost use Rattle.file_locks.specs.Sets.{lockBit, wrongAt, afterRow};
-ghost use Rattle.file_locks.specs.Lanes.{LaneIn};
+ghost use Rattle.file_locks.specs.Sets.{lockBit, wrongAt, descendsAt, afterRow, first};
+ghost use Rattle.file_locks.specs.Lanes.{LaneIn, PositionsOf, RecordsOf};
 use file_format::fields::wide_word;
+use file_verdict::refusal::Refusal;
 use sheet_rows::number::least;
+
+// What is found in a lane, a position counted from 1 or a record, or 0: where the held-set rule is first broken, and
+// where a LOCK first takes a lock that is not above all that are held.
+pub struct Found {
+    fault: usize,
+    descent: usize,
+}
 
 // The set of the lock that the operation of this code and operand takes or frees; no lock for other codes. The test is
 // made into a number: a jump on the kind of an operation could not be predicted.
@@ -33,6 +43,21 @@ fn wrong_at(w: u8, code: u8, bit: u8) -> bool
 {
     let barred = if code == 5 { w } else { w >> 4 };
     ((w & (w >> 4)) | (barred & bit)) != 0
+}
+
+// The position `at` of an operation that takes a lock, where the ways w to it hold one that is not below; else 0. As
+// numbers, a set has a lock of number b or more exactly when it is at least 2^b.
+fn descent_at(w: u8, code: u8, bit: u8, at: usize) -> usize
+    ensures { λ r. ⌜ r ≡ cond (descendsAt w code bit) at 0 ⌝ }
+{
+    if (code == 5) & (w % 16 >= bit) { at } else { 0 }
+}
+
+// The first of two that is not 0.
+fn first(a: usize, b: usize) -> usize
+    ensures { λ r. ⌜ r ≡ first a b ⌝ }
+{
+    if a == 0 { b } else { a }
 }
 
 // The ways w after an operation that takes or frees the lock of `bit`: its two bits change places.
@@ -53,70 +78,106 @@ fn lead(led: &mut [u8], q: u8, w: u8)
     }
 }
 
-// The first position of a lane of n rows at which the rule is broken, counted from 1, or 0. The way to the first row
-// holds no lock; w are the ways that come from the row before, led[q] those by which SKIPs lead to position q.
-fn fault_position(rows: &[u8], n: usize) -> usize
+// The positions in a lane of n rows. The way to the first row holds no lock; w are the ways that come from the row
+// before, led[q] those by which SKIPs lead to position q.
+fn find_positions(rows: &[u8], n: usize) -> Found
     requires { ⌜ (n ≤ 64) × (8 * n ≤ length (now rows)) ⌝ }
-    ensures { λ r. ⌜ ((ops : List Op) → LaneIn (now (rows .entry)) n ops → r ≡ faultPosition ops) ⌝ }
+    ensures { λ r. ⌜ ((ops : List Op) → LaneIn (now (rows .entry)) n ops → PositionsOf ops r) ⌝ }
 {
     let mut led = [0u8; 65];
     let mut w = 0xF0u8;
+    let mut descent = 0;
     let mut p = 0;
     while p < n {
         let code = rows[8 * p];
         let bit = lock_bit(code, rows[8 * p + 2]);
         let here = w | led[p];
+        let place = p + 1;
         if wrong_at(here, code, bit) {
-            return p + 1;
+            return Found {
+                fault: place,
+                descent: 0,
+            };
         }
+        descent = first(descent, descent_at(here, code, bit, place));
         w = after_row(here, bit);
         if code == 7 {
             lead(&mut led, rows[8 * p + 4], w);
         }
-        p += 1;
+        p = place;
     }
     if (w | led[n]) % 16 != 0 {
-        return n + 1;
+        let end = n + 1;
+        return Found {
+            fault: end,
+            descent: 0,
+        };
     }
-    0
+    Found {
+        fault: 0,
+        descent: descent,
+    }
 }
 
-// The record where the lane from `from` to `end` of the order breaks the rule, or 0; for the end the last one.
-fn lane_fault(rows: &[u8], order: &[u16], from: usize, end: usize) -> usize
-    requires { ⌜ (from ≤ end) × (end ≤ 256) × (end - from ≤ 64) × (16 + 8 * end ≤ length (now rows))
-        × (end ≤ length (now order)) ⌝ }
-    ensures { λ r. ⌜ ((ops : List Op) → LaneIn (drop (16 + 8 * from) (now (rows .entry))) (end - from) ops
-        → r ≡ laneFault (take (end - from) (drop from (now (order .entry)))) ops) ⌝ }
+// The record at place i, counted from 1, of the part of the order that begins at `from`; 0 at place 0.
+fn record_at(order: &[u16], from: usize, i: usize) -> usize
+    requires { ⌜ from + i ≤ length (now order) ⌝ }
+    ensures { λ r. ⌜ r ≡ getD (0 ∷ drop from (now (order .entry))) i 0 ⌝ }
 {
-    if end <= from {
-        return 0;
-    }
-    let n = end - from;
-    let i = least(fault_position(&rows[16 + 8 * from..], n), n);
     if i == 0 {
         return 0;
     }
     wide_word(order[from + i - 1])
 }
 
-// The same for the first lane of the file that has one, from its chains as rows.
-pub fn lock_fault(s: &[u8], rows: &[u8], order: &[u16], ends: &[usize; 4]) -> usize
+// The records in the lane from `from` to `end` of the order; for the end the last one.
+fn find_records(rows: &[u8], order: &[u16], from: usize, end: usize) -> Found
+    requires { ⌜ (from ≤ end) × (end ≤ 256) × (end - from ≤ 64) × (16 + 8 * end ≤ length (now rows))
+        × (end ≤ length (now order)) ⌝ }
+    ensures { λ r. ⌜ ((ops : List Op) → LaneIn (drop (16 + 8 * from) (now (rows .entry))) (end - from) ops
+        → RecordsOf (take (end - from) (drop from (now (order .entry)))) ops r) ⌝ }
+{
+    if end <= from {
+        return Found {
+            fault: 0,
+            descent: 0,
+        };
+    }
+    let n = end - from;
+    let found = find_positions(&rows[16 + 8 * from..], n);
+    let fault = record_at(order, from, least(found.fault, n));
+    let descent = record_at(order, from, least(found.descent, n));
+    Found {
+        fault: fault,
+        descent: descent,
+    }
+}
+
+// The refusal of checks 8 and 12, from the chains of the file as rows: a fault of any lane comes before the order in
+// which the first of them takes its locks.
+pub fn lock_refusal(s: &[u8], rows: &[u8], order: &[u16], ends: &[usize; 4]) -> Refusal
     requires structure { ⌜ Structured (now s) ⌝ }
     requires order { ⌜ ((place : List ℕ) × Ordered (now s) (now order) place (now ends)) ⌝ }
     requires chains { ⌜ ((own : List ℕ) × (now rows ≡ over (sheetBytes Level0 (programOf (now s))) own)
         × (16 + 8 * recordCount (now s) ≤ length own)) ⌝ }
-    ensures { λ r. ⌜ r ≡ lockFault (programOf (now (s .entry))) ⌝ }
+    ensures { λ r. ⌜ r ≡ lockRefusal (programOf (now (s .entry))) ⌝ }
 {
     let mut from = 0;
+    let mut descent = 0;
     let mut t = 0;
     while t < 4 {
         let end = ends[t];
-        let r = lane_fault(rows, order, from, end);
-        if r != 0 {
-            return r;
+        let found = find_records(rows, order, from, end);
+        let fault = found.fault;
+        if fault != 0 {
+            return Refusal::LockFault(fault);
         }
+        descent = first(descent, found.descent);
         from = end;
         t += 1;
     }
-    0
+    if descent != 0 {
+        return Refusal::LockOrder(descent);
+    }
+    Refusal::Accepted
 }

@@ -9,7 +9,7 @@ use Rattle.file_verdict.specs.declared.refusal.Refusal.the-variants.{Acc
 use Rattle.file_verdict.specs.declared.refusal.Refusal.the-variants.{BadLength}
 use Rattle.file_verdict.specs.declared.refusal.Refusal.the-variants.{BadRecord, BadLinkage, ChainTooLong}
 use Rattle.file_verdict.specs.declared.refusal.Refusal.the-variants.{BadTarget}
-use Rattle.file_verdict.specs.declared.refusal.Refusal.the-variants.{LockFault}
+use Rattle.file_verdict.specs.declared.refusal.Refusal.the-variants.{LockFault, LockOrder}
 use Rattle.file_format.specs.Search.{lowest, firstOf}
 use Rattle.file_format.specs.Rules.{headerRule, headRule, badRecord, recordRule}
 use Rattle.file_format.specs.Rules.{limitA, limitB, limitConstant, limitTarget}
@@ -17,6 +17,7 @@ use Rattle.file_format.specs.Linkage.{chain, walkOf, badLinkage, linkageFrom, c
 use Rattle.file_format.specs.Targets.{member, badTarget, unreachableTarget, position}
 use Rattle.file_format.specs.Accepted.{Program, opOf, opsFrom}
 use Rattle.file_format.specs.Held.{heldFrom, same, conflictBelow, faultAt, faultPosition, recordAt, lockFault}
+use Rattle.file_format.specs.Rising.{allBelow, descentAt, descentPosition, lockOrder}
 use Rattle.file_verdict.specs.Verdict.{fieldsThen, structureThen, refusalOf, numberOf, recordOf}
 use Rattle.file_verdict.specs.Verdict.{refused, accepted, verdictFrom}
 
@@ -85,6 +86,37 @@ table =
     ∷ (header 1 2 2 1 ++ entry 5 0 0 2 ++ entry 6 0 1 0, LockFault 2)
     -- the end of lane 0 comes before the records of lane 1
     ∷ (header2 1 1 2 1 2 ++ entry 5 0 0 0 ++ entry 6 0 0 0, LockFault 1)
+    -- locks 0 then 1, in either order of release; 1 then 0; 0 again, and 0 once 1 is released
+    ∷ (header 1 2 4 1 ++ entry 5 0 0 2 ++ entry 5 0 1 3 ++ entry 6 0 1 4 ++ entry 6 0 0 0, Accepted)
+    ∷ (header 1 2 4 1 ++ entry 5 0 1 2 ++ entry 5 0 0 3 ++ entry 6 0 0 4 ++ entry 6 0 1 0, LockOrder 2)
+    ∷ (header 1 2 4 1 ++ entry 5 0 1 2 ++ entry 6 0 1 3 ++ entry 5 0 0 4 ++ entry 6 0 0 0, Accepted)
+    -- one lower lock held and one higher; the LOCK is named in chain order, not the held lock and not the lowest record
+    ∷ (
+      header 1 3 6 1 ++ entry 5 0 0 2 ++ entry 5 0 2 3 ++ entry 5 0 1 4 ++ entry 6 0 1 5 ++ entry 6 0 2 6
+          ++ entry 6 0 0 0,
+      LockOrder 3,
+    )
+    ∷ (
+      header 1 3 6 3 ++ entry 5 0 0 5 ++ entry 6 0 0 0 ++ entry 5 0 2 4 ++ entry 5 0 1 1 ++ entry 6 0 1 6
+          ++ entry 6 0 2 2,
+      LockOrder 4,
+    )
+    -- behind a SKIP past LOCK and UNLOCK; in lane 1 alone, and in both lanes
+    ∷ (header 1 2 5 1 ++ entry 5 0 0 2 ++ skip 0 5 3 ++ entry 5 0 1 4 ++ entry 6 0 1 5 ++ entry 6 0 0 0, Accepted)
+    ∷ (
+      header2 1 2 5 1 2 ++ entry 1 0 0 0 ++ entry 5 0 1 3 ++ entry 5 0 0 4 ++ entry 6 0 1 5 ++ entry 6 0 0 0,
+      LockOrder 3,
+    )
+    ∷ (
+      header2 1 2 8 5 1 ++ entry 5 0 1 2 ++ entry 5 0 0 3 ++ entry 6 0 1 4 ++ entry 6 0 0 0 ++ entry 5 0 1 6
+          ++ entry 5 0 0 7 ++ entry 6 0 1 8 ++ entry 6 0 0 0,
+      LockOrder 6,
+    )
+    -- a lock fault in lane 1 comes before the order in lane 0
+    ∷ (
+      header2 1 2 5 1 5 ++ entry 5 0 1 2 ++ entry 5 0 0 3 ++ entry 6 0 1 4 ++ entry 6 0 0 0 ++ entry 6 0 0 0,
+      LockFault 5,
+    )
     -- two faults at once, of each check and the next: the order of the table decides. Rows above have 1 and 2, 3 and 4
     -- (records of no operation), and 5 and 6 (a record chained to itself)
     ∷ (5 ∷ 1 ∷ replicate 15 0, BadHeader)
@@ -99,7 +131,7 @@ examples : map (λ e. refusalOf (e .0)) table ≡ map (λ e. e .1) table
 unfolding refusalOf structureThen fieldsThen headerRule headRule badRecord recordRule limitA limitB limitConstant
     limitTarget lowest firstOf badLinkage linkageFrom chain member walkOf chainTooLong badTarget unreachableTarget
     lockFault
-    position
+    lockOrder allBelow descentAt descentPosition position
     opOf opsFrom recordAt faultPosition faultAt conflictBelow heldFrom same header header2 entry skip sets table
 examples = refl
 
@@ -107,19 +139,19 @@ examples = refl
 every : List Refusal
 every =
     Accepted ∷ TruncatedHeader ∷ BadHeader ∷ BadLength ∷ BadRecord 91 ∷ BadLinkage 92 ∷ ChainTooLong 93 ∷ BadTarget 94
-    ∷ LockFault 95 ∷ []
+    ∷ LockFault 95 ∷ LockOrder 96 ∷ []
 
-numbers-hold : map numberOf every ≡ 0 ∷ 1 ∷ 2 ∷ 3 ∷ 4 ∷ 5 ∷ 6 ∷ 7 ∷ 8 ∷ []
+numbers-hold : map numberOf every ≡ 0 ∷ 1 ∷ 2 ∷ 3 ∷ 4 ∷ 5 ∷ 6 ∷ 7 ∷ 8 ∷ 12 ∷ []
 unfolding every
 numbers-hold = refl
 
-records-hold : map recordOf every ≡ 0 ∷ 0 ∷ 0 ∷ 0 ∷ 91 ∷ 92 ∷ 93 ∷ 94 ∷ 95 ∷ []
+records-hold : map recordOf every ≡ 0 ∷ 0 ∷ 0 ∷ 0 ∷ 91 ∷ 92 ∷ 93 ∷ 94 ∷ 95 ∷ 96 ∷ []
 unfolding every
 records-hold = refl
 
 -- the verdict of a refusal, whatever the kernel
 verdicts-hold : (k : Program) → map (λ r. verdictFrom r k) every
     ≡ accepted k ∷ refused 1 0 ∷ refused 2 0 ∷ refused 3 0 ∷ refused 4 91 ∷ refused 5 92 ∷ refused 6 93 ∷ refused 7 94
-    ∷ refused 8 95 ∷ []
+    ∷ refused 8 95 ∷ refused 12 96 ∷ []
 unfolding every
 verdicts-hold k = refl

@@ -9,13 +9,14 @@ use Rattle.file_verdict.specs.declared.refusal.Refusal.the-variants.{Acc
 use Rattle.file_verdict.specs.declared.refusal.Refusal.the-variants.{BadLength}
 use Rattle.file_verdict.specs.declared.refusal.Refusal.the-variants.{BadRecord, BadLinkage, ChainTooLong}
 use Rattle.file_verdict.specs.declared.refusal.Refusal.the-variants.{BadTarget}
-use Rattle.file_verdict.specs.declared.refusal.Refusal.the-variants.{LockFault}
+use Rattle.file_verdict.specs.declared.refusal.Refusal.the-variants.{LockFault, LockOrder}
 use Rattle.file_format.specs.Fields.{recordCount}
 use Rattle.file_format.specs.Rules.{headerRule, badRecord}
 use Rattle.file_format.specs.Linkage.{badLinkage, chainTooLong}
 use Rattle.file_format.specs.Targets.{badTarget}
 use Rattle.file_format.specs.Accepted.{Program, programOf}
 use Rattle.file_format.specs.Held.{lockFault}
+use Rattle.file_format.specs.Rising.{lockOrder}
 
 -- refused with the record, unless it is 0
 abbrev pub unless : ℕ → (ℕ → Refusal) → Refusal → Refusal
@@ -41,9 +42,15 @@ linkageThen s rest =
 unfoldable pub structureThen : List ℕ → Refusal → Refusal
 structureThen s rest = fieldsThen s (linkageThen s rest)
 
--- check 8, on lanes whose structure is sound
+-- checks 8 and 12, on lanes whose structure is sound
+abbrev pub lockRefusal : Program → Refusal
+lockRefusal k =
+    unless (lockFault k) LockFault
+    (unless (lockOrder k) LockOrder
+    Accepted)
+
 unfoldable pub refusalOf : List ℕ → Refusal
-refusalOf s = structureThen s (unless (lockFault (programOf s)) LockFault Accepted)
+refusalOf s = structureThen s (lockRefusal (programOf s))
 
 -- the paper's number of a refusal, and the record that it names
 abbrev pub numberOf : Refusal → ℕ
@@ -56,6 +63,7 @@ numberOf (BadLinkage r) = 5
 numberOf (ChainTooLong r) = 6
 numberOf (BadTarget r) = 7
 numberOf (LockFault r) = 8
+numberOf (LockOrder r) = 12
 
 abbrev pub recordOf : Refusal → ℕ
 recordOf Accepted = 0
@@ -67,6 +75,7 @@ recordOf (BadLinkage r) = r
 recordOf (ChainTooLong r) = r
 recordOf (BadTarget r) = r
 recordOf (LockFault r) = r
+recordOf (LockOrder r) = r
 
 pub data Verdict : Type 0 where
   refused : ℕ → ℕ → Verdict

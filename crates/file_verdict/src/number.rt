@@ -17,6 +17,7 @@ pub fn number_of(refusal: Refusal) -> usize
         Refusal::ChainTooLong(_) => 6,
         Refusal::BadTarget(_) => 7,
         Refusal::LockFault(_) => 8,
+        Refusal::LockOrder(_) => 12,
     }
 }
 
@@ -34,5 +35,6 @@ pub fn record_of(refusal: Refusal) -> usize
         Refusal::ChainTooLong(r) => r,
         Refusal::BadTarget(r) => r,
         Refusal::LockFault(r) => r,
+        Refusal::LockOrder(r) => r,
     }
 }

@@ -9,4 +9,5 @@ pub enum Refusal {
     ChainTooLong(usize),
     BadTarget(usize),
     LockFault(usize),
+    LockOrder(usize),
 }

@@ -11,8 +11,10 @@ use Rattle.file_format.specs.declared.accepted.Op.{Op}
 use Rattle.file_format.specs.declared.accepted.Op.the-variants.{Set}
 use Rattle.file_verdict.specs.declared.refusal.Refusal.the-variants.{Accepted}
 use Rattle.file_format.specs.Fields.{laneCount, locations, locks, recordCount, head, heads}
+use Rattle.file_format.specs.Search.{firstOf}
 use Rattle.file_format.specs.Accepted.{Program, recordsAt, opsAt, programOf}
 use Rattle.file_format.specs.Held.{heldFrom, same, laneFault, lockFault}
+use Rattle.file_format.specs.Rising.{laneDescent, lockOrder}
 use Rattle.file_verdict.specs.Verdict.{accepted, verdict, refusalOf}
 use Rattle.file_format.specs.Lawful.{Bounded, LawfulLane, Lawful}
 use Rattle.file_format.proofs.Laws.Search.{nothing-named}
@@ -25,7 +27,7 @@ use Rattle.file_format.proofs.Laws.Stored.{opsFrom-length, lane-count, lanes-pa
 use Rattle.file_format.specs.Structured.{Fielded}
 use Rattle.file_verdict.proofs.Laws.Verdict.{sound, accepted-as}
 use Rattle.file_format.proofs.Bounded.{chain-range, lane-bounded}
-use Rattle.file_format.proofs.Disciplined.{keeps, released}
+use Rattle.file_format.proofs.Disciplined.{keeps, released, rising}
 
 no-lane : (ls ks : ℕ) → LawfulLane ls ks []
 unfolding heldFrom same
@@ -34,6 +36,7 @@ no-lane ls ks = record {
   bounded = λ p o e. let z : _≡_ {A = ℕ} 0 1 = cc in absurd (omega arith);
   disciplined = λ p o e. let z : _≡_ {A = ℕ} 0 1 = cc in absurd (omega arith);
   released = refl;
+  rising = λ p b l e has. let z : _≡_ {A = ℕ} 0 1 = cc in absurd (omega arith);
 }
 
 module _ (s : List ℕ) (e : refusalOf s ≡ Accepted) where
@@ -42,14 +45,15 @@ module _ (s : List ℕ) (e : refusalOf s ≡ Accepted) where
 
   -- the lane whose first record is h, where it breaks no rule
   lane-lawful : (h : ℕ) → h ≤ recordCount s → laneFault (recordsAt s h) (opsAt s h) ≡ 0
-      → LawfulLane (locations s) (locks s) (opsAt s h)
-  lane-lawful h hr fine = record {
+      → laneDescent (recordsAt s h) (opsAt s h) ≡ 0 → LawfulLane (locations s) (locks s) (opsAt s h)
+  lane-lawful h hr fine upward = record {
     short = omega (arith, len, chain-length s 64 h);
     bounded = bounds;
     disciplined =
         λ p o g. keeps (recordsAt s h) (opsAt s h) (sym len) nonzero fine (locations s) (locks s) p o g
         (bounds p o g);
     released = released (recordsAt s h) (opsAt s h) (sym len) nonzero fine;
+    rising = rising (recordsAt s h) (opsAt s h) (sym len) nonzero upward;
   }
     where
       len : length (opsAt s h) ≡ length (recordsAt s h)
@@ -74,18 +78,23 @@ module _ (s : List ℕ) (e : refusalOf s ≡ Accepted) where
       (omega (arith, length-map (take (laneCount s) (heads s)) f, length-take (laneCount s) (heads s)))
 
   lane : (t : ℕ) → LawfulLane (locations s) (locks s) (getD (programOf s .lanes) t [])
-  unfolding lockFault
+  unfolding lockFault lockOrder
   lane t = go (decLt t 4)
     where
+      -- a check that named no record of any lane named none of lane t
+      passed : (f : List ℕ → List Op → ℕ)
+          → firstOf (λ t. f (getD (programOf s .records) t []) (getD (programOf s .lanes) t [])) 0 4 ≡ 0 → t < 4
+          → f (recordsAt s (head s t)) (opsAt s (head s t)) ≡ 0
+      passed f e h =
+          rw (lane-ops s (fields .header) t h, lane-records s (fields .header) t h) at
+          (nothing-named (λ t. f (getD (programOf s .records) t []) (getD (programOf s .lanes) t [])) 0 4 t e
+          (omega arith) (omega arith))
+
       go : Dec (t < 4) → LawfulLane (locations s) (locks s) (getD (programOf s .lanes) t [])
       go (yes h) =
-          let named =
-          nothing-named (λ t. laneFault (getD (programOf s .records) t []) (getD (programOf s .lanes) t [])) 0 4 t
-          (sound s e .1) (omega arith) (omega arith) in
-          let ops-are = lane-ops s (fields .header) t h in
-          rw ops-are
-          (lane-lawful (head s t) (head-range s (fields .header) t h)
-          (rw (ops-are, lane-records s (fields .header) t h) at named))
+          rw (lane-ops s (fields .header) t h)
+          (lane-lawful (head s t) (head-range s (fields .header) t h) (passed laneFault (sound s e .1) h)
+          (passed laneDescent (sound s e .2) h))
       go (no h) = rw (past (opsAt s) t (omega arith)) (no-lane (locations s) (locks s))
 
   records-small : (t p : ℕ) → getD (getD (programOf s .records) t []) p 0 ≤ 256

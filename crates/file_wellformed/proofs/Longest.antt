@@ -11,6 +11,7 @@ use Rattle.file_format.specs.Linkage.{chain, walkOf, badLinkage, linkageFrom, c
 use Rattle.file_format.specs.Targets.{member, badTarget, unreachableTarget, position}
 use Rattle.file_format.specs.Accepted.{opOf, opsFrom}
 use Rattle.file_format.specs.Held.{heldFrom, same, conflictBelow, faultAt, faultPosition, recordAt, lockFault}
+use Rattle.file_format.specs.Rising.{allBelow, descentAt, descentPosition, lockOrder}
 use Rattle.file_verdict.specs.Verdict.{fieldsThen, structureThen, refusalOf}
 use Rattle.file_verdict.specs.Examples.{header, entry, sets}
 
@@ -25,6 +26,6 @@ longest : map (λ e. refusalOf (e .0)) table ≡ map (λ e. e .1) table
 unfolding refusalOf structureThen fieldsThen headerRule headRule badRecord recordRule limitA limitB limitConstant
     limitTarget lowest firstOf badLinkage linkageFrom chain member walkOf chainTooLong badTarget unreachableTarget
     lockFault
-    position
+    lockOrder allBelow descentAt descentPosition position
     opOf opsFrom recordAt faultPosition faultAt conflictBelow heldFrom same header entry sets table
 longest = refl

@@ -1,8 +1,9 @@
--- What a refusal names: a number up to 8, and a record of the file, or 0.
+-- What a refusal names: a number up to 12 that is not 9, and a record of the file, or 0.
 use Prim.Native.Nat.{ℕ, zero, suc, _+_, _*_, _≤_, _<_, min}
 use mathlib.Core.Path.{_≡_, refl}
 use mathlib.Core.List.{List, [], _∷_, map}
 use mathlib.Core.Bool.{Bool, true, false, not, cond}
+use mathlib.Core.Logic.{_≢_}
 use native.Mathlib.Omega.{arith}
 use native.Mathlib.Decide.{decLt}
 use borrow.Author.Tests.{eqb-true, not-false}
@@ -11,7 +12,7 @@ use lib.Dec.{ltb, eqb}
 use Rattle.file_verdict.specs.declared.refusal.Refusal.{Refusal}
 use Rattle.file_verdict.specs.declared.refusal.Refusal.the-variants.{Accepted, TruncatedHeader, BadHeader, BadLength}
 use Rattle.file_verdict.specs.declared.refusal.Refusal.the-variants.{BadRecord, BadLinkage, ChainTooLong, BadTarget}
-use Rattle.file_verdict.specs.declared.refusal.Refusal.the-variants.{LockFault}
+use Rattle.file_verdict.specs.declared.refusal.Refusal.the-variants.{LockFault, LockOrder}
 use Rattle.file_format.specs.Fields.{laneCount, recordCount, head, heads}
 use Rattle.file_format.specs.Search.{lowest, firstOf}
 use Rattle.file_format.specs.Rules.{headerRule, badRecord}
@@ -19,23 +20,26 @@ use Rattle.file_format.specs.Linkage.{chain, Walked, walkOf, walkLane, linkageF
 use Rattle.file_format.specs.Targets.{badTarget}
 use Rattle.file_format.specs.Accepted.{recordsAt, programOf}
 use Rattle.file_format.specs.Held.{recordAt, lockFault}
+use Rattle.file_format.specs.Rising.{lockOrder}
 use Rattle.file_verdict.specs.Verdict.{unless, fieldsThen, structureThen, refusalOf, numberOf, recordOf}
 use Rattle.file_format.proofs.Laws.Rules.{few-records, head-range}
 use Rattle.file_format.proofs.Bounded.{chain-range}
 
-pub number-small : (s : List ℕ) → numberOf (refusalOf s) ≤ 8
+-- 9 is of a buffer, not of a file
+pub number-small : (s : List ℕ) → (numberOf (refusalOf s) ≤ 12) × (numberOf (refusalOf s) ≢ 9)
 number-small s = go (refusalOf s)
   where
-    go : (r : Refusal) → numberOf r ≤ 8
-    go Accepted = omega arith
-    go TruncatedHeader = omega arith
-    go BadHeader = omega arith
-    go BadLength = omega arith
-    go (BadRecord r) = omega arith
-    go (BadLinkage r) = omega arith
-    go (ChainTooLong r) = omega arith
-    go (BadTarget r) = omega arith
-    go (LockFault r) = omega arith
+    go : (r : Refusal) → (numberOf r ≤ 12) × (numberOf r ≢ 9)
+    go Accepted = (omega arith, λ e. omega arith)
+    go TruncatedHeader = (omega arith, λ e. omega arith)
+    go BadHeader = (omega arith, λ e. omega arith)
+    go BadLength = (omega arith, λ e. omega arith)
+    go (BadRecord r) = (omega arith, λ e. omega arith)
+    go (BadLinkage r) = (omega arith, λ e. omega arith)
+    go (ChainTooLong r) = (omega arith, λ e. omega arith)
+    go (BadTarget r) = (omega arith, λ e. omega arith)
+    go (LockFault r) = (omega arith, λ e. omega arith)
+    go (LockOrder r) = (omega arith, λ e. omega arith)
 
 module _ (n : ℕ) where
   -- what a search among numbers up to n gives is up to n
@@ -107,10 +111,10 @@ module _ (n : ℕ) where
     lanes-small (suc k) (r ∷ hs) h zero = chain-small 64 r (h 0)
     lanes-small (suc k) (r ∷ hs) h (suc t) = lanes-small k hs (λ p. h (suc p)) t
 
-    locks-small : lockFault (programOf s) ≤ n
-    unfolding lockFault
-    locks-small =
-        first-small _ 0 4 (λ t h. at-small (getD (programOf s .records) t []) _
+    -- the first of a place in each lane
+    locks-small : (f : ℕ → ℕ) → firstOf (λ t. recordAt (getD (programOf s .records) t []) (f t)) 0 4 ≤ n
+    locks-small f =
+        first-small _ 0 4 (λ t h. at-small (getD (programOf s .records) t []) (f t)
         (lanes-small (laneCount s) (heads s) heads-small t))
 
   -- where a check names a record up to n, and what comes after it does once it passed, the refusal does
@@ -128,7 +132,7 @@ module _ (n : ℕ) where
 
   -- the checks in their order, where n is at least the count of a header that keeps its rule
   named : (s : List ℕ) → (headerRule s ≡ true → recordCount s ≤ n) → recordOf (refusalOf s) ≤ n
-  unfolding refusalOf structureThen fieldsThen badRecord badLinkage chainTooLong badTarget
+  unfolding refusalOf structureThen fieldsThen badRecord badLinkage chainTooLong badTarget lockFault lockOrder
   named s most =
       refuse-if (ltb (length s) 16) TruncatedHeader _ (omega arith) (λ _.
       refuse-if (not (headerRule s)) BadHeader _ (omega arith) (λ bad.
@@ -140,8 +144,9 @@ module _ (n : ℕ) where
       refuse-unless (chainTooLong s) ChainTooLong _
       (first-small _ 0 4 (λ t h. lane-small s few header records 65 t h 64)) (λ _.
       refuse-unless (badTarget s) BadTarget _ (lowest-small _ 0 (recordCount s) (omega arith)) (λ _.
-      refuse-unless (lockFault (programOf s)) LockFault Accepted (locks-small s few header records)
-      (λ _. omega arith))))))))
+      refuse-unless (lockFault (programOf s)) LockFault _ (locks-small s few header records _) (λ _.
+      refuse-unless (lockOrder (programOf s)) LockOrder Accepted (locks-small s few header records _)
+      (λ _. omega arith)))))))))
 
 -- the record is one of the file's, or 0
 pub record-counted : (s : List ℕ) → recordOf (refusalOf s) ≤ recordCount s

@@ -1,6 +1,6 @@
--- A kernel of one lane through each of the seven calls, and runs of one that ends with a STORE, by computation from
--- their bytes.
-use Prim.Native.Nat.{ℕ, _*_, _^_}
+-- A kernel of one lane through each of the seven calls, runs of one that ends with a STORE, and one that takes its
+-- locks downward, by computation from their bytes.
+use Prim.Native.Nat.{ℕ, _+_, _*_, _^_}
 use mathlib.Core.Path.{_≡_, refl}
 use mathlib.Core.List.{List, [], _∷_, _++_, map}
 use lib.ListN.{replicate}
@@ -11,6 +11,7 @@ use Rattle.file_format.specs.Linkage.{chain, walkOf, badLinkage, linkageFrom, c
 use Rattle.file_format.specs.Targets.{member, badTarget, unreachableTarget, position}
 use Rattle.file_format.specs.Accepted.{opOf, opsFrom}
 use Rattle.file_format.specs.Held.{heldFrom, same, conflictBelow, faultAt, faultPosition, recordAt, lockFault}
+use Rattle.file_format.specs.Rising.{allBelow, descentAt, descentPosition, lockOrder}
 use Rattle.file_verdict.specs.Verdict.{fieldsThen, structureThen, refusalOf}
 use Rattle.barrier_placement.specs.Place.{stands, due, dueAfter}
 use Rattle.sheet_format.specs.Bytes.{sheetBytes}
@@ -46,9 +47,15 @@ storing =
     ∷ 4 ∷ 2 ∷ 0 ∷ 0 ∷ 0 ∷ 0 ∷ 0 ∷ 0 ∷ 0 ∷ 0 ∷ 0 ∷ 0
     ∷ []
 
--- an output buffer of n bytes, none of them zero
-output : ℕ → List ℕ
-output n = replicate n 255
+-- one lane, one location and two locks: LOCK 1, LOCK 0, UNLOCK 0, UNLOCK 1
+downward : List ℕ
+downward =
+    1 ∷ 1 ∷ 2 ∷ 0 ∷ 0 ∷ 0 ∷ 4 ∷ 0 ∷ 1 ∷ 0 ∷ 0 ∷ 0 ∷ 0 ∷ 0 ∷ 0 ∷ 0
+    ∷ 5 ∷ 0 ∷ 1 ∷ 0 ∷ 0 ∷ 0 ∷ 0 ∷ 0 ∷ 0 ∷ 0 ∷ 2 ∷ 0
+    ∷ 5 ∷ 0 ∷ 0 ∷ 0 ∷ 0 ∷ 0 ∷ 0 ∷ 0 ∷ 0 ∷ 0 ∷ 3 ∷ 0
+    ∷ 6 ∷ 0 ∷ 0 ∷ 0 ∷ 0 ∷ 0 ∷ 0 ∷ 0 ∷ 0 ∷ 0 ∷ 4 ∷ 0
+    ∷ 6 ∷ 0 ∷ 1 ∷ 0 ∷ 0 ∷ 0 ∷ 0 ∷ 0 ∷ 0 ∷ 0 ∷ 0 ∷ 0
+    ∷ []
 
 -- what a call answers, and the buffer after it
 record Called : Type 0 where
@@ -57,6 +64,14 @@ record Called : Type 0 where
 
 abbrev called : ℕ × List ℕ → Called
 called r = record { answer = r .0; after = r .1 }
+
+-- refused with 12 at record 2, and an output buffer of three bytes as it was
+abbrev refused12 : Called
+refused12 = record { answer = 12 * 2 ^ 32 + 2; after = replicate 3 255 }
+
+-- an output buffer of n bytes, none of them zero
+output : ℕ → List ℕ
+output n = replicate n 255
 
 -- the state record of lane 0, with all other lanes zero
 abbrev laneRecord : List ℕ → List ℕ → List ℕ → List ℕ → List ℕ
@@ -176,6 +191,14 @@ calls =
     -- refused by the file: number × 2^32 + record
     ∷ (called (callLower1 (replicate 15 0) (output 3)), record { answer = 2 ^ 32; after = output 3 })
     ∷ (called (callPage (replicate 15 0) (output 3)), record { answer = 2 ^ 32; after = output 3 })
+    -- 12 from every call, before 9 and 10
+    ∷ (called (callLower1 downward (output 3)), refused12)
+    ∷ (called (callLower2 downward (output 3)), refused12)
+    ∷ (called (callLower3 downward (output 3)), refused12)
+    ∷ (called (callPage downward (output 3)), refused12)
+    ∷ (called (callRunSource downward (7 ∷ []) (output 3)), refused12)
+    ∷ (called (callRunTso downward (7 ∷ []) (output 3)), refused12)
+    ∷ (called (callRunPso downward (7 ∷ []) (output 3)), refused12)
     -- a refused file, then 9, then 10
     ∷ (called (callRunTso (replicate 15 0) (0 ∷ []) (output 3)), record { answer = 2 ^ 32; after = output 3 })
     ∷ (called (callRunTso kernel (0 ∷ []) (output 3)), record { answer = 9 * 2 ^ 32; after = output 3 })
@@ -236,8 +259,9 @@ calls-hold : map (λ (e : Called × Called). e .0) calls ≡ map (λ (e : Called
 unfolding refusalOf structureThen fieldsThen headerRule headRule badRecord recordRule limitA limitB limitConstant
     limitTarget lowest firstOf badLinkage linkageFrom chain member walkOf chainTooLong badTarget unreachableTarget
     lockFault
-    position
+    lockOrder allBelow descentAt descentPosition position
     opOf opsFrom recordAt faultPosition faultAt conflictBelow heldFrom same stands due dueAfter sheetBytes readSheet
-    movesIn inTurn entriesBytes stateLane headBytes recordOf kernel storing output calls digits decimal blankLine
-    inColumn inColumns lineIn instructionLine headingLine laneLines linesFrom pageLines pageOf pagesOf pageText
+    movesIn inTurn entriesBytes stateLane headBytes recordOf kernel storing downward output calls digits decimal
+    blankLine inColumn inColumns lineIn instructionLine headingLine laneLines linesFrom pageLines pageOf pagesOf
+    pageText
 calls-hold = refl

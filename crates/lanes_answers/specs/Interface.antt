@@ -1,5 +1,5 @@
 -- The seven calls from C: what each answers, and the output buffer after it.
-use Prim.Native.Nat.{ℕ, _+_, _*_, _^_, _≤_}
+use Prim.Native.Nat.{ℕ, _+_, _*_, _^_, _<_}
 use mathlib.Core.List.{List}
 use Rattle.file_format.specs.Accepted.{Program}
 use Rattle.file_verdict.specs.Verdict.{Verdict, verdict}
@@ -24,7 +24,7 @@ packedAnswer (Refuses n r) = packed n r
 -- an answer that fits 64 bits so
 abbrev pub Small : WriteResult → Type 0
 Small (Wrote n) = Unit {0}
-Small (Refuses n r) = (n ≤ 10) × (r ≤ 256)
+Small (Refuses n r) = (n < 2 ^ 32) × (r < 2 ^ 32)
 
 -- what is made of an accepted kernel, written into the output buffer
 abbrev pub writeCallBy : (Program → List ℕ) → Verdict → List ℕ → ℕ × List ℕ

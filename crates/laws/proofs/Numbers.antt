@@ -42,6 +42,16 @@ below-more P n h e i l = go (decLt i n)
     go (yes below) = h i below
     go (no above) = let here : i ≡ n = omega arith in rw here e
 
+-- some number below n gives an A, or each has P
+pub each-or : {A : Type 0} (P : ℕ → Type 0) (n : ℕ) → ((i : ℕ) → i < n → A ⊎ P i) → A ⊎ ((i : ℕ) → i < n → P i)
+each-or P zero f = inr (λ i l. absurd (omega arith))
+each-or {A = A} P (suc n) f = go (each-or P n (λ i l. f i (omega arith))) (f n (omega arith))
+  where
+    go : A ⊎ ((i : ℕ) → i < n → P i) → A ⊎ P n → A ⊎ ((i : ℕ) → i < suc n → P i)
+    go (inl a) y = inl a
+    go (inr h) (inl a) = inl a
+    go (inr h) (inr p) = inr (λ i l. below-more P n h p i (omega arith))
+
 -- the values of f below n, the last first; two functions with the same values agree below n
 abbrev pub values : {A : Type 0} → (ℕ → A) → ℕ → List A
 values f zero = []

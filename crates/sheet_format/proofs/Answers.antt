@@ -3,6 +3,7 @@ use Prim.Native.Nat.{ℕ, _+_, _*_, _≤_}
 use mathlib.Core.Path.{_≡_, refl, sym, ap, ap₂, _∙_, subst}
 use mathlib.Core.Bool.{Bool, true, false, cond}
 use mathlib.Core.List.{List}
+use mathlib.Core.Logic.{_≢_}
 use native.Mathlib.Omega.{arith}
 use lib.Dec.{eqb, ltb}
 use lib.ListN.{length}
@@ -126,35 +127,38 @@ abbrev recordBy : Verdict → ℕ
 recordBy (refused n r) = r
 recordBy (accepted k) = 0
 
-refused-small : (s : List ℕ) → (numberBy (verdict s) ≤ 8) × (recordBy (verdict s) ≤ 256)
+-- of the number and the record of a verdict
+abbrev Small : Verdict → Type 0
+Small v = (numberBy v ≤ 12) × (numberBy v ≢ 9) × (recordBy v ≤ 256)
+
+refused-small : (s : List ℕ) → Small (verdict s)
 refused-small s = go (eqb (numberOf (refusalOf s)) 0)
   where
     by : Bool → Verdict
     by b = cond b (accepted (programOf s)) (refused (numberOf (refusalOf s)) (recordOf (refusalOf s)))
 
-    go : (b : Bool) → (numberBy (by b) ≤ 8) × (recordBy (by b) ≤ 256)
-    go true = (omega arith, omega arith)
-    go false = (number-small s, record-named s)
+    go : (b : Bool) → Small (by b)
+    go true = (omega arith, λ e. omega arith, omega arith)
+    go false = (number-small s .0, number-small s .1, record-named s)
 
 module _ (bytes : Program → List ℕ) (s buffer : List ℕ) where
-  answer-by : (v : Verdict) → numberBy v ≤ 8 → recordBy v ≤ 256
-      → (numberIn (answerBy bytes v buffer .0) ≤ 9) × (recordIn (answerBy bytes v buffer .0) ≤ 256)
-  answer-by (refused n r) hn hr = (omega arith, hr)
-  answer-by (accepted k) hn hr = go (ltb (length buffer) (length (bytes k)))
+  answer-by : (v : Verdict) → Small v
+      → (numberIn (answerBy bytes v buffer .0) ≤ 12) × (recordIn (answerBy bytes v buffer .0) ≤ 256)
+  answer-by (refused n r) h = (h .0, h .2)
+  answer-by (accepted k) h = go (ltb (length buffer) (length (bytes k)))
     where
       by : Bool → WriteResult × List ℕ
       by b = cond b (Refuses 9 0, buffer) (Wrote (length (bytes k)), over (bytes k) buffer)
 
-      go : (b : Bool) → (numberIn (by b .0) ≤ 9) × (recordIn (by b .0) ≤ 256)
+      go : (b : Bool) → (numberIn (by b .0) ≤ 12) × (recordIn (by b .0) ≤ 256)
       go true = (omega arith, omega arith)
       go false = (omega arith, omega arith)
 
   pub answer-small : {n r : ℕ} {after : List ℕ} → (Refuses n r, after) ≡ answerBy bytes (verdict s) buffer
-      → (n ≤ 9) × (r ≤ 256)
+      → (n ≤ 12) × (r ≤ 256)
   answer-small {n} {r} {after} p =
-      let v = refused-small s in
-      subst (λ (z : WriteResult × List ℕ). (numberIn (z .0) ≤ 9) × (recordIn (z .0) ≤ 256)) (sym p)
-      (answer-by (verdict s) (v .0) (v .1))
+      subst (λ (z : WriteResult × List ℕ). (numberIn (z .0) ≤ 12) × (recordIn (z .0) ≤ 256)) (sym p)
+      (answer-by (verdict s) (refused-small s))
 
   -- 9 is no refusal of a file
   pub short-any : {r : ℕ} {after : List ℕ} → (Refuses 9 r, after) ≡ answerBy bytes (verdict s) buffer
@@ -165,5 +169,5 @@ module _ (bytes : Program → List ℕ) (s buffer : List ℕ) where
           → (k : Program) × (verdict s ≡ accepted k)
       go (refused n q) e x =
           let same : 9 ≡ n = ap (λ (z : WriteResult × List ℕ). numberIn (z .0)) x in
-          absurd (omega (arith, refused-small s .0, ap numberBy e))
+          absurd (refused-small s .1 (ap numberBy e ∙ sym same))
       go (accepted k) e x = (k, e)

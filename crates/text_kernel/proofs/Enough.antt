@@ -50,7 +50,7 @@ module _
           → length (printedBy text (cond b (accepted (programOf s)) (refused number named))) ≤ size
       go true e = few (programOf s) (accepted-lawful s (programOf s) (rw e))
       go false e =
-          omega (arith, refusal-small number named (omega (arith, number-small s)) (omega (arith, record-named s)))
+          omega (arith, refusal-small number named (omega (arith, number-small s .0)) (omega (arith, record-named s)))
 
 pub printed-small : (s : List ℕ) → length (printed s) ≤ 65536
 printed-small = printed-few listing 65536 (omega arith) (λ k w. omega (arith, listing-small k w))

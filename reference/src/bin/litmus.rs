@@ -1,8 +1,9 @@
 //! Program: tries every litmus row under its masks and prints the table of results; fails at a difference.
 
 use reference::fast;
-use reference::litmus::rows::{Row, rows};
-use reference::litmus::trial::{Runs, Trial, try_row};
+use reference::litmus::rows::{Expected, Row, rows};
+use reference::litmus::trial::{Found, Runs, Trial, try_row};
+use reference::slow::kernel::Refusal;
 use std::process::ExitCode;
 
 fn main() -> ExitCode {
@@ -49,8 +50,19 @@ fn line(row: &Row, mask: u16, trial: &Trial) -> String {
     let published = row.published.filter(|_| mask == row.masks[0]).map_or("-", verdict);
     let sparc = row.sparc_published(mask);
     let sparc = sparc.map_or("-".to_string(), |found| format!("{}, {}", verdict(found.allowed), found.place));
-    let counts = trial.counts.iter().map(usize::to_string).collect::<Vec<_>>().join("/");
-    let (name, set, asked) = (&row.name, row.assembled.set(mask), &row.asked_text);
-    let machines = trial.allowed[1..].iter().map(|allowed| verdict(*allowed)).collect::<Vec<_>>().join(" | ");
-    format!("| {name} | `{set}` | `{asked}` | {published} | {sparc} | {machines} | {counts} |")
+    let asked = match &row.expected {
+        Expected::Refused(_) => "-".to_string(),
+        Expected::Ends(ends) => format!("`{}`", ends.asked_text),
+    };
+    let (machines, counts) = match &trial.found {
+        Found::Refused(Refusal { number, record }) => {
+            (vec![format!("refused {number} record {record}"); 3], "-".to_string())
+        }
+        Found::Ends { allowed, counts } => {
+            let counts: Vec<String> = counts.iter().map(usize::to_string).collect();
+            (allowed[1..].iter().map(|own| verdict(*own).to_string()).collect(), counts.join("/"))
+        }
+    };
+    let (name, set, machines) = (&row.name, row.assembled.set(mask), machines.join(" | "));
+    format!("| {name} | `{set}` | {asked} | {published} | {sparc} | {machines} | {counts} |")
 }

@@ -1,4 +1,4 @@
-//! Fast implementation: one forward pass a lane for held sets (refusal 8) and barriers.
+//! Fast implementation: one forward pass a lane for held sets (refusals 8 and 12) and barriers.
 
 use super::check::{Kernel, Record};
 use super::{LOAD, LOCK, Refusal, SKIP, STORE, UNLOCK};
@@ -90,8 +90,14 @@ impl Plan {
         Plan { barriers: [0; 256], starts: [0; 256], counts: [0; 4] }
     }
 
+    /// Refusal 12 comes after 8 of every lane.
     pub fn lay<const LEVEL: usize>(&mut self, kernel: &Kernel) -> Result<(), Refusal> {
-        (0..kernel.lanes()).try_for_each(|lane| self.lay_lane::<LEVEL>(kernel, lane))
+        let mut falling = 0;
+        for lane in 0..kernel.lanes() {
+            let own = self.lay_lane::<LEVEL>(kernel, lane)?;
+            falling = if falling == 0 { own } else { falling };
+        }
+        if falling == 0 { Ok(()) } else { Err(Refusal::new(12, falling)) }
     }
 
     /// The number of the record that stands at this position of a lane.
@@ -111,16 +117,21 @@ impl Plan {
         }
     }
 
-    fn lay_lane<const LEVEL: usize>(&mut self, kernel: &Kernel, lane: usize) -> Result<(), Refusal> {
+    /// The number of the first LOCK in the lane that takes a lock below a held one, 0 if there is none.
+    fn lay_lane<const LEVEL: usize>(&mut self, kernel: &Kernel, lane: usize) -> Result<usize, Refusal> {
         let chain = kernel.chain(lane);
         let (start, mask) = (kernel.ends[lane], kernel.mask());
         // by the SKIPs; the last is the lane's end
         let mut skipped = [Ways::default(); 65];
         let mut ways = Ways { live: 0, held: 0, lacked: 0xff };
         let mut count = 0;
+        let mut first = 0;
         for (position, name) in chain.iter().enumerate() {
             let record = kernel.record(*name);
             ways.join(skipped[position & 63]);
+            if ways.falls(record) && first == 0 {
+                first = usize::from(*name) + 1;
+            }
             if !ways.take_lock(record) {
                 return Err(Refusal::new(8, usize::from(*name) + 1));
             }
@@ -138,7 +149,7 @@ impl Plan {
         self.counts[lane] = count;
         match chain.last() {
             Some(last) if ways.held | skipped[64].held != 0 => Err(Refusal::new(8, usize::from(*last) + 1)),
-            _ => Ok(()),
+            _ => Ok(first),
         }
     }
 }
@@ -148,6 +159,11 @@ impl Ways {
         self.live |= other.live;
         self.held |= other.held;
         self.lacked |= other.lacked;
+    }
+
+    /// Whether a LOCK takes a lock that is not above all that are held.
+    fn falls(&self, record: &Record) -> bool {
+        record[0] == LOCK && self.held >> (record[2] & 3) > 0
     }
 
     /// Carries a LOCK or UNLOCK into the held set; false where the rule of held sets breaks.

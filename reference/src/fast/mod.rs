@@ -1,5 +1,5 @@
-//! Fast implementation of paper 01 with requests 1 to 4 of paper 02, the yardstick of the benchmarks: no allocation,
-//! one forward pass, state in place.
+//! Fast implementation of paper 01 with requests 1 to 4 and 6 of paper 02, the yardstick of the benchmarks: no
+//! allocation, one forward pass, state in place.
 
 mod check;
 mod flow;

@@ -1,6 +1,7 @@
 //! Reads the litmus rows: kernels in the assembler's notation with the verdicts and numbers that are expected.
 
 use super::assembler::{Assembled, assemble, constant, location, register};
+use crate::slow::kernel::Refusal;
 use crate::slow::outcomes::Outcome;
 use std::collections::BTreeMap;
 
@@ -31,24 +32,24 @@ pub struct Published {
     pub place: String,
 }
 
-pub struct Row {
-    pub name: String,
-    pub assembled: Assembled,
+/// What a row expects of its kernel.
+pub enum Expected {
+    /// Under every mask.
+    Refused(Refusal),
+    Ends(Ends),
+}
+
+/// The ends of an accepted kernel's finished runs.
+pub struct Ends {
     pub asked_text: String,
     asked: Vec<Asked>,
-    pub masks: Vec<u16>,
-    /// Published for x86 under the first mask, if anything is.
-    pub published: Option<bool>,
-    /// Published for Sparc PSO: barriers as level 3 has them under the mask.
-    pub sparc: Vec<Published>,
     /// For each machine the masks that allow what is asked.
     pub allowing: Vec<Vec<u16>>,
     /// For the first mask, and for the last if there are several, the number of outcomes on each machine.
-    pub outcomes: Vec<Vec<usize>>,
-    pub records: usize,
+    outcomes: Vec<Vec<usize>>,
 }
 
-impl Row {
+impl Ends {
     /// Whether the outcome is the one asked for.
     pub fn met(&self, outcome: &Outcome) -> bool {
         self.asked.iter().all(|asked| match *asked {
@@ -57,18 +58,32 @@ impl Row {
         })
     }
 
+    /// The numbers of outcomes that the row gives for one of its masks.
+    pub fn expected_outcomes(&self, masks: &[u16], mask: u16) -> Option<&Vec<usize>> {
+        match mask {
+            _ if mask == masks[0] => self.outcomes.first(),
+            _ if Some(&mask) == masks.last() => self.outcomes.get(1),
+            _ => None,
+        }
+    }
+}
+
+pub struct Row {
+    pub name: String,
+    pub assembled: Assembled,
+    pub masks: Vec<u16>,
+    /// Published for x86 under the first mask, if anything is.
+    pub published: Option<bool>,
+    /// Published for Sparc PSO: barriers as level 3 has them under the mask.
+    pub sparc: Vec<Published>,
+    pub expected: Expected,
+    pub records: usize,
+}
+
+impl Row {
     /// What is published for Sparc PSO with the barriers of this mask.
     pub fn sparc_published(&self, mask: u16) -> Option<&Published> {
         self.sparc.iter().find(|published| published.mask == mask)
-    }
-
-    /// The numbers of outcomes that the row gives for a mask.
-    pub fn expected_outcomes(&self, mask: u16) -> Option<&Vec<usize>> {
-        match mask {
-            _ if mask == self.masks[0] => self.outcomes.first(),
-            _ if Some(&mask) == self.masks.last() => self.outcomes.get(1),
-            _ => None,
-        }
     }
 }
 
@@ -88,22 +103,40 @@ fn row(block: &str) -> Result<Row, String> {
         Some(sets) => masks(&assembled, sets)?,
         None => (0..1 << assembled.names.len()).collect(),
     };
-    let allowing = MACHINES.iter().map(|machine| match field(machine)? {
-        "A" => Ok(masks.clone()),
-        "F" => Ok(Vec::new()),
-        sets => self::masks(&assembled, sets),
-    });
+    let expected = match fields.get("refused") {
+        Some(text) => Expected::Refused(refusal(text)?),
+        None => Expected::Ends(ends(&assembled, &masks, &fields)?),
+    };
     Ok(Row {
         name: field("test")?.to_string(),
-        asked_text: field("asked")?.to_string(),
-        asked: field("asked")?.split_whitespace().map(|word| asked(&assembled, word)).collect::<Result<_, _>>()?,
         published: published(field("x86")?)?,
         sparc: sparc(&assembled, field("sparc")?)?,
-        allowing: allowing.collect::<Result<_, String>>()?,
-        outcomes: field("outcomes")?.split("; ").map(numbers).collect::<Result<_, _>>()?,
+        expected,
         records: field("records")?.parse().map_err(|_| "no number of records")?,
         assembled,
         masks,
+    })
+}
+
+/// `12 record 8`.
+fn refusal(text: &str) -> Result<Refusal, String> {
+    let (number, record) = text.split_once(" record ").ok_or("no record of the refusal")?;
+    let number = number.parse().map_err(|_| format!("no refusal {number}"))?;
+    Ok(Refusal { number, record: record.parse().map_err(|_| format!("no record {record}"))? })
+}
+
+fn ends(assembled: &Assembled, masks: &[u16], fields: &BTreeMap<&str, &str>) -> Result<Ends, String> {
+    let field = |name: &str| fields.get(name).copied().ok_or_else(|| format!("no {name}"));
+    let allowing = MACHINES.iter().map(|machine| match field(machine)? {
+        "A" => Ok(masks.to_vec()),
+        "F" => Ok(Vec::new()),
+        sets => self::masks(assembled, sets),
+    });
+    Ok(Ends {
+        asked_text: field("asked")?.to_string(),
+        asked: field("asked")?.split_whitespace().map(|word| asked(assembled, word)).collect::<Result<_, _>>()?,
+        allowing: allowing.collect::<Result<_, String>>()?,
+        outcomes: field("outcomes")?.split("; ").map(numbers).collect::<Result<_, _>>()?,
     })
 }
 

@@ -1,8 +1,10 @@
-//! Kernel files at the edge of one rule: the smallest break of it, or the largest that keeps it, and no other broken.
+//! Kernel files at the edge of one rule: the smallest break of it, or the largest that keeps it, and no other broken;
+//! of refusal 12 also beside a break of 8.
 
 mod headers;
 mod lanes;
 mod marks;
+mod order;
 mod pages;
 mod records;
 
@@ -33,7 +35,8 @@ impl Edge {
 
 /// Every edge, in the order in which cases take their turns.
 pub fn edges() -> Vec<Edge> {
-    [headers::edges(), records::edges(), lanes::edges(), pages::edges(), marks::edges()].into_iter().flatten().collect()
+    let others = [pages::edges(), marks::edges(), order::edges()];
+    [headers::edges(), records::edges(), lanes::edges()].into_iter().chain(others).flatten().collect()
 }
 
 /// A valid kernel of a few records in each of so many lanes, with at least two locks.
@@ -63,6 +66,11 @@ struct Place {
 /// Puts steps before the first record of some lane or behind its last, where no lock is held.
 fn put(random: &mut Random, draft: &mut Draft, steps: &[Step], at_end: bool) -> Place {
     let lane = random.below(draft.lanes.len());
+    put_into(random, draft, lane, steps, at_end)
+}
+
+/// The same in this lane.
+fn put_into(random: &mut Random, draft: &mut Draft, lane: usize, steps: &[Step], at_end: bool) -> Place {
     let chain = &mut draft.lanes[lane];
     let position = if at_end || random.once_in(2) { chain.len() } else { 0 };
     for own in chain.iter_mut() {

@@ -1,20 +1,27 @@
 //! Random kernel files of every kind: valid ones, ones with a few faults, ones that break one rule by shape, garbage.
 
 use super::Random;
-use super::kernels::{draft, draft_of, valid};
+use super::kernels::{draft, draft_of, nested_draft, numbered, valid};
 use crate::slow::kernel::{LOCK, SKIP, UNLOCK};
 use crate::writer::Step;
 
-/// Five in eight of the files are valid.
+/// Eleven in twenty of the files are valid, and so are turned ones that nest no locks.
 pub fn kernel(random: &mut Random) -> Vec<u8> {
-    match random.below(16) {
+    match random.below(20) {
         0..10 => valid(random),
-        10..12 => damaged(random),
-        12 => anywhere(random),
-        13 => locked(random),
-        14 => long(random),
+        10 => nested(random),
+        11..14 => turned(random),
+        14..16 => damaged(random),
+        16 => anywhere(random),
+        17 => locked(random),
+        18 => long(random),
         _ => garbage(random),
     }
+}
+
+fn nested(random: &mut Random) -> Vec<u8> {
+    let draft = nested_draft(random);
+    numbered(random, &draft)
 }
 
 /// A valid file with one to three faults.
@@ -94,6 +101,32 @@ fn locked(random: &mut Random) -> Vec<u8> {
         }
     }
     draft.file()
+}
+
+/// In some lanes the locks under other numbers, which keeps every rule but that of upward locks; in one file of three
+/// an UNLOCK of some lane becomes a LOCK, which breaks the rule of held sets.
+fn turned(random: &mut Random) -> Vec<u8> {
+    let mut draft = nested_draft(random);
+    for lane in &mut draft.lanes {
+        if random.once_in(2) {
+            turn(random, lane, draft.locks);
+        }
+    }
+    if random.once_in(3) {
+        let lane = random.below(draft.lanes.len());
+        let release = draft.lanes[lane].iter_mut().find(|step| step.operation == UNLOCK);
+        release.into_iter().for_each(|step| step.operation = LOCK);
+    }
+    numbered(random, &draft)
+}
+
+/// Gives the locks of a lane other numbers.
+pub fn turn(random: &mut Random, lane: &mut [Step], locks: u8) {
+    let mut numbers: Vec<u8> = (0..locks).collect();
+    random.shuffle(&mut numbers);
+    for step in lane.iter_mut().filter(|step| matches!(step.operation, LOCK | UNLOCK)) {
+        step.b = numbers[usize::from(step.b)];
+    }
 }
 
 /// Chains about the limit of 64, and files about the limit of 256 records.

@@ -1,4 +1,4 @@
-//! Random kernels that keep every rule: all operations, all masks, nested locks, forward skips, shuffled records.
+//! Random kernels that keep every rule: all operations and masks, locks nested upward, forward skips, shuffled records.
 
 use super::Random;
 use crate::slow::kernel::{ADD, LOAD, LOCK, SET, SKIP, STORE, UNLOCK};
@@ -37,6 +37,7 @@ struct Shape {
 const MIXED: &[u8] = &[SET, ADD, LOAD, LOAD, LOAD, STORE, STORE, STORE, LOCK, UNLOCK];
 const ACCESSES: &[u8] = &[SET, SET, LOAD, LOAD, STORE, STORE, STORE, LOCK];
 const LOCKS: &[u8] = &[SET, LOAD, STORE, LOCK, LOCK, UNLOCK];
+const NESTED: &[u8] = &[SET, LOAD, STORE, LOCK, LOCK, LOCK, LOCK, LOCK, LOCK, UNLOCK, UNLOCK];
 
 /// A valid kernel whose lanes have exactly these lengths.
 pub fn draft_of(random: &mut Random, lengths: &[usize]) -> Draft {
@@ -46,9 +47,21 @@ pub fn draft_of(random: &mut Random, lengths: &[usize]) -> Draft {
         operations: random.pick(&[MIXED, MIXED, ACCESSES, LOCKS]),
         skips: random.pick(&[0, 3, 3, 10]),
     };
-    let Shape { locations, locks, .. } = shape;
+    shaped(random, lengths, &shape)
+}
+
+/// A valid kernel of two to four lanes that nest two to four locks.
+pub fn nested_draft(random: &mut Random) -> Draft {
+    let lengths: Vec<usize> = (0..2 + random.below(3)).map(|_| 6 + random.below(15)).collect();
+    let (locks, skips) = (2 + random.below(3) as u8, random.pick(&[0, 3, 10]));
+    let shape = Shape { locations: 1 + random.below(3) as u8, locks, operations: NESTED, skips };
+    shaped(random, &lengths, &shape)
+}
+
+fn shaped(random: &mut Random, lengths: &[usize], shape: &Shape) -> Draft {
+    let Shape { locations, locks, .. } = *shape;
     let mask = random.draw() as u16 & (((1u32 << locations) - 1) as u16);
-    let lanes = lengths.iter().map(|length| lane(random, *length, &shape)).collect();
+    let lanes = lengths.iter().map(|length| lane(random, *length, shape)).collect();
     Draft { locations, locks, mask, lanes }
 }
 
@@ -80,7 +93,9 @@ fn step(random: &mut Random, taken: &mut Vec<u8>, room: usize, shape: &Shape) ->
         ADD => Step { operation, a, b: random.below(8) as u8, ..Step::default() },
         LOAD | STORE => Step { operation, a, b: random.below(shape.locations.into()) as u8, ..Step::default() },
         LOCK => {
-            let lock = (0..shape.locks).find(|_| random.once_in(2)).filter(|lock| !taken.contains(lock))?;
+            // above every lock that is held
+            let lowest = taken.iter().max().map_or(0, |held| held + 1);
+            let lock = (lowest..shape.locks).find(|_| random.once_in(2))?;
             if room < 2 {
                 return None;
             }

@@ -1,6 +1,7 @@
-//! Slow implementation: the kernel file of paper 01 and its refusals 1 to 8, in the order of the table.
+//! Slow implementation: the kernel file of paper 01 and its refusals, in the order of the table: 1 to 8, then 12.
 
-use std::collections::{BTreeMap, BTreeSet};
+use super::locks::{lock_fault, lock_order};
+use std::collections::BTreeSet;
 
 /// A number of the table of refusals and the record it names, 0 where none is named.
 #[derive(Clone, Copy, Debug, PartialEq, Eq)]
@@ -73,7 +74,22 @@ impl Kernel {
     }
 }
 
+/// "The check comes right after 8": of every lane.
 pub fn check(file: &[u8]) -> Result<Kernel, Refusal> {
+    let kernel = check_to_8(file)?;
+    lock_order(&kernel)?;
+    Ok(kernel)
+}
+
+/// Without request 6.
+pub fn check_to_8(file: &[u8]) -> Result<Kernel, Refusal> {
+    let kernel = check_to_7(file)?;
+    lock_fault(&kernel)?;
+    Ok(kernel)
+}
+
+/// Without the rules of held sets.
+pub fn check_to_7(file: &[u8]) -> Result<Kernel, Refusal> {
     truncated_header(file)?;
     let header = bad_header(file)?;
     bad_length(file, &header)?;
@@ -82,7 +98,6 @@ pub fn check(file: &[u8]) -> Result<Kernel, Refusal> {
     chain_too_long(&chains)?;
     let kernel = Kernel { header, records, chains };
     bad_target(&kernel)?;
-    lock_fault(&kernel)?;
     Ok(kernel)
 }
 
@@ -219,37 +234,5 @@ fn bad_target(kernel: &Kernel) -> Result<(), Refusal> {
     match kernel.chains.iter().flat_map(bad).min() {
         Some(lowest) => refuse(7, lowest),
         None => Ok(()),
-    }
-}
-
-type Held = BTreeSet<u8>;
-
-fn lock_fault(kernel: &Kernel) -> Result<(), Refusal> {
-    (0..kernel.header.lanes).try_for_each(|lane| lane_lock_fault(kernel, lane))
-}
-
-fn lane_lock_fault(kernel: &Kernel, lane: usize) -> Result<(), Refusal> {
-    let mut arriving: BTreeMap<usize, BTreeSet<Held>> = BTreeMap::from([(0, BTreeSet::from([Held::new()]))]);
-    for (position, number) in kernel.chains[lane].iter().enumerate() {
-        let sets: Vec<&Held> = arriving[&position].iter().collect();
-        let [held] = sets[..] else { return refuse(8, *number) };
-        let Some(after) = held_after(kernel.at(lane, position), held) else { return refuse(8, *number) };
-        for way in kernel.ways(lane, position) {
-            arriving.entry(way).or_default().insert(after.clone());
-        }
-    }
-    match kernel.chains[lane].last() {
-        Some(last) if arriving[&kernel.length(lane)].iter().any(|held| !held.is_empty()) => refuse(8, *last),
-        _ => Ok(()),
-    }
-}
-
-/// "LOCK needs its lock outside the set, UNLOCK inside."
-fn held_after(record: Record, held: &Held) -> Option<Held> {
-    let lock = Held::from([record.b]);
-    match record.operation {
-        LOCK => (!held.contains(&record.b)).then(|| held | &lock),
-        UNLOCK => held.contains(&record.b).then(|| held - &lock),
-        _ => Some(held.clone()),
     }
 }

@@ -1,8 +1,9 @@
-//! Slow implementation of paper 01 with requests 1 to 4 of paper 02: their sentences written down as directly as they
-//! can be run, with no care for speed.
+//! Slow implementation of paper 01 with requests 1 to 4 and 6 of paper 02: their sentences written down as directly as
+//! they can be run, with no care for speed.
 
 pub mod kernel;
 pub mod listing;
+pub mod locks;
 pub mod machines;
 pub mod outcomes;
 pub mod page;
@@ -45,7 +46,7 @@ pub fn run(machine: Machine, file: &[u8], moves: &[u8], out: &mut [u8]) -> u64 {
     answer(put_into(out, &result))
 }
 
-/// The sheet, or a refusal of 1 to 8.
+/// The sheet, or a refusal of the kernel: 1 to 8, 12.
 pub fn lowered(level: u8, file: &[u8]) -> Result<Vec<u8>, Refusal> {
     let level = match level {
         1 => Level::One,
@@ -55,7 +56,7 @@ pub fn lowered(level: u8, file: &[u8]) -> Result<Vec<u8>, Refusal> {
     check(file).map(|kernel| sheet(&kernel, level))
 }
 
-/// The pages, or a refusal of 1 to 8.
+/// The pages, or a refusal of the kernel: 1 to 8, 12.
 pub fn paged(file: &[u8]) -> Result<Vec<u8>, Refusal> {
     check(file).map(|kernel| page::pages(&kernel).into_bytes())
 }

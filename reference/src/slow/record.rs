@@ -7,7 +7,7 @@ use super::pending::Entry;
 pub const STATE: usize = 2280;
 const LANE: usize = 548;
 
-/// The state record, or a refusal of 1 to 11; 9 if the output buffer is shorter.
+/// The state record, or a refusal: the kernel's, then 9 if the output buffer is shorter, 10, 11.
 pub fn ran(machine: Machine, file: &[u8], moves: &[u8], room: usize) -> Result<Vec<u8>, Refusal> {
     let kernel = check(file)?;
     if room < STATE {

@@ -14,29 +14,21 @@ use Rattle.file_format.specs.Rules.{headerRule, badRecord}
 use Rattle.file_format.specs.Linkage.{badLinkage, chainTooLong}
 use Rattle.file_format.specs.Targets.{badTarget}
 use Rattle.file_format.specs.Accepted.{programOf}
-use Rattle.file_format.specs.Held.{lockFault}
 use Rattle.file_format.specs.Structured.{Fielded}
 use Rattle.file_verdict.specs.declared.refusal.Refusal.{Refusal}
 use Rattle.file_verdict.specs.declared.refusal.Refusal.the-variants.{Accepted, TruncatedHeader, BadHeader, BadLength}
 use Rattle.file_verdict.specs.declared.refusal.Refusal.the-variants.{BadRecord}
-use Rattle.file_verdict.specs.declared.refusal.Refusal.the-variants.{BadLinkage, ChainTooLong, BadTarget, LockFault}
-use Rattle.file_verdict.specs.Verdict.{unless, fieldsThen, structureThen, refusalOf, numberOf, verdict, accepted}
-use Rattle.file_verdict.proofs.Laws.Verdict.{accepted-as}
+use Rattle.file_verdict.specs.declared.refusal.Refusal.the-variants.{BadLinkage, ChainTooLong, BadTarget}
+use Rattle.file_verdict.specs.Verdict.{unless, fieldsThen, structureThen, lockRefusal, refusalOf, numberOf, verdict}
+use Rattle.file_verdict.specs.Verdict.{accepted}
+use Rattle.file_verdict.proofs.Laws.Verdict.{names, passes, accepted-as}
 use Rattle.file_accept.specs.Checks.{linkedRefusal}
 
--- a check that names a record, and one that names none
-module _ (x : ℕ) (f : ℕ → Refusal) (rest : Refusal) where
-  names : {y : ℕ} → y ≡ x → ¬ y ≡ 0 → f y ≡ unless x f rest
-  names e h = ap f e ∙ sym (ap (λ b. cond b rest (f x)) (ne-eqb x 0 (λ z. h (e ∙ z))))
-
-  passes : x ≡ 0 → rest ≡ unless x f rest
-  passes z = sym (ap (λ b. cond b rest (f x)) (eq-eqb x 0 z))
-
 module _ (s : List ℕ) where
-  -- ## checks 5 to 8
+  -- ## checks 5 to 7, and the rest
 
   abbrev from8 : Refusal
-  from8 = unless (lockFault (programOf s)) LockFault Accepted
+  from8 = lockRefusal (programOf s)
 
   abbrev from7 : Refusal
   from7 = unless (badTarget s) BadTarget from8
@@ -64,14 +56,8 @@ module _ (s : List ℕ) where
       refuses7 e h = names (badTarget s) BadTarget from8 e h ∙ past6
 
       module _ (z7 : badTarget s ≡ 0) where
-        past7 : from8 ≡ linkedRefusal s
+        pub past7 : from8 ≡ linkedRefusal s
         past7 = passes (badTarget s) BadTarget from8 z7 ∙ past6
-
-        pub refuses8 : {x : ℕ} → x ≡ lockFault (programOf s) → ¬ x ≡ 0 → LockFault x ≡ linkedRefusal s
-        refuses8 e h = names (lockFault (programOf s)) LockFault Accepted e h ∙ past7
-
-        pub accepts : {x : ℕ} → x ≡ lockFault (programOf s) → x ≡ 0 → Accepted ≡ linkedRefusal s
-        accepts e z = passes (lockFault (programOf s)) LockFault Accepted (sym e ∙ z) ∙ past7
 
 -- ## checks 1 to 4, whatever the rest
 

@@ -1,5 +1,5 @@
--- Laws of one operation of a lane: its row's fields, its effect on the held set, where it leads, and the record that a
--- fault names.
+-- Laws of one operation of a lane: its row's fields, its effect on the held set, where it leads, and the record that
+-- is named where it is refused.
 use Prim.Native.Nat.{ℕ, zero, suc, _+_, _-_, _*_, _/_, _^_, _≤_, _<_, min}
 use mathlib.Core.Path.{_≡_, refl, ap, sym, _∙_}
 use mathlib.Core.List.{List, [], _∷_}
@@ -13,14 +13,15 @@ use lib.Seq.{getD-drop, getD-take}
 use Rattle.file_format.specs.declared.accepted.Op.{Op}
 use Rattle.file_format.specs.declared.accepted.Op.the-variants.{Set, Add, Load, Store, Lock, Unlock, Skip}
 use Rattle.file_format.specs.Held.{noLocks, after, misuse, heldFrom, held, recordAt}
+use Rattle.file_format.specs.Rising.{descends}
 use Rattle.file_format.specs.Stored.{noOp}
 use Rattle.sheet_rows.specs.Rows.{rowIn}
 use Rattle.sheet_rows.specs.Lanes.{fieldsOf}
 use Rattle.sheet_rows.proofs.Laws.Lanes.{held-fields}
-use Rattle.file_locks.specs.Sets.{jumpOr, noJump, locksIn, meets, ways, lockBit, barred}
+use Rattle.file_locks.specs.Sets.{jumpOr, noJump, locksIn, meets, ways, lockBit, barred, descendsAt}
 use Rattle.file_locks.specs.Lanes.{Named, LaneIn}
 use Rattle.file_locks.proofs.Laws.Locks.{other-wrong, other-next}
-use Rattle.file_locks.proofs.Laws.Locks.{lock-wrong, lock-next, unlock-wrong, unlock-next}
+use Rattle.file_locks.proofs.Laws.Locks.{lock-wrong, lock-descends, lock-next, unlock-wrong, unlock-next}
 
 -- ## the fields of row p
 
@@ -58,7 +59,7 @@ jump-by (Lock b) = refl
 jump-by (Unlock b) = refl
 jump-by (Skip a q) = refl
 
--- whether an operation breaks the rule, and the set after it, from its code and its operand b
+-- whether an operation breaks the rule or descends, and the set after it, from its code and its operand b
 module _ (h : ℕ) (few : h < 16) where
   pub row-wrong : (o : Op) → Named o
       → meets (barred (ways h) (fieldsOf o .code)) (lockBit (fieldsOf o .code) (fieldsOf o .b))
@@ -70,6 +71,17 @@ module _ (h : ℕ) (few : h < 16) where
   row-wrong (Lock b) near = lock-wrong h b few (near (omega arith))
   row-wrong (Unlock b) near = unlock-wrong h b few (near (omega arith))
   row-wrong (Skip a q) near = other-wrong (ways h / 2 ^ 4) 0
+
+  pub row-descends : (o : Op) → Named o
+      → descendsAt (ways h) (fieldsOf o .code) (lockBit (fieldsOf o .code) (fieldsOf o .b))
+      ≡ descends (locksIn h) (some o)
+  row-descends (Set a c) near = refl
+  row-descends (Add a b) near = refl
+  row-descends (Load a b) near = refl
+  row-descends (Store a b) near = refl
+  row-descends (Lock b) near = lock-descends h b few (near (omega arith))
+  row-descends (Unlock b) near = refl
+  row-descends (Skip a q) near = refl
 
   pub row-next : (o : Op) → Named o → misuse (locksIn h) (some o) ≡ false
       → locksIn (bitXor h (lockBit (fieldsOf o .code) (fieldsOf o .b))) ≡ after (locksIn h) o
@@ -95,28 +107,25 @@ held-on ops p {h} {g} l eh eg =
     let one : p + 1 ≡ suc p = omega arith in
     rw (one, eg, eh) (sym (heldFrom-suc noLocks ops p l))
 
--- ## the record at a position counted from 1 of the lane of n records that begins at `from`, i, which is cut to n
+-- ## the record at a place i, counted from 1, of the part of the order that begins at `from`
 
-module _ (order : List ℕ) (from n x i : ℕ) (room : from + n ≤ length order) (cut : i ≡ min x n) where
-  abbrev rs : List ℕ
-  rs = take n (drop from order)
+pub record-is : (order : List ℕ) (from i : ℕ) → ¬ i ≡ 0
+    → getD order (from + i - 1) 0 ≡ getD (0 ∷ drop from order) i 0
+record-is order from zero h = absurd (h refl)
+record-is order from (suc i) h =
+    let place : from + suc i - 1 ≡ from + i = omega arith in
+    ap (λ k. getD order k 0) place ∙ sym (getD-drop from order i 0)
 
-  cut-rs : i ≡ min x (length rs)
-  cut-rs = omega (arith, cut, length-take n (drop from order), length-drop from order)
+-- the place x cut to the n records of a lane that begins there
+pub record-cut : (order : List ℕ) (from n x : ℕ) {i : ℕ} → from + n ≤ length order → i ≡ min x n
+    → getD (0 ∷ drop from order) i 0 ≡ recordAt (take n (drop from order)) x
+unfolding recordAt
+record-cut order from n x {i} room cut =
+    rw (← cut-rs) (within i (omega arith))
+  where
+    cut-rs : i ≡ min x (length (take n (drop from order)))
+    cut-rs = omega (arith, cut, length-take n (drop from order), length-drop from order)
 
-  pub record-none : i ≡ 0 → 0 ≡ recordAt rs x
-  unfolding recordAt
-  record-none z = rw (← cut-rs, z)
-
-  counted : (i : ℕ) → ¬ i ≡ 0 → getD rs (i - 1) 0 ≡ getD (0 ∷ rs) i 0
-  counted zero h = absurd (h refl)
-  counted (suc i) h = ap (λ n. getD rs n 0) (omega arith)
-
-  pub record-some : ¬ i ≡ 0 → getD order (from + i - 1) 0 ≡ recordAt rs x
-  unfolding recordAt
-  record-some h =
-      let place : from + i - 1 ≡ from + (i - 1) = omega arith in
-      let own : getD order (from + i - 1) 0 ≡ getD rs (i - 1) 0 =
-      ap (λ k. getD order k 0) place ∙ sym (getD-drop from order (i - 1) 0)
-      ∙ sym (getD-take n (drop from order) (i - 1) 0 (omega arith)) in
-      rw (← cut-rs) (own ∙ counted i h)
+    within : (i : ℕ) → i ≤ n → getD (0 ∷ drop from order) i 0 ≡ getD (0 ∷ take n (drop from order)) i 0
+    within zero h = refl
+    within (suc i) h = sym (getD-take n (drop from order) i 0 h)

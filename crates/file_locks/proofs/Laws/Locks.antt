@@ -14,7 +14,8 @@ use mir.Val.{boolByte}
 use Rattle.laws.proofs.Bools.{by-test}
 use Rattle.laws.proofs.Numbers.{table-at, values-at, bitOr-assoc}
 use Rattle.file_format.specs.Held.{same}
-use Rattle.file_locks.specs.Sets.{locksIn, meets, ways, differ, lockBit, barred, wrongAt, afterRow}
+use Rattle.file_format.specs.Rising.{allBelow}
+use Rattle.file_locks.specs.Sets.{locksIn, meets, ways, differ, lockBit, barred, wrongAt, descendsAt, afterRow}
 
 -- equal sets have equal numbers
 pub locks-same : (h g : ℕ) → h < 16 → g < 16 → same (locksIn h) (locksIn g) ≡ eqb h g
@@ -119,6 +120,12 @@ module _ (h l : ℕ) (few : h < 16) (near : l < 4) where
   unlock-wrong =
       table-at (λ (x y : ℕ). meets (barred (ways x) 6) (lockBit 6 y)) (λ x y. not (getD (locksIn x) y false)) 16 4 refl
       h l few near
+
+  pub lock-descends : descendsAt (ways h) 5 (lockBit 5 l) ≡ not (allBelow (locksIn h) l)
+  unfolding allBelow
+  lock-descends =
+      table-at (λ (x y : ℕ). descendsAt (ways x) 5 (lockBit 5 y)) (λ x y. not (allBelow (locksIn x) y)) 16 4 refl h l
+      few near
 
   pub lock-next : getD (locksIn h) l false ≡ false → locksIn (bitXor h (lockBit 5 l)) ≡ set (locksIn h) l true
   lock-next right =

@@ -1,6 +1,6 @@
 -- Laws of the lanes of a file whose records stand in the order of its lanes, as the check finds them in order and rows.
 use Prim.Native.Nat.{ℕ, zero, suc, _+_, _-_, _*_, _≤_, _<_}
-use mathlib.Core.Path.{_≡_, refl, sym, ap, ap₂, subst, _∙_}
+use mathlib.Core.Path.{_≡_, refl, sym, ap, subst, _∙_}
 use mathlib.Core.List.{List, []}
 use mathlib.Core.Option.{some}
 use native.Mathlib.Omega.{arith}
@@ -10,11 +10,13 @@ use Rattle.file_format.specs.declared.accepted.Op.the-variants.{Set, Add, Load,
 use Rattle.file_format.specs.Fields.{locations, locks, recordCount, head}
 use Rattle.file_format.specs.Accepted.{recordsAt, opsAt, programOf}
 use Rattle.file_format.specs.Held.{laneFault, lockFault}
+use Rattle.file_format.specs.Rising.{laneDescent, lockOrder}
 use Rattle.file_format.specs.Lawful.{Bounded}
 use Rattle.file_format.specs.Search.{firstOf}
 use Rattle.file_format.specs.Structured.{Structured}
 use Rattle.file_format.specs.Stored.{noOp}
-use Rattle.file_format.proofs.Bounded.{lane-bounded}
+use Rattle.file_format.proofs.Bounded.{chain-range, lane-bounded}
+use Rattle.file_format.proofs.Disciplined.{unbroken}
 use Rattle.file_format.proofs.Laws.Lanes.{lane-records as own-lane, lane-ops}
 use Rattle.file_format.proofs.Laws.Rules.{few-locks, few-records, head-range}
 use Rattle.file_format.proofs.Laws.Stored.{opsFrom-length}
@@ -25,17 +27,21 @@ use Rattle.sheet_format.specs.Bytes.{over, sheetBytes}
 use Rattle.sheet_rows.specs.Lanes.{fieldsOf}
 use Rattle.file_rows.proofs.Laws.Holds.{many, before, many-small, lane-holds}
 use Rattle.file_locks.specs.Sets.{noJump, jumpOr}
-use Rattle.file_locks.specs.Lanes.{Named, LaneIn}
+use Rattle.file_locks.specs.declared.Found.{Found}
+use Rattle.file_locks.specs.Lanes.{Named, LaneIn, RecordsOf}
 
--- the fault of lane t
+-- the fault of lane t, and its first descent
 abbrev pub fault : List ℕ → ℕ → ℕ
 fault s t = laneFault (getD (programOf s .records) t []) (getD (programOf s .lanes) t [])
 
--- r is the fault of the lane from `from` to `end` of the order
-abbrev pub FaultIn : List ℕ → List ℕ → ℕ → ℕ → ℕ → Type 0
-FaultIn rows order from end r =
+abbrev pub descent : List ℕ → ℕ → ℕ
+descent s t = laneDescent (getD (programOf s .records) t []) (getD (programOf s .lanes) t [])
+
+-- f is what is found in the lane from `from` to `end` of the order
+abbrev pub FoundIn : List ℕ → List ℕ → ℕ → ℕ → Found → Type 0
+FoundIn rows order from end f =
     (ops : List Op) → LaneIn (drop (16 + 8 * from) rows) (end - from) ops
-    → r ≡ laneFault (take (end - from) (drop from order)) ops
+    → RecordsOf (take (end - from) (drop from order)) ops f
 
 -- a bounded SKIP goes on, at most to the end, and a bounded LOCK or UNLOCK names one of the four locks
 leads : (ls ks n p : ℕ) (o : Op) → n ≤ 64 → ks ≤ 4 → p < n → Bounded ls ks n p o
@@ -107,17 +113,30 @@ module _ (s order place ends : List ℕ) (st : Structured s) (ordered : Ordered 
             omega (arith, inside, ordered .order-room),
           )
 
-      -- what is found in lane t of the order is the fault of lane t
-      pub fault-is : {from r : ℕ} → from ≡ beginOf ends t → FaultIn rows order from (end t) r → r ≡ fault s t
-      fault-is {from} {r} ef found =
+      nonzero : (p : ℕ) → p < length (recordsAt s (head s t)) → 1 ≤ getD (recordsAt s (head s t)) p 0
+      nonzero p l =
+          chain-range s (st .fields .records) 64 (head s t) p (head-range s (st .fields .header) t below) l .0
+
+      -- what is found in lane t of the order is the fault of lane t, and where it has none, its first descent
+      pub found-is : {from : ℕ} {f : Found} → from ≡ beginOf ends t → FoundIn rows order from (end t) f
+          → (f .fault ≡ fault s t) × (fault s t ≡ 0 → f .descent ≡ descent s t)
+      found-is {from} {f} ef found =
           let begin = begin-is t below in
           let count = count-is t below in
           let lane : LaneIn (drop (16 + 8 * beginOf ends t) rows) (countOf ends t) (opsAt s (head s t)) =
           rw (count, begin) lane-in in
-          subst (λ x. FaultIn rows order x (end t) r) ef found (opsAt s (head s t)) lane
-          ∙ ap₂ laneFault (own-records t below ∙ sym (own-lane s (st .fields .header) t below))
-          (sym (lane-ops s (st .fields .header) t below))
+          let is = subst (λ rs. RecordsOf rs (opsAt s (head s t)) f) (own-records t below)
+          (subst (λ x. FoundIn rows order x (end t) f) ef found (opsAt s (head s t)) lane) in
+          let len = opsFrom-length s 0 (recordsAt s (head s t)) in
+          rw (own-lane s (st .fields .header) t below, lane-ops s (st .fields .header) t below) (
+            is .0,
+            λ z. is .1 (unbroken (recordsAt s (head s t)) (opsAt s (head s t)) (sym len) nonzero z),
+          )
 
 pub fault-first : (s : List ℕ) → firstOf (fault s) 0 4 ≡ lockFault (programOf s)
 unfolding lockFault
 fault-first s = refl
+
+pub descent-first : (s : List ℕ) → firstOf (descent s) 0 4 ≡ lockOrder (programOf s)
+unfolding lockOrder
+descent-first s = refl

@@ -1,7 +1,7 @@
 -- Laws of the pass over a lane's rows: what it knows before row p, and how it goes on from there.
 use Prim.Native.Nat.{ℕ, _+_, _-_, _*_, _%_, _≤_, _<_}
 use mathlib.Core.Path.{_≡_, refl, sym, ap, ap₂, _∙_}
-use mathlib.Core.Bool.{Bool, true, false, not}
+use mathlib.Core.Bool.{Bool, true, false, not, cond}
 use mathlib.Core.List.{List}
 use mathlib.Core.Option.{some}
 use native.Mathlib.Omega.{arith}
@@ -10,16 +10,21 @@ use lib.Bits.{bitOr, bitXor, xor-lt}
 use lib.Dec.{eqb}
 use lib.ListN.{length, getD, set, replicate}
 use Rattle.laws.proofs.Bools.{or-false}
+use Rattle.laws.proofs.Lists.{at-some}
 use Rattle.file_format.specs.declared.accepted.Op.{Op}
 use Rattle.file_format.specs.Held.{held, heldFrom, misuse, faultAt, faultPosition}
+use Rattle.file_format.specs.Rising.{descentAt}
 use Rattle.file_format.specs.Search.{lowest}
 use Rattle.file_format.specs.Stored.{noOp}
 use Rattle.file_format.proofs.Laws.Search.{search-start, search-on, search-found, search-none}
 use Rattle.sheet_rows.specs.Lanes.{fieldsOf}
-use Rattle.file_locks.specs.Sets.{locksIn, meets, ways, differ, lockBit, barred, wrongAt, afterRow}
+use Rattle.file_locks.specs.Sets.{locksIn, meets, ways, differ, lockBit, barred, wrongAt, descendsAt, afterRow}
+use Rattle.file_locks.specs.Sets.{first}
 use Rattle.file_locks.specs.Lanes.{LaneIn}
 use Rattle.file_locks.proofs.Laws.Locks.{agree-same, after-ways, bit-small, skip-after}
-use Rattle.file_locks.proofs.Laws.Held.{row-code, row-b, row-target, jump-by, row-wrong, row-next, held-on}
+use Rattle.file_locks.proofs.Laws.Held.{row-code, row-b, row-target, jump-by, row-wrong, row-descends, row-next}
+use Rattle.file_locks.proofs.Laws.Held.{held-on}
+use Rattle.file_locks.proofs.Laws.Descents.{Sought, sought-on}
 use Rattle.file_locks.proofs.Laws.Sets.{LedTo, led-start, led-past, led-put, fault-inside, fault-end}
 
 -- the rule is broken at a position counted from 1
@@ -89,8 +94,8 @@ module _ {rows : List ℕ} {n : ℕ} {ops : List Op} (lane : LaneIn rows n ops) 
         pub pass-found : t ≡ true → p + 1 ≡ faultPosition ops
         pass-found e = search-found (broken ops) (p + 1) (n + 1 + 1) (omega arith) (tested e) (at .rest)
 
-        -- the ways agree, and the rule is kept; the ways v after the row
-        module _ (e : t ≡ false) {v : ℕ} (ev : v ≡ afterRow (bitOr w (getD led p 0)) bit) where
+        -- the ways agree, and the rule is kept
+        module _ (e : t ≡ false) where
           kept : (differ here ≡ false) × (meets (barred here code) own ≡ false)
           kept = or-false _ _ (sym tests ∙ e)
 
@@ -103,32 +108,48 @@ module _ {rows : List ℕ} {n : ℕ} {ops : List Op} (lane : LaneIn rows n ops) 
           right : misuse (locksIn (at .h)) (some o) ≡ false
           right = sym wrong ∙ ap (λ x. meets (barred x code) own) (sym agreed) ∙ kept .1
 
-          pub pass-on : {led′ : List ℕ} → LedTo ops (p + 1) led′ → Passed ops n (p + 1) v led′
-          pass-on to =
-              let small = bit-small code (fieldsOf o .b) in record {
-                h = bitXor (at .h) own;
-                few = xor-lt 4 (at .h) own (at .few) small;
-                ways-of = ev ∙ (λ i. afterRow (joined i) (names i)) ∙ after-ways (at .h) own (at .few) small;
-                set-is = held-on ops p inside (at .set-is)
-                    (row-next (at .h) (at .few) o (lane .named p inside) right);
-                led-to = to;
-                rest = search-on (broken ops) (p + 1) (n + 1 + 1) (omega arith) (tested e) (at .rest);
-              }
+          descended : descentAt ops (p + 1 - 1) ≡ descendsAt (bitOr w (getD led p 0)) (getD rows (8 * p) 0) bit
+          unfolding descentAt
+          descended =
+              let back : p + 1 - 1 ≡ p = omega arith in
+              rw (back, at-some ops p noOp inside, ← (at .set-is))
+              (sym (row-descends (at .h) (at .few) o (lane .named p inside))
+              ∙ sym (λ i. descendsAt (joined i) (row-code lane p below i) (names i)))
 
-          -- what row p leads where
-          pub lead-skip : getD rows (8 * p) 0 ≡ 7 → {led′ : List ℕ}
-              → led′ ≡ set led (getD rows (8 * p + 4) 0) (bitOr (getD led (getD rows (8 * p + 4) 0) 0) v)
-              → LedTo ops (p + 1) led′
-          lead-skip e7 is =
-              let is-7 : 7 ≡ code = sym e7 ∙ row-code lane p below in
-              let word = row-target lane p below short is-7 in
-              let near = lane .within p inside (sym is-7) in
-              let jump = rw (eq-eqb code 7 (sym is-7)) at (jump-by o) in
-              let same = ev ∙ (λ i. afterRow (joined i) ((eb ∙ ap (λ x. lockBit x (getD rows (8 * p + 2) 0)) e7) i))
-              ∙ skip-after (ways (at .h)) (getD rows (8 * p + 2) 0) in
-              rw is
-              (led-put ops p led (at .led-to) inside (word ∙ jump) (omega (arith, near, many)) (omega (arith, many))
-              (at .few) (at .set-is) (ap (bitOr (getD led (getD rows (8 * p + 4) 0) 0)) same))
+          -- what was found of descents with d found before, and x at the row
+          pub pass-sought : (d : ℕ) {x y : ℕ}
+              → x ≡ cond (descendsAt (bitOr w (getD led p 0)) (getD rows (8 * p) 0) bit) (p + 1) 0
+              → y ≡ first d x → Sought ops n p d → Sought ops n (p + 1) y
+          pass-sought d ex ey s = sought-on ops n p d below descended (ey ∙ ap (first d) ex) s
+
+          -- the ways v after the row
+          module _ {v : ℕ} (ev : v ≡ afterRow (bitOr w (getD led p 0)) bit) where
+            pub pass-on : {led′ : List ℕ} → LedTo ops (p + 1) led′ → Passed ops n (p + 1) v led′
+            pass-on to =
+                let small = bit-small code (fieldsOf o .b) in record {
+                  h = bitXor (at .h) own;
+                  few = xor-lt 4 (at .h) own (at .few) small;
+                  ways-of = ev ∙ (λ i. afterRow (joined i) (names i)) ∙ after-ways (at .h) own (at .few) small;
+                  set-is = held-on ops p inside (at .set-is)
+                      (row-next (at .h) (at .few) o (lane .named p inside) right);
+                  led-to = to;
+                  rest = search-on (broken ops) (p + 1) (n + 1 + 1) (omega arith) (tested e) (at .rest);
+                }
+
+            -- what row p leads where
+            pub lead-skip : getD rows (8 * p) 0 ≡ 7 → {led′ : List ℕ}
+                → led′ ≡ set led (getD rows (8 * p + 4) 0) (bitOr (getD led (getD rows (8 * p + 4) 0) 0) v)
+                → LedTo ops (p + 1) led′
+            lead-skip e7 is =
+                let is-7 : 7 ≡ code = sym e7 ∙ row-code lane p below in
+                let word = row-target lane p below short is-7 in
+                let near = lane .within p inside (sym is-7) in
+                let jump = rw (eq-eqb code 7 (sym is-7)) at (jump-by o) in
+                let same = ev ∙ (λ i. afterRow (joined i) ((eb ∙ ap (λ x. lockBit x (getD rows (8 * p + 2) 0)) e7) i))
+                ∙ skip-after (ways (at .h)) (getD rows (8 * p + 2) 0) in
+                rw is
+                (led-put ops p led (at .led-to) inside (word ∙ jump) (omega (arith, near, many)) (omega (arith, many))
+                (at .few) (at .set-is) (ap (bitOr (getD led (getD rows (8 * p + 4) 0) 0)) same))
 
     pub lead-none : p < n → ¬ getD rows (8 * p) 0 ≡ 7 → {led′ : List ℕ} → led′ ≡ led → LedTo ops (p + 1) led′
     lead-none below n7 is =

@@ -5,13 +5,14 @@ use mathlib.Core.List.{List}
 use mathlib.Core.Bool.{Bool, true, false, not, cond}
 use mathlib.Core.Logic.{_⊎_, inl, inr}
 use native.Mathlib.Omega.{arith}
-use borrow.Author.Tests.{eqb-true, not-false}
+use borrow.Author.Tests.{eq-eqb, ne-eqb, eqb-true, not-false}
 use lib.ListN.{length}
 use lib.Dec.{ltb, eqb}
 use Rattle.file_verdict.specs.declared.refusal.Refusal.{Refusal}
 use Rattle.file_verdict.specs.declared.refusal.Refusal.the-variants.{Accepted, TruncatedHeader, BadHeader}
 use Rattle.file_verdict.specs.declared.refusal.Refusal.the-variants.{BadLength, BadRecord, BadLinkage}
 use Rattle.file_verdict.specs.declared.refusal.Refusal.the-variants.{ChainTooLong, BadTarget, LockFault}
+use Rattle.file_verdict.specs.declared.refusal.Refusal.the-variants.{LockOrder}
 use Rattle.file_format.specs.Fields.{recordCount}
 use Rattle.file_format.specs.Rules.{headerRule, badRecord}
 use Rattle.file_format.specs.Linkage.{badLinkage, chainTooLong}
@@ -19,8 +20,17 @@ use Rattle.file_format.specs.Targets.{badTarget}
 use Rattle.file_format.specs.Structured.{Structured}
 use Rattle.file_format.specs.Accepted.{Program, programOf}
 use Rattle.file_format.specs.Held.{lockFault}
+use Rattle.file_format.specs.Rising.{lockOrder}
 use Rattle.file_verdict.specs.Verdict.{unless, fieldsThen, structureThen, refusalOf, numberOf, accepted}
 use Rattle.file_verdict.specs.Verdict.{verdict, verdictFrom}
+
+-- a check that names a record, and one that names none
+module _ (x : ℕ) (f : ℕ → Refusal) (rest : Refusal) where
+  pub names : {y : ℕ} → y ≡ x → ¬ y ≡ 0 → f y ≡ unless x f rest
+  names e h = ap f e ∙ sym (ap (λ b. cond b rest (f x)) (ne-eqb x 0 (λ z. h (e ∙ z))))
+
+  pub passes : x ≡ 0 → rest ≡ unless x f rest
+  passes z = sym (ap (λ b. cond b rest (f x)) (eq-eqb x 0 z))
 
 -- a check hands everything on, or refuses whatever comes after it
 abbrev Check : (Refusal → Refusal) → Type 0
@@ -89,15 +99,18 @@ structured s e =
     }
 
 -- an accepted file passed every check
-pub sound : (s : List ℕ) → refusalOf s ≡ Accepted → Structured s × (lockFault (programOf s) ≡ 0)
+pub sound : (s : List ℕ) → refusalOf s ≡ Accepted
+    → Structured s × (lockFault (programOf s) ≡ 0) × (lockOrder (programOf s) ≡ 0)
 unfolding refusalOf
 sound s e = go (structure-check s)
   where
-    go : Check (structureThen s) → Structured s × (lockFault (programOf s) ≡ 0)
-    go (inl p) = (
-      structured s (p Accepted),
-      past-record (lockFault (programOf s)) LockFault Accepted (omega arith) (sym (p _) ∙ e) .0,
-    )
+    go : Check (structureThen s) → Structured s × (lockFault (programOf s) ≡ 0) × (lockOrder (programOf s) ≡ 0)
+    go (inl p) =
+        let e8 = past-record (lockFault (programOf s)) LockFault _ (omega arith) (sym (p _) ∙ e) in (
+          structured s (p Accepted),
+          e8 .0,
+          past-record (lockOrder (programOf s)) LockOrder Accepted (omega arith) (e8 .1) .0,
+        )
     go (inr p) = absurd (omega (arith, p .1, ap numberOf (sym (p .2 _) ∙ e)))
 
 -- an accepted verdict is on the file's own kernel
@@ -115,3 +128,4 @@ accepted-as s k e = go (refusalOf s) refl e
     go (ChainTooLong r) h e = let z : _≡_ {A = ℕ} 0 1 = cc in absurd (omega arith)
     go (BadTarget r) h e = let z : _≡_ {A = ℕ} 0 1 = cc in absurd (omega arith)
     go (LockFault r) h e = let z : _≡_ {A = ℕ} 0 1 = cc in absurd (omega arith)
+    go (LockOrder r) h e = let z : _≡_ {A = ℕ} 0 1 = cc in absurd (omega arith)

@@ -19,7 +19,7 @@ use Rattle.machine_spec.specs.declared.Machine.{Machine}
 use Rattle.machine_state.specs.States.{Blocks, countOf, stateIn}
 use Rattle.machine_run.specs.Counts.{Counts}
 use Rattle.machine_start.proofs.Answered.{not-refused}
-use Rattle.machine_start.proofs.Laws.Programs.{programs-many}
+use Rattle.machine_spec.proofs.Levels.{programs-many}
 use Rattle.machine_start.proofs.Laws.Files.{ran-number}
 use Rattle.machine_course.specs.declared.course.Course.{Course}
 use Rattle.machine_course.specs.Stands.{answerBy, Prepared, Stands}

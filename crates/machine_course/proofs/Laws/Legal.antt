@@ -10,7 +10,7 @@ use Rattle.file_format.specs.Accepted.{Program}
 use Rattle.file_verdict.specs.declared.refusal.Refusal.{Refusal}
 use Rattle.file_verdict.specs.declared.refusal.Refusal.the-variants.{Accepted, TruncatedHeader, BadHeader, BadLength}
 use Rattle.file_verdict.specs.declared.refusal.Refusal.the-variants.{BadRecord, BadLinkage, ChainTooLong, BadTarget}
-use Rattle.file_verdict.specs.declared.refusal.Refusal.the-variants.{LockFault}
+use Rattle.file_verdict.specs.declared.refusal.Refusal.the-variants.{LockFault, LockOrder}
 use Rattle.file_verdict.specs.Verdict.{Verdict, refused, accepted, verdict, verdictFrom, refusalOf}
 use Rattle.file_format.specs.Accepted.{programOf}
 use Rattle.machine_spec.specs.Schedule.{Move, limit, legal}
@@ -47,6 +47,7 @@ refused-number s n r = go (refusalOf s)
     go (ChainTooLong q) e = let z : 6 ≡ n = cc in omega arith
     go (BadTarget q) e = let z : 7 ≡ n = cc in omega arith
     go (LockFault q) e = let z : 8 ≡ n = cc in omega arith
+    go (LockOrder q) e = let z : 12 ≡ n = cc in omega arith
 
 module _ (m : Machine) (s : List ℕ) (mvs : List Move) where
   abbrev lets : Program → List Move → Bool

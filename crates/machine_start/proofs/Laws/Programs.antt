@@ -36,13 +36,6 @@ module _ (k : Program) where
     pub programs-read : (m : Machine) (rest : List ℕ) → readSheet (sheetBytes (levelOf m) k ++ rest) ≡ programFor m k
     programs-read m rest = lawful-back (levelOf m) k rest w ∙ sym (program-lanes k w m)
 
-    -- one for each lane
-    pub programs-many : (m : Machine) → length (programFor m k) ≡ length (k .lanes)
-    programs-many m =
-        ap length (program-lanes k w m)
-        ∙ length-map (placedLanes (levelOf m) k) sheet
-        ∙ length-map (k .lanes) (placed (levelOf m) (volatileIn k))
-
     -- of at most 128 instructions
     programs-short : (m : Machine) (t : ℕ) → length (getD (programFor m k) t []) ≤ 128
     programs-short m t =

@@ -28,7 +28,7 @@ use Rattle.machine_run.specs.Counts.{Counts}
 use Rattle.machine_start.proofs.Answered.{not-refused, shape}
 use Rattle.machine_start.proofs.Reached.{runs-by}
 use Rattle.machine_start.specs.Setup.{AtStart}
-use Rattle.machine_start.proofs.Laws.Programs.{programs-many}
+use Rattle.machine_spec.proofs.Levels.{programs-many}
 
 entry-smaller : {ls ks : ℕ} → ls ≤ 16 → ks ≤ 4 → (e : Entry) → EntrySmall ls ks e → EntrySmall 16 4 e
 entry-smaller wl wk (write x v) h = (omega (arith, h .0), h .1)

@@ -20,7 +20,7 @@ returns c =
     short-printed pageText (s .args .file .now) (s .args .out .now) (told short (w .write-page .ensures))
 
 -- the number and the record of a refusal are small
-few : (a : tie.After-answer2) → (a .answer2 .given .0 .0 ≤ 9) × (a .answer2 .given .0 .1 .0 ≤ 256)
+few : (a : tie.After-answer2) → (a .answer2 .given .0 .0 ≤ 12) × (a .answer2 .given .0 .1 .0 ≤ 256)
 few a =
     let w = a .before .before .before .before in
     let s = w .before .before .before .before in

@@ -1,4 +1,5 @@
--- `file_accept::accept::linked_refusal` meets its contract: each return is the first of checks 5 to 8 that refuses.
+-- `file_accept::accept::linked_refusal` meets its contract: each return is the first of checks 5 to 8 and 12 that
+-- refuses.
 use Prim.Native.Nat.{ℕ, _+_, _*_}
 use mathlib.Core.Path.{_≡_, sym, _∙_}
 use mathlib.Core.List.{List}
@@ -10,7 +11,7 @@ use Rattle.file_format.specs.Structured.{Structured}
 use Rattle.sheet_format.specs.declared.Level.the-variants.{Level0}
 use Rattle.sheet_format.specs.Bytes.{sheetBytes}
 use Rattle.file_rows.proofs.Laws.Whole.{chains-counted}
-use Rattle.file_accept.proofs.Laws.Checks.{refuses5, refuses6, refuses7, refuses8, accepts}
+use Rattle.file_accept.proofs.Laws.Checks.{refuses5, refuses6, refuses7, past7}
 use Rattle.file_accept.proofs.Laws.Order.{front-is-lane-order}
 use borrow.Author.Needs.{needs}
 use Rattle.file_accept.proofs.accept.linked_refusal.Statement.{statement}
@@ -104,8 +105,8 @@ write-chains-requires c κs =
       (structured s, walk f .link .ensures .1 (linked f)),
     )
 
-lock-fault-requires : tie.Need-lock-fault-requires
-lock-fault-requires c κs =
+lock-refusal-requires : tie.Need-lock-refusal-requires
+lock-refusal-requires c κs =
     let w = c .before .before .before .before .before in
     let s = w .before .before .before .before .before in
     let f = first (second s) in (
@@ -118,24 +119,11 @@ lock-fault-requires c κs =
 
 returns-4 : tie.Need-returns-4
 returns-4 c =
-    let w = c .before .before .before .before .before .before .before in
+    let w = c .before .before .before .before .before .before in
     let s = w .before .before .before .before .before in
     let f = first (second s) in
     let ok = structured s in (
-      refuses8 _ (ok .linkage) (ok .chains) (ok .targets) (c .before .lock-fault .ensures) (c .if4 .taken),
-      (
-        λ z5 z6 z7. (w .write-chains .ensures, counted s),
-        λ z5 z6 z7. front-is-lane-order ok (walk f .link .ensures .1 (linked f)),
-      ),
-    )
-
-returns-5 : tie.Need-returns-5
-returns-5 c =
-    let w = c .before .before .before .before .before .before .before in
-    let s = w .before .before .before .before .before in
-    let f = first (second s) in
-    let ok = structured s in (
-      accepts _ (ok .linkage) (ok .chains) (ok .targets) (c .before .lock-fault .ensures) (c .if4 .left),
+      c .lock-refusal .ensures ∙ past7 _ (ok .linkage) (ok .chains) (ok .targets),
       (
         λ z5 z6 z7. (w .write-chains .ensures, counted s),
         λ z5 z6 z7. front-is-lane-order ok (walk f .link .ensures .1 (linked f)),
@@ -147,5 +135,4 @@ linked-refusal-spec =
     tie.close
     (tie.spec link-requires (λ c. search needs) (λ c. search needs) returns too-long-requires (λ c. search needs)
     (λ c. search needs) returns-2 bad-target-requires (λ c. search needs) (λ c. search needs) returns-3
-    write-chains-requires lock-fault-requires (λ c. search needs) (λ c. search needs) (λ c. search needs) returns-4
-    (λ c. search needs) (λ c. search needs) (λ c. search needs) returns-5)
+    write-chains-requires lock-refusal-requires (λ c. search needs) (λ c. search needs) (λ c. search needs) returns-4)
