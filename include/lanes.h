@@ -64,7 +64,8 @@ uint64_t lanes_page(const uint8_t *kernel, size_t kernel_len, uint8_t *page, siz
  * which 0 carries out the lane's next instruction and k, up to 64, on the tso machine 1, commits its k-th oldest
  * pending entry. `state` receives the state record at the end. Its first byte is 1 where the run is finished: every
  * lane stands at its end and nothing is pending, so that no further move changes its memory. Until then some lane has
- * a permitted move with choice 0 or 1: no kernel that is accepted can be run into a dead end. */
+ * a permitted move with choice 0 or 1, and at most twice as many moves are done as the lanes have instructions: whoever
+ * goes on with permitted moves finishes. */
 uint64_t lanes_run_source(const uint8_t *kernel, size_t kernel_len, const uint8_t *moves, size_t moves_len,
                           uint8_t *state, size_t state_len);
 uint64_t lanes_run_tso(const uint8_t *kernel, size_t kernel_len, const uint8_t *moves, size_t moves_len,

@@ -21,13 +21,22 @@ const TWO_PAGES: &str = "r0=1; x0=r0; r0+=r0; x1=r0; r0+=r0; x2=r0; r0+=r0; x3=r
     r2=x5; r1+=r2; r2=x6; r1+=r2; r2=x7; r1+=r2; r2=x8; r1+=r2; r2=x9; r1+=r2; \
     lock l; r3=x10; r3+=r1; x10=r3; unlock l; x14=1; r4=x15";
 
+/// Both lanes take lock 0 first. With the locks of lane 1 the other way each could wait for the other: refused.
+const NESTED_LOCKS: &str = "lock l0; lock l1; x=1; y=1; unlock l1; unlock l0 \
+    ‖ lock l0; lock l1; r0=x; r1=y; unlock l1; unlock l0";
+
+const CROSSED_LOCKS: &str = "lock l0; lock l1; x=1; y=1; unlock l1; unlock l0 \
+    ‖ lock l1; lock l0; r0=x; r1=y; unlock l0; unlock l1";
+
 /// Name, locations, volatile ones, lanes.
-const EXAMPLES: [(&str, &str, &str, &str); 8] = [
+const EXAMPLES: [(&str, &str, &str, &str); 10] = [
     ("store-buffering-mask-3", "x y", "{x y}", STORE_BUFFERING),
     ("store-buffering-mask-1", "x y", "{x}", STORE_BUFFERING),
     ("store-buffering-mask-0", "x y", "{}", STORE_BUFFERING),
     ("message-passing", "data flag", "{flag}", "data=5; flag=1 ‖ r0=flag; skip r0 end; r1=data"),
     ("lock-hand-over", "x", "{}", "lock l; x=1; unlock l ‖ lock l; r0=x; unlock l"),
+    ("nested-locks", "x y", "{}", NESTED_LOCKS),
+    ("crossed-locks", "x y", "{}", CROSSED_LOCKS),
     ("skip-over-volatile-load", "x y z", "{x y}", "r1=z; x=1; skip r1 D; r2=y; D:; r3=y ‖ y=1; z=1"),
     ("four-lanes", SIXTEEN, "{x8 x10 x13 x15}", FOUR_LANES),
     ("two-pages", SIXTEEN, "{x14 x15}", TWO_PAGES),

@@ -6,7 +6,7 @@ use mathlib.Core.Option.{Option, none, some}
 use Prim.Native.Nat.{ℕ, zero, suc, _^_, _≤_, _<_}
 use native.Mathlib.Omega.{arith}
 use lib.Dec.{eqb}
-use lib.ListN.{length, getD, getElem?, take, length-set, length-append, set as update}
+use lib.ListN.{length, getD, getElem?, take, length-set, set as update}
 use Rattle.laws.proofs.Bools.{cond-by}
 use Rattle.laws.proofs.Lists.{some-at, getElem?-map, set-all}
 use Rattle.file_format.specs.declared.accepted.Op.{Op}
@@ -21,7 +21,7 @@ use Rattle.machine_spec.specs.Step.{valueOf}
 use Rattle.machine_spec.specs.Step.{loads, after, next, emit, locked, coreAfter, effect, execute, landed, freed, settle}
 use Rattle.machine_spec.specs.Step.{committed, commit, turn}
 use Rattle.machine_spec.specs.Shape.{EntrySmall, AllSmall}
-use Rattle.claims.proofs.Laws.Pending.{length-without}
+use Rattle.claims.proofs.Laws.Pending.{length-append-entry, length-without}
 
 -- ## pending lists
 
@@ -122,10 +122,6 @@ module _ (n ls ks : ℕ) (os : List Op) (w : LawfulLane ls ks os) (vol : ℕ →
           jump false = (omega arith, inside)
 
   -- the pending list
-  emit-few : (e : Option Entry) → length (appendEntry (c .pending) e) ≤ suc (length (c .pending))
-  emit-few none = omega arith
-  emit-few (some e) = omega (arith, length-append (c .pending) (e ∷ []))
-
   emit-small : (o : Op) → At o → AllSmall ls ks (appendEntry (c .pending) (emit c o))
   emit-small (Set a m) e = h .entries
   emit-small (Add a b) e = h .entries
@@ -160,7 +156,7 @@ module _ (n ls ks : ℕ) (os : List Op) (w : LawfulLane ls ks os) (vol : ℕ →
   op-fit : (o : Op) → At o → Fit n ls ks (length os) (next c o (i .pos)) (coreAfter Source vol (suc t) c o)
   op-fit o e = record {
     place = next-within o e .1;
-    few = omega (arith, h .few, emit-few (emit c o), next-within o e .0);
+    few = omega (arith, h .few, length-append-entry (c .pending) (emit c o), next-within o e .0);
     regs-count = after-count o;
     regs-small = after-small o e;
     entries = emit-small o e;

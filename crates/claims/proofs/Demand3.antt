@@ -184,7 +184,7 @@ module _ (k : Program) (w : Lawful k) where
   ran-to Source = source-ran
   ran-to (Target m) = target-ran m
 
-  program-within : (m : Machine) (mvs : List Move) → legal n (limit m) mvs ≡ true
+  pub program-within : (m : Machine) (mvs : List Move) → legal n (limit m) mvs ≡ true
       → Within (programFor m k) (runProgram m k mvs .state)
   program-within m mvs le =
       let x = ran-to m mvs le in

@@ -181,6 +181,13 @@ some-limit Source = omega arith
 some-limit (Target Tso) = omega arith
 some-limit (Target Pso) = omega arith
 
+-- with a move of a lane below n at choice 0 or 1 behind it, a schedule stays legal
+pub legal-with : (m : Machine) (n : ℕ) (mvs : List Move) (t c : ℕ) → legal n (limit m) mvs ≡ true → t < n → c ≤ 1
+    → legal n (limit m) (mvs ++ (move t c ∷ [])) ≡ true
+legal-with m n mvs t c le lt small =
+    legal-append n (limit m) mvs (move t c ∷ []) le
+    (rw (lt-ltb t n lt, le-leb c (limit m) (omega (arith, some-limit m))))
+
 -- a move that is not refused is done, or waits
 counted : (r s : Run) (t p : ℕ) (u : Turn) → applyTurn r t p u ≡ ran s → (s .done ≡ suc (r .done)) ⊎ (u ≡ waits)
 counted r s t p waits e = inr refl
@@ -250,9 +257,7 @@ module _ (k : Program) (w : Lawful k) where
       tried : (t c : ℕ) → t < n → c ≤ 1 → Done t c ⊎ (turnOf t c ≡ waits)
       tried t c lt small =
           let more = mvs ++ (move t c ∷ []) in
-          let longer : legal n (limit m) more ≡ true =
-          legal-append n (limit m) mvs (move t c ∷ []) le
-          (rw (lt-ltb t n lt, le-leb c (limit m) (omega (arith, some-limit m)))) in
+          let longer = legal-with m n mvs t c le lt small in
           let y = ran-to k w m more longer in
           let on : advance m vol (programFor m k) (ran r) (move t c) ≡ ran (y .0) = rw (foldl-append, e) at (y .1) in
           elim (counted r (y .0) t (rank (getD (programFor m k) t []) (posAt (r .state) t)) (turnOf t c) on) [

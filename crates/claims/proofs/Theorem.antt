@@ -9,6 +9,7 @@ use Rattle.claims.proofs.Demand2.{records, demand2, placement, codes, w
 use Rattle.claims.proofs.Demand3.{demand3, runs, bounds}
 use Rattle.claims.proofs.Over.{over}
 use Rattle.claims.proofs.Progress.{progress}
+use Rattle.claims.proofs.Finishes.{finishes}
 
 pub claims : (s : List ℕ) (k : Program) → verdict s ≡ accepted k → Claims s k
 claims s k e = record {
@@ -21,6 +22,7 @@ claims s k e = record {
   demand3 = demand3 s k e;
   over = over s k e;
   progress = progress s k e;
+  finishes = finishes s k e;
   runs = runs s k e;
   bounds = bounds s k e;
 }

@@ -7,7 +7,7 @@ use mathlib.Core.Bool.{Bool, true, false, _&&_}
 use mathlib.Core.List.{List, [], _∷_, _++_, map}
 use mathlib.Core.Logic.{_≢_, _⊎_, _↔_}
 use mathlib.Core.Option.{none, some}
-use Prim.Native.Nat.{ℕ, suc, _≤_, _<_}
+use Prim.Native.Nat.{ℕ, suc, _+_, _*_, _≤_, _<_}
 use lib.ListN.{length, getD, getElem?}
 use Rattle.file_format.specs.declared.accepted.Op.{Op}
 use Rattle.file_format.specs.Fields.{recordCount}
@@ -214,6 +214,18 @@ Progress s k = (m : Machine) (mvs : List Move) → legal (length (k .lanes)) (li
     → (runFile m s mvs .finished ≡ true)
     ⊎ ((t : ℕ) × (c : ℕ) × (t < length (k .lanes)) × (c ≤ 1) × Permitted m s mvs (move t c))
 
+-- how many instructions the lanes of a program have
+abbrev pub instructionsIn : List (List Instr) → ℕ
+instructionsIn [] = 0
+instructionsIn (is ∷ prog) = length is + instructionsIn prog
+
+-- however the moves are chosen, at most twice as many are done as the lanes have instructions; so whoever goes on with
+-- permitted moves comes to the end: every run is finished with some more of them
+pub record Finishes (s : List ℕ) (k : Program) : Type 0 where
+  pub few : (m : Machine) (mvs : List Move) → runFile m s mvs .done ≤ 2 * instructionsIn (programFor m k)
+  pub last : (m : Machine) (mvs : List Move) → legal (length (k .lanes)) (limit m) mvs ≡ true
+      → (more : List Move) × (legal (length (k .lanes)) 1 more ≡ true) × (runFile m s (mvs ++ more) .finished ≡ true)
+
 -- ## number 11
 
 -- a schedule that is not refused with 10 runs to its end: no run meets an UNLOCK whose lock its lane does not hold
@@ -272,5 +284,6 @@ pub record Claims (s : List ℕ) (k : Program) : Type 0 where
   pub demand3 : (m : Model) → Demand3 m s k
   pub over : Over s k
   pub progress : Progress s k
+  pub finishes : Finishes s k
   pub runs : Runs s k
   pub bounds : Bounds s k

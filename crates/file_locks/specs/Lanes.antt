@@ -28,6 +28,10 @@ pub record LaneIn (rows : List ℕ) (n : ℕ) (ops : List Op) : Type 0 where
   pub within : (p : ℕ) → p < length ops → fieldsOf (getD ops p noOp) .code ≡ 7 → fieldsOf (getD ops p noOp) .word ≤ n
   pub named : (p : ℕ) → p < length ops → Named (getD ops p noOp)
 
+-- both rules are kept at every position
+abbrev pub Clean : List Op → Type 0
+Clean ops = (faultPosition ops ≡ 0) × (descentPosition ops ≡ 0)
+
 -- the positions of a lane's operations: where the held-set rule is broken, and where it is not, of the first LOCK that
 -- descends
 abbrev pub PositionsOf : List Op → Found → Type 0

@@ -53,6 +53,11 @@ barred w code = cond (eqb code 5) w (w / 2 ^ 4)
 abbrev pub wrongAt : ℕ → ℕ → ℕ → Bool
 wrongAt w code bit = differ w || meets (barred w code) bit
 
+-- one of the two rules may be broken: a LOCK while its own lock or a higher one is held is told as one; as numbers, the
+-- locks from that of `bit` up are 16 - bit
+abbrev pub suspectAt : ℕ → ℕ → ℕ → Bool
+suspectAt w code bit = differ w || meets (barred w code) (cond (eqb code 5) (16 - bit) bit)
+
 -- the operation takes the lock of `bit`, and the set on the ways has a lock that is not below it: as numbers, a set has
 -- a lock of number b or more exactly when it is at least 2^b
 abbrev pub descendsAt : ℕ → ℕ → ℕ → Bool

@@ -31,7 +31,8 @@ const ENDED: [(&str, &str, &str, &str); 5] = [
 const OVERTAKING: (&str, &str) = ("overtaking.moves", "0 0; 0 0; 0 0; 0 0; 0 0; 0 2; 1 0; 1 0; 0 1; 0 1");
 
 /// Rows of the litmus tables, under their first set of volatile locations and under their last.
-const LITMUS: [&str; 12] = ["SB", "MP", "LB", "S", "R", "2+2W", "CoRR", "n5", "WRC", "IRIW", "lock-SB", "SB+mfences"];
+const LITMUS: [&str; 13] =
+    ["SB", "MP", "LB", "S", "R", "2+2W", "CoRR", "n5", "WRC", "IRIW", "lock-SB", "SB+mfences", "nested-upward"];
 
 fn main() -> Result<(), String> {
     let folder = env::args().nth(1).ok_or("vectors FOLDER")?;
@@ -60,7 +61,7 @@ fn main() -> Result<(), String> {
     write("stdout", expected.as_bytes())
 }
 
-/// The paper's examples that are executed.
+/// The papers' examples that are executed.
 fn examples() -> Result<Vec<(String, Vec<u8>)>, String> {
     let sets = |count: usize| assemble("x", &vec!["r0=1"; count].join("; ")).map(|assembled| assembled.file(0));
     let mut chained = sets(3)?;
@@ -70,6 +71,7 @@ fn examples() -> Result<Vec<(String, Vec<u8>)>, String> {
     let mut five_lanes = sets(1)?;
     five_lanes[0] = 5;
     let locked_twice = assemble("x", "lock l; lock l; unlock l")?.file(0);
+    let downward = assemble("x", "lock l1; lock l0; unlock l0; unlock l1")?.file(0);
     let files = [
         ("no-records", assemble("x", "")?.file(0)),
         ("64-records", sets(64)?),
@@ -79,6 +81,7 @@ fn examples() -> Result<Vec<(String, Vec<u8>)>, String> {
         ("15-bytes", sets(0)?[..15].to_vec()),
         ("5-lanes", five_lanes),
         ("locked-twice", locked_twice),
+        ("locks-downward", downward),
     ];
     Ok(files.map(|(name, file)| (format!("{name}.kernel"), file)).to_vec())
 }

@@ -23,7 +23,7 @@ start-suc (x ∷ ps) zero h = omega (arith, start-zero ps)
 start-suc (x ∷ ps) (suc p) h = omega (arith, start-suc ps p (omega arith))
 
 -- a later operation begins behind an earlier one
-start-later : {A : Type 0} (ps : List (Placed A)) (p q : ℕ) → p < q → p < length ps → opAt ps p < start ps q
+pub start-later : {A : Type 0} (ps : List (Placed A)) (p q : ℕ) → p < q → p < length ps → opAt ps p < start ps q
 start-later [] p q l h = absurd (not-suc-le-zero h)
 start-later (x ∷ ps) p zero l h = absurd (not-suc-le-zero l)
 start-later (x ∷ ps) zero (suc q) l h = omega arith

@@ -1,11 +1,11 @@
--- Laws of updating one lane of a state.
-use mathlib.Core.Path.{_≡_, sym, subst}
-use mathlib.Core.List.{List, []}
+-- Laws of updating one lane of a state, and of sums over its lanes.
+use mathlib.Core.Path.{_≡_, refl, sym, subst}
+use mathlib.Core.List.{List, [], _∷_}
 use mathlib.Core.Logic.{_≢_}
-use Prim.Native.Nat.{ℕ, _<_}
+use Prim.Native.Nat.{ℕ, zero, suc, _+_, _<_}
 use native.Mathlib.Decide.{decLt}
 use native.Mathlib.Omega.{arith}
-use lib.ListN.{length, length-set, replicate, List·getD-eq-default}
+use lib.ListN.{length, getD, set, length-set, replicate, List·getD-eq-default}
 use lib.Seq.{getD-set-same, set-getD}
 use Rattle.laws.proofs.Lists.{set-each, pointwise-set, getD-replicate-all}
 use Rattle.machine_spec.specs.Step.{Control, Core}
@@ -48,3 +48,22 @@ lane-each P a n e p h t = go (decLt t n)
     go : Dec (t < n) → P (laneAt a t)
     go (yes lt) = h t lt
     go (no ge) = subst P (sym (List·getD-eq-default (a .lanes) idle {n = t} (omega arith))) p
+
+-- ## a number of each lane, added up
+
+abbrev pub summed : (Lane → ℕ) → List Lane → ℕ
+summed f [] = 0
+summed f (l ∷ ls) = f l + summed f ls
+
+-- where one lane is put, what that lane has changes the sum
+pub summed-set : (f : Lane → ℕ) (ls : List Lane) (t : ℕ) (l : Lane) → t < length ls
+    → summed f (set ls t l) + f (getD ls t idle) ≡ summed f ls + f l
+summed-set f [] t l h = absurd (omega arith)
+summed-set f (x ∷ ls) zero l h = omega arith
+summed-set f (x ∷ ls) (suc t) l h = omega (arith, summed-set f ls t l (omega arith))
+
+-- at the start of a run, where each lane has none
+pub start-summed : (f : Lane → ℕ) (n : ℕ) (m : List ℕ) (k : ℕ)
+    → f (record { control = atStart; regs = replicate 8 0; pending = [] }) ≡ 0 → summed f (startState n m k .lanes) ≡ 0
+start-summed f zero m k e = refl
+start-summed f (suc n) m k e = omega (arith, start-summed f n m k e)

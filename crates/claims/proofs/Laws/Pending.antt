@@ -3,15 +3,15 @@ use mathlib.Core.Path.{_≡_, refl, ap, sym, subst, _∙_}
 use mathlib.Core.Bool.{Bool, true, false, _||_, cond, false≢true}
 use mathlib.Core.List.{List, [], _∷_, _++_}
 use mathlib.Core.Logic.{_⊎_, inl, inr}
-use mathlib.Core.Option.{some}
+use mathlib.Core.Option.{Option, none, some}
 use Prim.Native.Nat.{ℕ, zero, suc, _≤_, _<_}
 use native.Mathlib.Decide.{decLt}
 use native.Mathlib.Omega.{arith}
 use lib.Dec.{eqb}
-use lib.ListN.{length, getElem?, take}
+use lib.ListN.{length, getElem?, take, length-append}
 use borrow.Author.Tests.{eqb-true}
 use Rattle.laws.proofs.Bools.{or-right, or-false, or-swap, or-mono, by-test}
-use Rattle.machine_spec.specs.Entries.{Entry, write, release, isSync, anySync, isNil, newest, without}
+use Rattle.machine_spec.specs.Entries.{Entry, write, release, isSync, anySync, isNil, newest, appendEntry, without}
 use Rattle.machine_spec.specs.declared.Machine.{Machine}
 use Rattle.machine_spec.specs.declared.Machine.the-variants.{Source, Target}
 use Rattle.machine_spec.specs.declared.Model.the-variants.{Tso, Pso}
@@ -59,7 +59,11 @@ oldest-commits (Target Tso) vol ks [] e h = refl
 oldest-commits (Target Pso) vol ks [] e h = rw (none-before-oldest ks)
 oldest-commits Source vol ks [] e h = by-test (λ b. cond b true true ≡ true) refl refl (isSync vol e)
 
--- ## lists that lose an entry
+-- ## lists that get an entry, or lose one
+
+pub length-append-entry : (es : List Entry) (x : Option Entry) → length (appendEntry es x) ≤ suc (length es)
+length-append-entry es none = omega arith
+length-append-entry es (some e) = omega (arith, length-append es (e ∷ []))
 
 pub length-without : (es : List Entry) (i : ℕ) (e : Entry) → getElem? es i ≡ some e
     → length es ≡ suc (length (without i es))

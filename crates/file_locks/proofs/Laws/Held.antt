@@ -19,7 +19,7 @@ use Rattle.sheet_rows.specs.Rows.{rowIn}
 use Rattle.sheet_rows.specs.Lanes.{fieldsOf}
 use Rattle.sheet_rows.proofs.Laws.Lanes.{held-fields}
 use Rattle.file_locks.specs.Sets.{jumpOr, noJump, locksIn, meets, ways, lockBit, barred, descendsAt}
-use Rattle.file_locks.specs.Lanes.{Named, LaneIn}
+use Rattle.file_locks.specs.Lanes.{Named, LaneIn, Clean, RecordsOf}
 use Rattle.file_locks.proofs.Laws.Locks.{other-wrong, other-next}
 use Rattle.file_locks.proofs.Laws.Locks.{lock-wrong, lock-descends, lock-next, unlock-wrong, unlock-next}
 
@@ -115,6 +115,14 @@ record-is order from zero h = absurd (h refl)
 record-is order from (suc i) h =
     let place : from + suc i - 1 ≡ from + i = omega arith in
     ap (λ k. getD order k 0) place ∙ sym (getD-drop from order i 0)
+
+-- in a lane that keeps both rules no record is named
+pub clean-records : (rs : List ℕ) (ops : List Op) → Clean ops → RecordsOf rs ops (record { fault = 0; descent = 0 })
+unfolding recordAt
+clean-records rs ops clean =
+    let place : 0 ≡ min 0 (length rs) = omega arith in
+    let first : 0 ≡ getD (0 ∷ rs) (min 0 (length rs)) 0 = ap (λ i. getD (0 ∷ rs) i 0) place in
+    (rw (clean .0) first, λ z. rw (clean .1) first)
 
 -- the place x cut to the n records of a lane that begins there
 pub record-cut : (order : List ℕ) (from n x : ℕ) {i : ℕ} → from + n ≤ length order → i ≡ min x n

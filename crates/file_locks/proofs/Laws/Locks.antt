@@ -2,20 +2,21 @@
 -- table of all.
 use Prim.Native.Nat.{ℕ, _*_, _%_, _^_, _≤_, _<_}
 use mathlib.Core.Path.{_≡_, refl, ap, sym, _∙_}
-use mathlib.Core.Bool.{Bool, true, false, not, cond, _||_}
+use mathlib.Core.Bool.{Bool, true, false, not, cond, _&&_, _||_}
 use mathlib.Core.List.{[]}
 use native.Mathlib.Nat.{mod-lt}
 use native.Mathlib.Omega.{arith}
-use borrow.Author.Tests.{ltb-true, ne-eqb, eqb-true, eqb-false}
+use borrow.Author.Tests.{ltb-true, ne-eqb, eqb-true, eqb-false, not-true}
 use lib.Bits.{bitOr, bitXor, and-zero-r, xor-zero-r, or-lt, or-add-and, and-le-l, and-le-r}
 use lib.Dec.{eqb, ltb}
 use lib.ListN.{getD, set}
 use mir.Val.{boolByte}
-use Rattle.laws.proofs.Bools.{by-test}
+use Rattle.laws.proofs.Bools.{and-true, by-test}
 use Rattle.laws.proofs.Numbers.{table-at, values-at, bitOr-assoc}
 use Rattle.file_format.specs.Held.{same}
 use Rattle.file_format.specs.Rising.{allBelow}
-use Rattle.file_locks.specs.Sets.{locksIn, meets, ways, differ, lockBit, barred, wrongAt, descendsAt, afterRow}
+use Rattle.file_locks.specs.Sets.{locksIn, meets, ways, differ, lockBit, barred, wrongAt, suspectAt, descendsAt}
+use Rattle.file_locks.specs.Sets.{afterRow}
 
 -- equal sets have equal numbers
 pub locks-same : (h g : ℕ) → h < 16 → g < 16 → same (locksIn h) (locksIn g) ≡ eqb h g
@@ -139,3 +140,29 @@ module _ (h l : ℕ) (few : h < 16) (near : l < 4) where
       let cell = table-at (λ (x y : ℕ). cond (not (getD (locksIn x) y false)) [] (locksIn (bitXor x (lockBit 6 y))))
       (λ x y. cond (not (getD (locksIn x) y false)) [] (set (locksIn x) y false)) 16 4 refl h l few near in
       rw right at cell
+
+-- ## a row that is not suspect
+
+-- neither rule is broken there
+abbrev Kept : ℕ → ℕ → ℕ → Type 0
+Kept w code bit = (wrongAt w code bit ≡ false) × (descendsAt w code bit ≡ false)
+
+lock-kept : (w l : ℕ) → w < 256 → l < 4 → suspectAt w 5 (lockBit 5 l) ≡ false → Kept w 5 (lockBit 5 l)
+lock-kept w l small near e =
+    let cell = table-at
+    (λ (x y : ℕ). cond (suspectAt x 5 (lockBit 5 y)) true
+    (not (wrongAt x 5 (lockBit 5 y)) && not (descendsAt x 5 (lockBit 5 y))))
+    (λ x y. true) 256 4 refl w l small near in
+    let both = and-true _ _ (ap (λ b. cond b true
+    (not (wrongAt w 5 (lockBit 5 l)) && not (descendsAt w 5 (lockBit 5 l)))) (sym e) ∙ cell) in
+    (not-true _ (both .0), not-true _ (both .1))
+
+pub unsuspected : (w code l : ℕ) → w < 256 → (5 ≤ code → l < 4) → suspectAt w code (lockBit code l) ≡ false
+    → Kept w code (lockBit code l)
+unsuspected w code l small near e = go (eqb code 5) refl
+  where
+    go : (b : Bool) → eqb code 5 ≡ b → Kept w code (lockBit code l)
+    go false h = (rw h (rw h at e), rw h)
+    go true h =
+        let is : code ≡ 5 = eqb-true code 5 h in
+        rw is (lock-kept w l small (near (omega arith)) (rw is at e))

@@ -2,26 +2,26 @@
 use Prim.Native.Nat.{ℕ, _+_, _-_, _*_, _%_, _≤_, _<_}
 use mathlib.Core.Path.{_≡_, refl, sym, ap, ap₂, _∙_}
 use mathlib.Core.Bool.{Bool, true, false, not, cond}
-use mathlib.Core.List.{List}
+use mathlib.Core.List.{List, [], _∷_}
 use mathlib.Core.Option.{some}
 use native.Mathlib.Omega.{arith}
 use borrow.Author.Tests.{eq-eqb, ne-eqb}
-use lib.Bits.{bitOr, bitXor, xor-lt}
+use lib.Bits.{bitOr, bitXor, or-lt, xor-lt}
 use lib.Dec.{eqb}
 use lib.ListN.{length, getD, set, replicate}
 use Rattle.laws.proofs.Bools.{or-false}
 use Rattle.laws.proofs.Lists.{at-some}
 use Rattle.file_format.specs.declared.accepted.Op.{Op}
-use Rattle.file_format.specs.Held.{held, heldFrom, misuse, faultAt, faultPosition}
-use Rattle.file_format.specs.Rising.{descentAt}
+use Rattle.file_format.specs.Held.{same, held, heldFrom, conflictBelow, misuse, faultAt, faultPosition}
+use Rattle.file_format.specs.Rising.{descentAt, descentPosition}
 use Rattle.file_format.specs.Search.{lowest}
 use Rattle.file_format.specs.Stored.{noOp}
 use Rattle.file_format.proofs.Laws.Search.{search-start, search-on, search-found, search-none}
 use Rattle.sheet_rows.specs.Lanes.{fieldsOf}
-use Rattle.file_locks.specs.Sets.{locksIn, meets, ways, differ, lockBit, barred, wrongAt, descendsAt, afterRow}
-use Rattle.file_locks.specs.Sets.{first}
-use Rattle.file_locks.specs.Lanes.{LaneIn}
-use Rattle.file_locks.proofs.Laws.Locks.{agree-same, after-ways, bit-small, skip-after}
+use Rattle.file_locks.specs.Sets.{locksIn, meets, ways, differ, lockBit, barred, wrongAt, suspectAt, descendsAt}
+use Rattle.file_locks.specs.Sets.{afterRow, first}
+use Rattle.file_locks.specs.Lanes.{LaneIn, Clean}
+use Rattle.file_locks.proofs.Laws.Locks.{agree-same, after-ways, ways-small, bit-small, skip-after, unsuspected}
 use Rattle.file_locks.proofs.Laws.Held.{row-code, row-b, row-target, jump-by, row-wrong, row-descends, row-next}
 use Rattle.file_locks.proofs.Laws.Held.{held-on}
 use Rattle.file_locks.proofs.Laws.Descents.{Sought, sought-on}
@@ -30,6 +30,12 @@ use Rattle.file_locks.proofs.Laws.Sets.{LedTo, led-start, led-past, led
 -- the rule is broken at a position counted from 1
 abbrev broken : List Op → ℕ → Bool
 broken ops j = faultAt ops (j - 1)
+
+-- a lane without operations keeps both rules
+pub empty-clean : (ops : List Op) → length ops ≡ 0 → Clean ops
+unfolding faultPosition faultAt conflictBelow heldFrom same descentPosition lowest
+empty-clean [] e = (refl, refl)
+empty-clean (o ∷ ops) e = absurd (omega arith)
 
 -- before row p: the ways there all hold the position's set, what SKIPs led where, and the first fault is at p or behind
 pub record Passed (ops : List Op) (n p w : ℕ) (led : List ℕ) : Type 0 where
@@ -56,6 +62,19 @@ module _ {rows : List ℕ} {n : ℕ} {ops : List Op} (lane : LaneIn rows n ops) 
   }
 
   module _ (p w : ℕ) (led : List ℕ) (at : Passed ops n p w led) where
+    -- at row p, where it is not suspect
+    pub pass-clear : p < n → {bit : ℕ} → bit ≡ lockBit (getD rows (8 * p) 0) (getD rows (8 * p + 2) 0)
+        → suspectAt (bitOr w (getD led p 0)) (getD rows (8 * p) 0) bit ≡ false
+        → (wrongAt (bitOr w (getD led p 0)) (getD rows (8 * p) 0) bit ≡ false)
+        × (descendsAt (bitOr w (getD led p 0)) (getD rows (8 * p) 0) bit ≡ false)
+    pass-clear below {bit} eb e =
+        let small : w < 256 = omega (arith, at .ways-of, ways-small (at .h) (at .few)) in
+        let named = lane .named p (omega (arith, many)) in
+        rw eb
+        (unsuspected (bitOr w (getD led p 0)) (getD rows (8 * p) 0) (getD rows (8 * p + 2) 0)
+        (or-lt 8 w (getD led p 0) small (at .led-to .bytes p))
+        (λ l. omega (arith, row-b lane p below, named (omega (arith, row-code lane p below)))) (rw eb at e))
+
     -- at row p, with the lock that it names
     module _
         (below : p < n) {bit : ℕ} {t : Bool}
