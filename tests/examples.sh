@@ -39,7 +39,7 @@ for program in lanetext lanepage; do
     { cat examples/store-buffering-mask-3.kernel; head -c 100000 /dev/zero; } |
         target/bin/$program | cmp - "$built/long"
 done
-# schedules by hand: a move that no machine has, a line that is no move, a refused kernel, a file that is not there
+# schedules by hand: a move that no machine has, a line that is no move, refused kernels, a file that is not there
 last_line() {
     target/bin/lanerun "$1" "$2" "$3" | tail -n 1 | grep -Fxq "$4" || { echo "lanerun $1 $2 $3: not '$4'"; exit 1; }
 }
@@ -50,6 +50,8 @@ last_line $kernel source examples/store-buffering.moves ran
 last_line $kernel tso "$built/third-lane.moves" 'refused 10 record 0'
 last_line $kernel tso "$built/half.moves" 'schedule line 3 is not a move'
 last_line examples/damaged.kernel tso examples/store-buffering.moves 'refused 5 record 3'
+last_line examples/crossed-locks.kernel pso "$built/third-lane.moves" 'refused 12 record 10'
+last_line examples/nested-locks.kernel pso examples/store-buffering.moves ran
 last_line $kernel tso "$built/none.moves" "cannot read $built/none.moves"
 last_line $kernel both examples/store-buffering.moves 'usage: lanerun KERNEL source|tso|pso SCHEDULE'
 echo "examples: $(ls examples/*.kernel | wc -l) kernels listed, paged, lowered and run as the reference has them"

@@ -236,7 +236,7 @@ fn find_refusal(s: &[u8], rows: &[u8], order: &[u16], ends: &[usize; 4]) -> Refu
     Refusal::Accepted
 }
 
-// The same, in one pass where nothing is wrong.
+// The same, in one pass where nothing is wrong, and in none where the header counts no locks.
 pub fn lock_refusal(s: &[u8], rows: &[u8], order: &[u16], ends: &[usize; 4]) -> Refusal
     requires structure { ⌜ Structured (now s) ⌝ }
     requires order { ⌜ ((place : List ℕ) × Ordered (now s) (now order) place (now ends)) ⌝ }
@@ -244,6 +244,9 @@ pub fn lock_refusal(s: &[u8], rows: &[u8], order: &[u16], ends: &[usize; 4]) -> 
         × (16 + 8 * recordCount (now s) ≤ length own)) ⌝ }
     ensures { λ r. ⌜ r ≡ lockRefusal (programOf (now (s .entry))) ⌝ }
 {
+    if s[2] == 0 {
+        return Refusal::Accepted;
+    }
     let mut from = 0;
     let mut t = 0;
     while t < 4 {

@@ -82,6 +82,18 @@ nothing-found test i (suc k) j pos e lo hi =
         let same : j ≡ i = omega arith in
         ap test same ∙ h
 
+-- a search that no number in its reach ends, and one among names none of which is a record
+pub found-nowhere : (test : ℕ → Bool) (i k : ℕ) → ((j : ℕ) → test j ≡ false) → lowest test i k ≡ 0
+unfolding lowest
+found-nowhere test i zero h = refl
+found-nowhere test i (suc k) h = lowest-on test i k (h i) ∙ found-nowhere test (suc i) k h
+
+pub named-nowhere : (f : ℕ → ℕ) (i k : ℕ) → ((j : ℕ) → j < i + k → f j ≡ 0) → firstOf f i k ≡ 0
+unfolding firstOf
+named-nowhere f i zero h = refl
+named-nowhere f i (suc k) h =
+    firstOf-on f i k (eq-eqb (f i) 0 (h i (omega arith))) ∙ named-nowhere f (suc i) k (λ j l. h j (omega arith))
+
 -- none of them names a record
 pub nothing-named : (f : ℕ → ℕ) (i k j : ℕ) → firstOf f i k ≡ 0 → i ≤ j → j < i + k → f j ≡ 0
 nothing-named f i zero j e lo hi = absurd (omega arith)

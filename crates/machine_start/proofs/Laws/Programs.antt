@@ -4,12 +4,9 @@ use Prim.Native.Nat.{ℕ, zero, suc, _+_, _*_, _≤_, _<_}
 use mathlib.Core.Path.{_≡_, refl, sym, ap, _∙_}
 use mathlib.Core.List.{List, [], _++_}
 use native.Mathlib.Omega.{arith}
-use lib.ListN.{length, getD, drop, length-map, length-append, length-drop}
+use lib.ListN.{length, getD, drop, length-append, length-drop}
 use Rattle.file_format.specs.Accepted.{Program}
 use Rattle.file_format.specs.Lawful.{Lawful}
-use Rattle.sheet_format.specs.Layout.{sheet}
-use Rattle.sheet_format.specs.declared.Level.the-variants.{Level0, Level2}
-use Rattle.sheet_format.specs.Levels.{placed, placedLanes, volatileIn}
 use Rattle.sheet_format.specs.Bytes.{over, sheetBytes}
 use Rattle.sheet_format.specs.Read.{readRows, readSheet}
 use Rattle.sheet_format.proofs.Sizes.{lane-few}

@@ -1,5 +1,4 @@
--- `file_accept::accept::accept` meets its contract: checks 1 to 4, and where they pass checks 5 to 8 and
--- 12.
+-- `file_accept::accept::accept` meets its contract: checks 1 to 4, and where they pass 5 to 8 and 12.
 use mathlib.Core.Path.{refl, sym, ap, _∙_}
 use native.Mathlib.Omega.{arith}
 use borrow.Author.Needs.{needs}
