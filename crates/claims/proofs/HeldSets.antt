@@ -16,7 +16,7 @@ use Rattle.file_format.specs.declared.accepted.Op.{Op}
 use Rattle.file_format.specs.declared.accepted.Op.the-variants.{Set, Add, Load, Store, Lock, Unlock, Skip}
 use Rattle.file_format.specs.Held.{noLocks, same, after, heldFrom, held}
 use Rattle.file_format.proofs.Laws.Search.{all-at}
-use Rattle.file_format.proofs.Laws.Held.{held-length}
+use Rattle.file_format.proofs.Laws.Held.{held-length, held-next}
 use Rattle.file_format.specs.Lawful.{LawfulLane}
 
 -- is l held after an operation, b telling whether it was before
@@ -41,14 +41,6 @@ pub record Disciplined (n : ℕ) (os : List Op) (holding : ℕ → ℕ → Bool)
 
 abbrev pub heldAt : List Op → ℕ → ℕ → Bool
 heldAt os p l = getD (held os p) l false
-
--- one operation more
-held-next : (h : List Bool) (os : List Op) (p : ℕ) (o : Op) → getElem? os p ≡ some o
-    → heldFrom h (take (suc p) os) ≡ after (heldFrom h (take p os)) o
-unfolding heldFrom
-held-next h [] p o e = cc
-held-next h (x ∷ os) zero o e = let q : x ≡ o = cc in ap (after h) q
-held-next h (x ∷ os) (suc p) o e = held-next (after h x) os p o e
 
 -- the lock an operation uses is one of the four
 abbrev LockBelow : ℕ → Op → Type 0

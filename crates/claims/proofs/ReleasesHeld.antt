@@ -87,6 +87,7 @@ module _ (m n : ℕ) (ks : List (List (Placed Op))) (held : ℕ → ℕ → ℕ 
   ran-of (ran r) i = (r, refl)
   ran-of (refused t k) i = absurd i
 
+  -- a source run keeps the claims
   pub source-kept : (mem : List ℕ) (mvs : List Move) → legal m 64 mvs ≡ true
       → InvOut m n held (run Source vol (kernelProgram ks) (begin (startState m mem n)) mvs)
   source-kept mem mvs = inv-run mvs (begin (startState m mem n)) (inv-start mem)

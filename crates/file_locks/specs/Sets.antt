@@ -63,6 +63,10 @@ suspectAt w code bit = differ w || meets (barred w code) (cond (eqb code 5) (16 
 abbrev pub descendsAt : ℕ → ℕ → ℕ → Bool
 descendsAt w code bit = eqb code 5 && leb bit (w % 16)
 
+-- the position `at` of such an operation; 0 for another
+abbrev pub descentHere : ℕ → ℕ → ℕ → ℕ → ℕ
+descentHere w code bit at = cond (descendsAt w code bit) at 0
+
 -- the first of two that is not 0
 abbrev pub first : ℕ → ℕ → ℕ
 first a b = cond (eqb a 0) b a

@@ -4,8 +4,8 @@
 // where some way holds lock l, bit 4 + l where some way does not; ways are joined by `|`, and differ where a lock has
 // both bits.
 ghost use mathlib.Core.Path.{_≡_};
-ghost use mathlib.Core.List.{List, _∷_};
-ghost use mathlib.Core.Bool.{false, cond};
+ghost use mathlib.Core.List.{List};
+ghost use mathlib.Core.Bool.{false};
 ghost use Prim.Native.Nat.{ℕ, _+_, _-_, _*_, _<_, _≤_};
 ghost use lib.Bits.{bitOr};
 ghost use lib.ListN.{length, set, getD, take, drop};
@@ -13,11 +13,12 @@ ghost use Rattle.file_format.specs.declared.accepted.Op.{Op};
 ghost use Rattle.file_format.specs.Fields.{recordCount};
 ghost use Rattle.file_format.specs.Structured.{Structured};
 ghost use Rattle.file_format.specs.Accepted.{programOf};
+ghost use Rattle.file_format.specs.Held.{recordAt};
 ghost use Rattle.file_chains.specs.Ordered.{Ordered};
 ghost use Rattle.file_verdict.specs.Verdict.{lockRefusal};
 ghost use Rattle.sheet_format.specs.declared.Level.the-variants.{Level0};
 ghost use Rattle.sheet_format.specs.Bytes.{over, sheetBytes};
-ghost use Rattle.file_locks.specs.Sets.{lockBit, barred, wrongAt, suspectAt, descendsAt, afterRow, first};
+ghost use Rattle.file_locks.specs.Sets.{lockBit, barred, wrongAt, suspectAt, descentHere, afterRow, first};
 ghost use Rattle.file_locks.specs.Lanes.{LaneIn, Clean, PositionsOf, RecordsOf};
 use file_format::fields::wide_word;
 use file_verdict::refusal::Refusal;
@@ -64,8 +65,8 @@ fn suspect_at(w: u8, code: u8, bit: u8) -> bool
 
 // The position `at` of an operation that takes a lock, where the ways w to it hold one that is not below; else 0. As
 // numbers, a set has a lock of number b or more exactly when it is at least 2^b.
-fn descent_at(w: u8, code: u8, bit: u8, at: usize) -> usize
-    ensures { λ r. ⌜ r ≡ cond (descendsAt w code bit) at 0 ⌝ }
+fn descent_here(w: u8, code: u8, bit: u8, at: usize) -> usize
+    ensures { λ r. ⌜ r ≡ descentHere w code bit at ⌝ }
 {
     if (code == 5) & (w % 16 >= bit) { at } else { 0 }
 }
@@ -153,7 +154,7 @@ fn find_positions(rows: &[u8], n: usize) -> Found
                 descent: 0,
             };
         }
-        descent = first(descent, descent_at(here, code, bit, place));
+        descent = first(descent, descent_here(here, code, bit, place));
         w = after_row(here, bit);
         if code == 7 {
             lead(&mut led, rows[8 * p + 4], w);
@@ -173,18 +174,20 @@ fn find_positions(rows: &[u8], n: usize) -> Found
     }
 }
 
-// The record at place i, counted from 1, of the part of the order that begins at `from`; 0 at place 0.
-fn record_at(order: &[u16], from: usize, i: usize) -> usize
-    requires { ⌜ from + i ≤ length (now order) ⌝ }
-    ensures { λ r. ⌜ r ≡ getD (0 ∷ drop from (now (order .entry))) i 0 ⌝ }
+// The record at position x, counted from 1, of the lane of n records that begins at `from` of the order; for the end,
+// beyond the last, the last; 0 for position 0.
+fn record_at(order: &[u16], from: usize, n: usize, x: usize) -> usize
+    requires { ⌜ from + n ≤ length (now order) ⌝ }
+    ensures { λ r. ⌜ r ≡ recordAt (take n (drop from (now (order .entry)))) x ⌝ }
 {
+    let i = least(x, n);
     if i == 0 {
         return 0;
     }
     wide_word(order[from + i - 1])
 }
 
-// The records in the lane from `from` to `end` of the order; for the end the last one.
+// The records in the lane from `from` to `end` of the order.
 fn find_records(rows: &[u8], order: &[u16], from: usize, end: usize) -> Found
     requires { ⌜ (from ≤ end) × (end ≤ 256) × (end - from ≤ 64) × (16 + 8 * end ≤ length (now rows))
         × (end ≤ length (now order)) ⌝ }
@@ -199,8 +202,8 @@ fn find_records(rows: &[u8], order: &[u16], from: usize, end: usize) -> Found
     }
     let n = end - from;
     let found = find_positions(&rows[16 + 8 * from..], n);
-    let fault = record_at(order, from, least(found.fault, n));
-    let descent = record_at(order, from, least(found.descent, n));
+    let fault = record_at(order, from, n, found.fault);
+    let descent = record_at(order, from, n, found.descent);
     Found {
         fault: fault,
         descent: descent,

@@ -2,7 +2,7 @@
 -- is named where it is refused.
 use Prim.Native.Nat.{ℕ, zero, suc, _+_, _-_, _*_, _/_, _^_, _≤_, _<_, min}
 use mathlib.Core.Path.{_≡_, refl, ap, sym, _∙_}
-use mathlib.Core.List.{List, [], _∷_}
+use mathlib.Core.List.{List, _∷_}
 use mathlib.Core.Bool.{Bool, false, cond}
 use mathlib.Core.Option.{some}
 use native.Mathlib.Omega.{arith}
@@ -10,11 +10,13 @@ use lib.Bits.{bitXor}
 use lib.Dec.{eqb}
 use lib.ListN.{length, getD, take, drop, length-take, length-drop}
 use lib.Seq.{getD-drop, getD-take}
+use Rattle.laws.proofs.Lists.{at-some}
 use Rattle.file_format.specs.declared.accepted.Op.{Op}
 use Rattle.file_format.specs.declared.accepted.Op.the-variants.{Set, Add, Load, Store, Lock, Unlock, Skip}
-use Rattle.file_format.specs.Held.{noLocks, after, misuse, heldFrom, held, recordAt}
+use Rattle.file_format.specs.Held.{noLocks, after, misuse, held, recordAt}
 use Rattle.file_format.specs.Rising.{descends}
 use Rattle.file_format.specs.Stored.{noOp}
+use Rattle.file_format.proofs.Laws.Held.{held-next}
 use Rattle.sheet_rows.specs.Rows.{rowIn}
 use Rattle.sheet_rows.specs.Lanes.{fieldsOf}
 use Rattle.sheet_rows.proofs.Laws.Lanes.{held-fields}
@@ -93,19 +95,11 @@ module _ (h : ℕ) (few : h < 16) where
   row-next (Unlock b) near right = unlock-next h b few (near (omega arith)) right
   row-next (Skip a q) near right = ap locksIn (other-next h 0)
 
--- the set after one operation more
-heldFrom-suc : (h : List Bool) (ops : List Op) (p : ℕ) → p < length ops
-    → heldFrom h (take (suc p) ops) ≡ after (heldFrom h (take p ops)) (getD ops p noOp)
-unfolding heldFrom
-heldFrom-suc h [] p l = absurd (omega arith)
-heldFrom-suc h (o ∷ ops) zero l = refl
-heldFrom-suc h (o ∷ ops) (suc p) l = heldFrom-suc (after h o) ops p (omega arith)
-
 pub held-on : (ops : List Op) (p : ℕ) {h g : List Bool} → p < length ops → h ≡ held ops p
     → g ≡ after h (getD ops p noOp) → g ≡ held ops (p + 1)
 held-on ops p {h} {g} l eh eg =
     let one : p + 1 ≡ suc p = omega arith in
-    rw (one, eg, eh) (sym (heldFrom-suc noLocks ops p l))
+    rw (one, eg, eh) (sym (held-next noLocks ops p (getD ops p noOp) (at-some ops p noOp l)))
 
 -- ## the record at a place i, counted from 1, of the part of the order that begins at `from`
 

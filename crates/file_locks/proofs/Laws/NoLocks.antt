@@ -74,13 +74,13 @@ none-conflicts (some q) p = by-test (λ b. cond b false false ≡ false) refl re
 abbrev AllLockless : List Op → Type 0
 AllLockless ops = (p : ℕ) → p < length ops → Lockless (getD ops p noOp)
 
-none-held : (h : List Bool) (ops : List Op) (p : ℕ) → AllLockless ops → heldFrom h (take p ops) ≡ h
+held-lockless : (h : List Bool) (ops : List Op) (p : ℕ) → AllLockless ops → heldFrom h (take p ops) ≡ h
 unfolding heldFrom
-none-held h [] zero w = refl
-none-held h [] (suc p) w = refl
-none-held h (o ∷ ops) zero w = refl
-none-held h (o ∷ ops) (suc p) w =
-    none-held (after h o) ops p (λ q l. w (suc q) (omega arith)) ∙ after-lockless h o (w 0 (omega arith))
+held-lockless h [] zero w = refl
+held-lockless h [] (suc p) w = refl
+held-lockless h (o ∷ ops) zero w = refl
+held-lockless h (o ∷ ops) (suc p) w =
+    held-lockless (after h o) ops p (λ q l. w (suc q) (omega arith)) ∙ after-lockless h o (w 0 (omega arith))
 
 module _ (ops : List Op) (w : AllLockless ops) where
   no-conflict : (n p : ℕ) → conflictBelow ops n p ≡ false
@@ -88,8 +88,8 @@ module _ (ops : List Op) (w : AllLockless ops) where
   no-conflict zero p = refl
   no-conflict (suc n) p =
       rw (
-        none-held noLocks ops n w,
-        none-held noLocks ops p w,
+        held-lockless noLocks ops n w,
+        held-lockless noLocks ops p w,
         none-conflicts (jumpFrom (getElem? ops n)) p,
         no-conflict n p,
       )
@@ -109,9 +109,9 @@ module _ (ops : List Op) (w : AllLockless ops) where
   unfolding faultPosition descentPosition faultAt descentAt
   lockless-clean = (
     found-nowhere (λ i. faultAt ops (i - 1)) 1 (length ops + 1)
-        (λ i. rw (no-conflict (length ops) (i - 1), none-held noLocks ops (i - 1) w) (kept-at (i - 1) .0)),
+        (λ i. rw (no-conflict (length ops) (i - 1), held-lockless noLocks ops (i - 1) w) (kept-at (i - 1) .0)),
     found-nowhere (λ i. descentAt ops (i - 1)) 1 (length ops)
-        (λ i. rw (none-held noLocks ops (i - 1) w) (kept-at (i - 1) .1)),
+        (λ i. rw (held-lockless noLocks ops (i - 1) w) (kept-at (i - 1) .1)),
   )
 
 -- the lanes of a file whose header counts none

@@ -68,8 +68,8 @@ returns c =
     (w .loop-test .taken) (x .lock-bit .ensures) (c .before .wrong-at .ensures) (c .if1 .taken) in
     (found, λ z. absurd (omega (arith, found, z)))
 
-descent-at-requires : tie.Need-descent-at-requires Inv-loop μ-loop
-descent-at-requires c κs = search needs
+descent-here-requires : tie.Need-descent-here-requires Inv-loop μ-loop
+descent-here-requires c κs = search needs
 
 first-requires : tie.Need-first-requires Inv-loop μ-loop
 first-requires c κs = search needs
@@ -130,7 +130,7 @@ on r ops lane to =
       pass-on lane (start r .pre .0) (l .p) (l .w) (l .led) (was .0) (w .loop-test .taken) (x .lock-bit .ensures)
           (t .before .wrong-at .ensures) (t .if1 .left) (r .after-row .ensures) to,
       pass-sought lane (start r .pre .0) (l .p) (l .w) (l .led) (was .0) (w .loop-test .taken) (x .lock-bit .ensures)
-          (t .before .wrong-at .ensures) (t .if1 .left) (l .descent) (d .descent-at .ensures)
+          (t .before .wrong-at .ensures) (t .if1 .left) (l .descent) (d .descent-here .ensures)
           (r .before .first .ensures) (was .1),
     )
 
@@ -195,6 +195,6 @@ find-positions-spec =
     tie.close
     (tie.spec Inv-loop μ-loop loop-holds mul-code shared-slice-read-code mul-lock-bit add-lock-bit
     shared-slice-read-lock-bit lock-bit-requires array-read-here add-place wrong-at-requires returns
-    descent-at-requires first-requires after-row-requires slice-aggregate-lead mul-lead add-lead
+    descent-here-requires first-requires after-row-requires slice-aggregate-lead mul-lead add-lead
     shared-slice-read-lead lead-requires loop-less loop-again loop-less-2 loop-again-2 array-read-if3 add-end
     returns-2 returns-3)

@@ -1,10 +1,10 @@
 -- `file_locks::find_records` meets its contract.
-use Prim.Native.Nat.{_+_, _-_, _*_, _≤_, min}
+use Prim.Native.Nat.{_+_, _-_, _*_, _≤_}
 use mathlib.Core.Path.{sym, ap, subst, _∙_}
 use native.Mathlib.Omega.{arith}
-use lib.ListN.{length}
+use lib.ListN.{length, take, drop}
 use Rattle.laws.proofs.Parts.{take-rest, part-length}
-use Rattle.file_format.specs.Held.{faultPosition}
+use Rattle.file_format.specs.Held.{faultPosition, recordAt}
 use Rattle.file_format.specs.Rising.{descentPosition}
 use Rattle.file_locks.specs.Lanes.{LaneIn}
 use Rattle.file_locks.proofs.Laws.Held.{record-cut}
@@ -32,36 +32,25 @@ find-positions-requires c κs =
     )
 
 record-at-requires : tie.Need-record-at-requires
-record-at-requires c κs =
-    let s = c .before .before .before .before .before .before in
-    omega (arith, c .least .ensures, s .pre)
+record-at-requires c κs = omega (arith, c .before .before .before .before .before .pre)
 
 record-at-requires-2 : tie.Need-record-at-requires-2
-record-at-requires-2 c κs =
-    let s = c .before .before .before .before .before .before .before .before in
-    omega (arith, c .least2 .ensures, s .pre)
+record-at-requires-2 c κs = omega (arith, c .before .before .before .before .before .before .pre)
 
 returns-2 : tie.Need-returns-2
 returns-2 c =
-    let p = c .before .before .before .before in
-    let s = p .before .before .before .before .before in
-    let a = s .args in
+    let p = c .before .before in
+    let a = p .before .before .before .before .before .args in
     let n = a .end - a .from in
-    let room : a .from + n ≤ length (a .order .now) = omega (arith, s .pre) in
     λ ops lane.
     let found = p .find-positions .ensures ops
     (subst (λ x. LaneIn x n ops) (sym (take-rest (16 + 8 * a .from) (a .rows .now))) lane) in (
-      c .before .before .record-at .ensures
-          ∙ record-cut (a .order .now) (a .from) n (faultPosition ops) room
-          (c .before .before .before .least .ensures ∙ ap (λ x. min x n) (found .0)),
-      λ z. c .record-at2 .ensures
-          ∙ record-cut (a .order .now) (a .from) n (descentPosition ops) room
-          (c .before .least2 .ensures ∙ ap (λ x. min x n) (found .1 z)),
+      c .before .record-at .ensures ∙ ap (recordAt (take n (drop (a .from) (a .order .now)))) (found .0),
+      λ z. c .record-at2 .ensures ∙ ap (recordAt (take n (drop (a .from) (a .order .now)))) (found .1 z),
     )
 
 pub find-records-spec : {M : Type 1} → statement M
 find-records-spec =
     tie.close
     (tie.spec returns (λ c. search needs) (λ c. search needs) (λ c. search needs) (λ c. search needs)
-    (λ c. search needs) (λ c. search needs) find-positions-requires (λ c κs. search needs) record-at-requires
-    (λ c κs. search needs) record-at-requires-2 returns-2)
+    (λ c. search needs) (λ c. search needs) find-positions-requires record-at-requires record-at-requires-2 returns-2)
