@@ -3,6 +3,7 @@
 // A set of locks is a number below 16, bit l for lock l. The ways to a position are a number of eight bits: bit l is up
 // where some way holds lock l, bit 4 + l where some way does not; ways are joined by `|`, and differ where a lock has
 // both bits.
+#![tactic(auto)]
 ghost use Rattle.std.specs.Prelude.{◌≡◌, List, false, ℕ, ◌+◌, ◌-◌, ◌*◌, ◌<◌, ◌≤◌, length, set, get_or, take, drop};
 ghost use Rattle.std.specs.Int.Bits.{bit_or};
 ghost use Rattle.file_format.specs.declared.accepted.Op.{Op};

@@ -1,1 +1,2 @@
 // Laws of the kit's lists, tests and numbers that name nothing of the project: proofs/.
+#![tactic(auto)]

@@ -1,4 +1,5 @@
 // One step: a lane and a choice, on the lent state.
+#![tactic(auto)]
 mod access;
 pub mod carry;
 pub mod commit;

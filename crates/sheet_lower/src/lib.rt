@@ -1,3 +1,4 @@
 // The sheet of a kernel file of whatever bytes, at each level.
+#![tactic(auto)]
 pub mod lower;
 pub mod whole;

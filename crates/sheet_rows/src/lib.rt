@@ -1,4 +1,5 @@
 // The rows of a sheet, read and written.
+#![tactic(auto)]
 pub mod number;
 pub mod parts;
 pub mod put;

@@ -1,4 +1,5 @@
 // The text of a move and of a state record, and of a run on a kernel file.
+#![tactic(auto)]
 pub mod entry;
 mod lane;
 pub mod moves;
