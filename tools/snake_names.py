@@ -48,10 +48,11 @@ def declared(text):
                 yield own[1], "type"
             elif len(own) > 1 and own[1] == ":":
                 yield own[0], "def"
-        elif kind:
-            own = [w for w in words if w != "pub"]
-            if len(own) > 1 and own[1] == ":":
-                yield own[0], kind
+        else:
+            # a field or a constructor, else a lemma in a module or behind where
+            own = [w for w in words if w not in ("pub", "abbrev", "unfoldable")]
+            if len(own) > 1 and own[1] == ":" and WORD.fullmatch(own[0]):
+                yield own[0], kind or "def"
 
 
 def snake(name):
@@ -77,7 +78,7 @@ def main():
         taken[snake(name)].insert(0, snake(name))
     for to, names in taken.items():
         # the definition of specs/ keeps the name, whatever its old spelling; a lemma gives way
-        names.sort(key=lambda n: (n in where, not any("/specs/" in p for p, _ in where.get(n, [])), n))
+        names.sort(key=lambda n: (n in where, not any("/specs/" in p for p, _ in where.get(n, [])), "-" in n, n))
         for rank, name in enumerate(names):
             goes = to if rank == 0 else f"{to}_lem"
             if goes != name:

@@ -38,10 +38,10 @@ module _ (s : Chain) (b : Barrier) where
   }
 
   -- what is due at p was raised by a step before p, or was due before it
-  due-from : (p : ℕ) (d : Class) → p ≤ length s → due s b p d ≡ true → (q : ℕ) × (q < p) × Next s q p
+  due_from : (p : ℕ) (d : Class) → p ≤ length s → due s b p d ≡ true → (q : ℕ) × (q < p) × Next s q p
       × (((stands s b q ≡ false) × (due s b q d ≡ true)) ⊎ (raises b (at s q) d ≡ true))
   unfolding due stands
-  due-from p d l t =
+  due_from p d l t =
       let f = arrives_from s (due_after s b p) p p d t in
       let row = sym (due_after_has s b p f.0 d f.1) ∙ f.3 in
       (f.0, f.1, leads_next s f.0 p (omega (arith, f.1)) f.2, pick f.0 (or_true _ _ row))
@@ -52,11 +52,11 @@ module _ (s : Chain) (b : Barrier) where
           let v = and_true (not (stands s b q)) (due s b q d) w in inl (not-true (stands s b q) v.0, v.1)
       pick q (inr w) = inr w
 
-  due-reaches : (n p : ℕ) (d : Class) → p < n → p ≤ length s → due s b p d ≡ true → Reaches d p
-  due-reaches zero p d h l t = absurd (not-suc-le-zero h)
-  due-reaches (suc n) p d h l t =
-      let f = due-from p d l t in
-      go f.0 f.2 (λ w. due-reaches n f.0 d (omega (arith, f.1)) (omega (arith, f.1)) w) f.3
+  due_reaches : (n p : ℕ) (d : Class) → p < n → p ≤ length s → due s b p d ≡ true → Reaches d p
+  due_reaches zero p d h l t = absurd (not-suc-le-zero h)
+  due_reaches (suc n) p d h l t =
+      let f = due_from p d l t in
+      go f.0 f.2 (λ w. due_reaches n f.0 d (omega (arith, f.1)) (omega (arith, f.1)) w) f.3
     where
       go : (q : ℕ) → Next s q p → (due s b q d ≡ true → Reaches d q)
           → ((stands s b q ≡ false) × (due s b q d ≡ true)) ⊎ (raises b (at s q) d ≡ true) → Reaches d p
@@ -65,21 +65,21 @@ module _ (s : Chain) (b : Barrier) where
           let r = raised b (at s q) d w in
           record { from = q; first = r.0; earlier = r.1; calls = r.2; path = edge e; clear = λ k m. absurd m }
 
-  due-step : Forward s → (q p : ℕ) (d : Class) → Next s q p → after b (at s q) (due s b q) d ≡ true → due s b p d ≡ true
+  due_step : Forward s → (q p : ℕ) (d : Class) → Next s q p → after b (at s q) (due s b q) d ≡ true → due s b p d ≡ true
   unfolding due
-  due-step forward q p d e t =
+  due_step forward q p d e t =
       let l = forward q p e in
       arrives_of s (due_after s b p) p p d (q, l, next_leads s q p e, due_after_has s b p q d l ∙ t)
 
-  reaches-due : Forward s → {i p : ℕ} (c d : Class) (π : Path (Next s) i p) → at s i ≡ Access c → cell c d ≡ some b
+  reaches_due : Forward s → {i p : ℕ} (c d : Class) (π : Path (Next s) i p) → at s i ≡ Access c → cell c d ≡ some b
       → ((k : ℕ) → Between π k → stands s b k ≡ false) → due s b p d ≡ true
   unfolding stands
-  reaches-due forward {i} {p} c d (edge e) a t clear =
+  reaches_due forward {i} {p} c d (edge e) a t clear =
       let r : raises b (at s i) d ≡ true = subst (λ (x : Step). raises b x d ≡ true) (sym a) (cell_calls b c d t) in
-      due-step forward i p d e (or_right (not (stands s b i) && due s b i d) _ r)
-  reaches-due forward {i} {p} c d (more {q = q} π e) a t clear =
-      let r : due s b q d ≡ true = reaches-due forward c d π a t (λ k m. clear k (inl m)) in
-      due-step forward q p d e (or_left _ (raises b (at s q) d) (both_true _ _ (ap not (clear q (inr refl))) r))
+      due_step forward i p d e (or_right (not (stands s b i) && due s b i d) _ r)
+  reaches_due forward {i} {p} c d (more {q = q} π e) a t clear =
+      let r : due s b q d ≡ true = reaches_due forward c d π a t (λ k m. clear k (inl m)) in
+      due_step forward q p d e (or_left _ (raises b (at s q) d) (both_true _ _ (ap not (clear q (inr refl))) r))
 
   pub correct : Forward s → Sentence s b (stands s b)
   unfolding stands
@@ -88,7 +88,7 @@ module _ (s : Chain) (b : Barrier) where
       to : (c : Class) × (at s j ≡ Access c) × (due s b j c ≡ true) → Open s b (stands s b) j
       to f =
           let l : j < length s = access_inside s j f.0 f.1 in
-          let r = due-reaches (suc j) j f.0 (omega arith) (omega arith) f.2 in
+          let r = due_reaches (suc j) j f.0 (omega arith) (omega arith) f.2 in
           record {
             from = r.from;
             pair = record { first = r.first; second = f.0; earlier = r.earlier; later = f.1; calls = r.calls };
@@ -100,4 +100,4 @@ module _ (s : Chain) (b : Barrier) where
       from o =
           let p = o.pair in
           subst (λ (x : Step). stands_at x (due s b j) ≡ true) (sym p.later)
-          (reaches-due forward p.first p.second o.path p.earlier p.calls o.clear)
+          (reaches_due forward p.first p.second o.path p.earlier p.calls o.clear)

@@ -56,9 +56,9 @@ shape_at b c d c' e h k = go (or_true _ _ (shape_holds b c d c' e))
     ]
 
 module _ (s : Chain) (b : Barrier) where
-  pair-shape : {i j k l : ℕ} (p : Pair s b i j) (p' : Pair s b k l)
+  pair_shape : {i j k l : ℕ} (p : Pair s b i j) (p' : Pair s b k l)
       → (cell p.first p'.second ≡ some b) ⊎ ((p'.second ≡ PS) × (is_ps p.second ≡ false))
-  pair-shape p p' = shape_at b p.first p.second p'.first p'.second p.calls p'.calls
+  pair_shape p p' = shape_at b p.first p.second p'.first p'.second p.calls p'.calls
 
   -- a path open for B is open for C, if B is true wherever C is true and the path's first access calls for no b
   carry : (B C : ℕ → Bool) → Sentence s b B → Sentence s b C → (j : ℕ) (o : Open s b B j)
@@ -88,30 +88,30 @@ module _ (s : Chain) (b : Barrier) where
       go (inr f) = (sC j).1 (record { from = o.from; pair = o.pair; path = o.path; clear = f })
 
   -- before a plain store
-  agree-PS : (B C : ℕ → Bool) → Sentence s b B → Sentence s b C → (j : ℕ) (o : Open s b B j) → o.pair.second ≡ PS
+  agree_ps : (B C : ℕ → Bool) → Sentence s b B → Sentence s b C → (j : ℕ) (o : Open s b B j) → o.pair.second ≡ PS
       → C j ≡ true
-  agree-PS B C sB sC j o h = carry B C sB sC j o agree
+  agree_ps B C sB sC j o h = carry B C sB sC j o agree
     where
       agree : (k : ℕ) (o' : Open s b C k) → (cell o.pair.first o'.pair.second ≡ some b) ⊎ (B k ≡ true)
-      agree k o' = elim (pair-shape o.pair o'.pair) [
+      agree k o' = elim (pair_shape o.pair o'.pair) [
         | inl t ↦ inl t
         | inr t ↦ absurd (true≢false (subst (λ (c : Class). is_ps c ≡ false) h t.1))
       ]
 
-  agree-all : (B C : ℕ → Bool) → Sentence s b B → Sentence s b C → (j : ℕ) → B j ≡ true → C j ≡ true
-  agree-all B C sB sC j h = carry B C sB sC j o agree
+  agree_all : (B C : ℕ → Bool) → Sentence s b B → Sentence s b C → (j : ℕ) → B j ≡ true → C j ≡ true
+  agree_all B C sB sC j h = carry B C sB sC j o agree
     where
       o : Open s b B j
       o = (sB j).0 h
 
       agree : (k : ℕ) (o' : Open s b C k) → (cell o.pair.first o'.pair.second ≡ some b) ⊎ (B k ≡ true)
-      agree k o' = elim (pair-shape o.pair o'.pair) [
+      agree k o' = elim (pair_shape o.pair o'.pair) [
         | inl t ↦ inl t
-        | inr t ↦ inr (agree-PS C B sC sB k o' t.0)
+        | inr t ↦ inr (agree_ps C B sC sB k o' t.0)
       ]
 
   pub unique : (B C : ℕ → Bool) → Sentence s b B → Sentence s b C → (j : ℕ) → B j ≡ C j
-  unique B C sB sC j = go (B j) (C j) (agree-all B C sB sC j) (agree-all C B sC sB j)
+  unique B C sB sC j = go (B j) (C j) (agree_all B C sB sC j) (agree_all C B sC sB j)
     where
       go : (t u : Bool) → (t ≡ true → u ≡ true) → (u ≡ true → t ≡ true) → t ≡ u
       go true u f g = sym (f refl)

@@ -23,7 +23,7 @@ use Rattle.machine_spec.specs.State.{apply_turn, move_turn, advance, run, begin}
 use Rattle.machine_spec.specs.Run.{answer_of, start_of, program_for, run_on, shown}
 use Rattle.machine_spec.specs.Shape.{AllSmall, Shaped, Within}
 use Rattle.claims.proofs.Laws.Lanes.{set_lane_count, set_lane_each, lane_each}
-use Rattle.claims.proofs.BoundedTurns.{Fit, Keeps, turn-keeps}
+use Rattle.claims.proofs.BoundedTurns.{Fit, Keeps, turn_keeps}
 
 record LaneFit (ls ks len : ℕ) (l : Lane) : Type 0 where
   place : l.control.pos ≤ len
@@ -48,12 +48,12 @@ module _ (k : Program) (w : Lawful k) where
   abbrev prog : List (List Instr)
   prog = program_for Source k
 
-  abbrev laneLength : ℕ → ℕ
-  laneLength t = length (get_or k.lanes t [])
+  abbrev lane_length : ℕ → ℕ
+  lane_length t = length (get_or k.lanes t [])
 
   record Inv (a : State) : Type 0 where
     count : length a.lanes ≡ lanes
-    lane : (t : ℕ) → t < lanes → LaneFit ls ks (laneLength t) (lane_at a t)
+    lane : (t : ℕ) → t < lanes → LaneFit ls ks (lane_length t) (lane_at a t)
     memory_count : length a.memory ≡ k.locations
     memory_small : (x : ℕ) → get_or a.memory x 0 < 2 ^ 32
     locks_count : length a.locks ≡ k.locks
@@ -64,7 +64,7 @@ module _ (k : Program) (w : Lawful k) where
   InvOut (refused t p) = Unit {0}
 
   fit_of : (a : State) → Inv a → (t : ℕ) → t < lanes
-      → Fit lanes ls ks (laneLength t) (lane_at a t).control.pos (core_of a (lane_at a t))
+      → Fit lanes ls ks (lane_length t) (lane_at a t).control.pos (core_of a (lane_at a t))
   fit_of a i t lt =
       let l = i.lane t lt in
       record {
@@ -79,11 +79,11 @@ module _ (k : Program) (w : Lawful k) where
         locks_small = i.locks_small;
       }
 
-  inv-put : (a : State) → Inv a → (t : ℕ) → t < lanes → (j : Control) (d : Core)
-      → Fit lanes ls ks (laneLength t) j.pos d → Inv (set_lane a t j d)
-  inv-put a i t lt j d f = record {
+  inv_put : (a : State) → Inv a → (t : ℕ) → t < lanes → (j : Control) (d : Core)
+      → Fit lanes ls ks (lane_length t) j.pos d → Inv (set_lane a t j d)
+  inv_put a i t lt j d f = record {
     count = set_lane_count a t j d ∙ i.count;
-    lane = set_lane_each (λ u l. u < lanes → LaneFit ls ks (laneLength u) l) a t j d (rw i.count lt)
+    lane = set_lane_each (λ u l. u < lanes → LaneFit ls ks (lane_length u) l) a t j d (rw i.count lt)
         (λ lt'.
         record {
           place = f.place;
@@ -99,28 +99,28 @@ module _ (k : Program) (w : Lawful k) where
     locks_small = f.locks_small;
   }
 
-  inv-turn : (r : Run) (t q : ℕ) → t < lanes → Inv r.state → (u : Turn) → Keeps lanes ls ks (laneLength t) u
+  inv_turn : (r : Run) (t q : ℕ) → t < lanes → Inv r.state → (u : Turn) → Keeps lanes ls ks (lane_length t) u
       → InvOut (apply_turn r t q u)
-  inv-turn r t q lt i waits s = i
-  inv-turn r t q lt i refuses s = tt
-  inv-turn r t q lt i (passes j d) s = inv-put r.state i t lt j d s
-  inv-turn r t q lt i (does j d v) s = inv-put r.state i t lt j d s
+  inv_turn r t q lt i waits s = i
+  inv_turn r t q lt i refuses s = tt
+  inv_turn r t q lt i (passes j d) s = inv_put r.state i t lt j d s
+  inv_turn r t q lt i (does j d v) s = inv_put r.state i t lt j d s
 
-  inv-run : (mvs : List Move) (o : Outcome) → InvOut o → legal lanes 64 mvs ≡ true → InvOut (run Source vol prog o mvs)
-  inv-run [] o i le = i
-  inv-run (mv ∷ mvs) (refused t p) i le =
-      inv-run mvs (refused t p) tt (and_true (ltb mv.lane lanes && leb mv.choice 64) (legal lanes 64 mvs) le).1
-  inv-run (mv ∷ mvs) (ran r) i le =
+  inv_run : (mvs : List Move) (o : Outcome) → InvOut o → legal lanes 64 mvs ≡ true → InvOut (run Source vol prog o mvs)
+  inv_run [] o i le = i
+  inv_run (mv ∷ mvs) (refused t p) i le =
+      inv_run mvs (refused t p) tt (and_true (ltb mv.lane lanes && leb mv.choice 64) (legal lanes 64 mvs) le).1
+  inv_run (mv ∷ mvs) (ran r) i le =
       let fits = and_true (ltb mv.lane lanes && leb mv.choice 64) (legal lanes 64 mvs) le in
       let lt : mv.lane < lanes =
       ltb-true mv.lane lanes (and_true (ltb mv.lane lanes) (leb mv.choice 64) fits.0).0 in
-      inv-run mvs (advance Source vol prog (ran r) mv) (step lt) fits.1
+      inv_run mvs (advance Source vol prog (ran r) mv) (step lt) fits.1
     where
       step : mv.lane < lanes → InvOut (advance Source vol prog (ran r) mv)
       step lt =
-          inv-turn r mv.lane _ lt i (move_turn Source vol prog r.state mv)
+          inv_turn r mv.lane _ lt i (move_turn Source vol prog r.state mv)
           (rw (get_or-map (map op) k.lanes mv.lane [])
-          (turn-keeps lanes ls ks (get_or k.lanes mv.lane []) (w.lane mv.lane) vol mv.lane lt
+          (turn_keeps lanes ls ks (get_or k.lanes mv.lane []) (w.lane mv.lane) vol mv.lane lt
           (lane_at r.state mv.lane).control (core_of r.state (lane_at r.state mv.lane))
           (fit_of r.state i mv.lane lt) mv.choice))
 
@@ -133,8 +133,8 @@ module _ (k : Program) (w : Lawful k) where
     entries = tt;
   }
 
-  inv-start : Inv (start_of k)
-  inv-start = record {
+  inv_start : Inv (start_of k)
+  inv_start = record {
     count = length-replicate lanes _;
     lane = λ t lt. rw (get_or-replicate lanes t _ idle lt) fresh;
     memory_count = length-replicate k.locations 0;
@@ -143,14 +143,14 @@ module _ (k : Program) (w : Lawful k) where
     locks_small = getD-replicate-all (λ z. z ≤ lanes) k.locks 0 0 (omega arith) (omega arith);
   }
 
-  shaped-by : (r : Run) → Inv r.state → Shaped k (shown (answer_of prog k.records (start_of k) (ran r)))
-  shaped-by r i = record {
+  shaped_by : (r : Run) → Inv r.state → Shaped k (shown (answer_of prog k.records (start_of k) (ran r)))
+  shaped_by r i = record {
     lanes = (
       length-map r.state.lanes (λ (l : Lane). l.regs) ∙ i.count,
       length-map r.state.lanes (λ (l : Lane). l.pending) ∙ i.count,
     );
-    regs_count = λ t lt. ap length (regs-at t) ∙ (i.lane t lt).regs_count;
-    regs_small = λ t a. rw (regs-at t) (each (λ l. get_or l.regs a 0 < 2 ^ 32) (omega arith)
+    regs_count = λ t lt. ap length (regs_at t) ∙ (i.lane t lt).regs_count;
+    regs_small = λ t a. rw (regs_at t) (each (λ l. get_or l.regs a 0 < 2 ^ 32) (omega arith)
         (λ u lt. (i.lane u lt).regs_small a) t);
     pending_few = λ t. rw (pending_at t) (each (λ l. length l.pending ≤ 64) (omega arith)
         (λ u lt. omega (arith, (i.lane u lt).few, (i.lane u lt).place, (w.lane u).short)) t);
@@ -165,8 +165,8 @@ module _ (k : Program) (w : Lawful k) where
           → P (lane_at r.state t)
       each P = lane_each P r.state lanes i.count
 
-      regs-at : (t : ℕ) → get_or (map (λ (l : Lane). l.regs) r.state.lanes) t [] ≡ (lane_at r.state t).regs
-      regs-at t = get_or-map (λ (l : Lane). l.regs) r.state.lanes t idle
+      regs_at : (t : ℕ) → get_or (map (λ (l : Lane). l.regs) r.state.lanes) t [] ≡ (lane_at r.state t).regs
+      regs_at t = get_or-map (λ (l : Lane). l.regs) r.state.lanes t idle
 
       pending_at : (t : ℕ)
           → get_or (map (λ (l : Lane). l.pending) r.state.lanes) t [] ≡ (lane_at r.state t).pending
@@ -176,20 +176,20 @@ module _ (k : Program) (w : Lawful k) where
   within_by r i t =
       rw (get_or-map (map op) k.lanes t [], length-map (get_or k.lanes t []) op) (go (dec_lt t lanes))
     where
-      go : Dec (t < lanes) → (lane_at r.state t).control.pos ≤ laneLength t
+      go : Dec (t < lanes) → (lane_at r.state t).control.pos ≤ lane_length t
       go (yes lt) = (i.lane t lt).place
       go (no ge) =
           let none-there = get_or-eq_default r.state.lanes idle {n = t} (omega (arith, i.count)) in
           rw none-there (omega arith)
 
   -- a source run that is not refused ends in a state that keeps the bounds
-  inv-of : (mvs : List Move) (r : Run) → legal lanes 64 mvs ≡ true → run_on Source k mvs ≡ ran r → Inv r.state
-  inv-of mvs r le e = subst InvOut e (inv-run mvs (begin (start_of k)) inv-start le)
+  inv_of : (mvs : List Move) (r : Run) → legal lanes 64 mvs ≡ true → run_on Source k mvs ≡ ran r → Inv r.state
+  inv_of mvs r le e = subst InvOut e (inv_run mvs (begin (start_of k)) inv_start le)
 
-  pub source-shaped : (mvs : List Move) (r : Run) → legal lanes 64 mvs ≡ true → run_on Source k mvs ≡ ran r
+  pub source_shaped : (mvs : List Move) (r : Run) → legal lanes 64 mvs ≡ true → run_on Source k mvs ≡ ran r
       → Shaped k (shown (answer_of prog k.records (start_of k) (ran r)))
-  source-shaped mvs r le e = shaped-by r (inv-of mvs r le e)
+  source_shaped mvs r le e = shaped_by r (inv_of mvs r le e)
 
-  pub source-within : (mvs : List Move) (r : Run) → legal lanes 64 mvs ≡ true → run_on Source k mvs ≡ ran r
+  pub source_within : (mvs : List Move) (r : Run) → legal lanes 64 mvs ≡ true → run_on Source k mvs ≡ ran r
       → Within prog r.state
-  source-within mvs r le e = within_by r (inv-of mvs r le e)
+  source_within mvs r le e = within_by r (inv_of mvs r le e)

@@ -41,14 +41,14 @@ module _ (ls ks : ℕ) where
   all_at zero (x ∷ es) e k h = let same : x ≡ e = cc in subst (EntrySmall ls ks) same h.0
   all_at (suc i) (x ∷ es) e k h = all_at i es e k h.1
 
-  newest-small : (x m : ℕ) (es : List Entry) → m < 2 ^ 32 → AllSmall ls ks es → newest x m es < 2 ^ 32
-  newest-small x m [] hm h = hm
-  newest-small x m (write y v ∷ es) hm h = newest-small x (cond (eqb y x) v m) es (go (eqb y x)) h.1
+  newest_small : (x m : ℕ) (es : List Entry) → m < 2 ^ 32 → AllSmall ls ks es → newest x m es < 2 ^ 32
+  newest_small x m [] hm h = hm
+  newest_small x m (write y v ∷ es) hm h = newest_small x (cond (eqb y x) v m) es (go (eqb y x)) h.1
     where
       go : (b : Bool) → cond b v m < 2 ^ 32
       go true = h.0.1
       go false = hm
-  newest-small x m (release l ∷ es) hm h = newest-small x m es hm h.1
+  newest_small x m (release l ∷ es) hm h = newest_small x m es hm h.1
 
 -- ## a lane's move
 
@@ -76,21 +76,21 @@ module _ (n ls ks : ℕ) (os : List Op) (w : LawfulLane ls ks os) (vol : ℕ →
   abbrev At : Op → Type 0
   At o = get_elem? os i.pos ≡ some o
 
-  value-small : (x : ℕ) → value_of Source vol c x < 2 ^ 32
-  value-small x =
+  value_small : (x : ℕ) → value_of Source vol c x < 2 ^ 32
+  value_small x =
       let m = get_or c.memory x 0 in
       cond_by (λ v. v < 2 ^ 32) (vol x) m (newest x m c.pending) (λ e. h.memory_small x)
-      (λ e. newest-small ls ks x m c.pending (h.memory_small x) h.entries)
+      (λ e. newest_small ls ks x m c.pending (h.memory_small x) h.entries)
 
   -- the registers
-  after-count : (o : Op) → length (after Source vol c o) ≡ 8
-  after-count (Set a m) = simp length-set h.regs_count
-  after-count (Add a b) = simp length-set h.regs_count
-  after-count (Load a x) = simp length-set h.regs_count
-  after-count (Store a x) = h.regs_count
-  after-count (Lock l) = h.regs_count
-  after-count (Unlock l) = h.regs_count
-  after-count (Skip a u) = h.regs_count
+  after_count : (o : Op) → length (after Source vol c o) ≡ 8
+  after_count (Set a m) = simp length-set h.regs_count
+  after_count (Add a b) = simp length-set h.regs_count
+  after_count (Load a x) = simp length-set h.regs_count
+  after_count (Store a x) = h.regs_count
+  after_count (Lock l) = h.regs_count
+  after_count (Unlock l) = h.regs_count
+  after_count (Skip a u) = h.regs_count
 
   assigned : (a v : ℕ) → v < 2 ^ 32 → (x : ℕ) → get_or (update c.regs a v) x 0 < 2 ^ 32
   assigned a v small = set_all (λ i z. z < 2 ^ 32) 0 c.regs a v h.regs_small small
@@ -98,15 +98,15 @@ module _ (n ls ks : ℕ) (os : List Op) (w : LawfulLane ls ks os) (vol : ℕ →
   after_small : (o : Op) → At o → (x : ℕ) → get_or (after Source vol c o) x 0 < 2 ^ 32
   after_small (Set a m) e = assigned a m (w.bounded i.pos (Set a m) e).1
   after_small (Add a b) e = assigned a _ (omega arith)
-  after_small (Load a x) e = assigned a _ (value-small x)
+  after_small (Load a x) e = assigned a _ (value_small x)
   after_small (Store a x) e = h.regs_small
   after_small (Lock l) e = h.regs_small
   after_small (Unlock l) e = h.regs_small
   after_small (Skip a u) e = h.regs_small
 
   -- the position goes on, at most to the end
-  next-within : (o : Op) → At o → (i.pos < next c o i.pos) × (next c o i.pos ≤ length os)
-  next-within o e = go o e (some_at os i.pos o (Set 0 0) e).0
+  next_within : (o : Op) → At o → (i.pos < next c o i.pos) × (next c o i.pos ≤ length os)
+  next_within o e = go o e (some_at os i.pos o (Set 0 0) e).0
     where
       go : (o : Op) → At o → i.pos < length os → (i.pos < next c o i.pos) × (next c o i.pos ≤ length os)
       go (Set a m) e inside = (omega arith, inside)
@@ -122,85 +122,85 @@ module _ (n ls ks : ℕ) (os : List Op) (w : LawfulLane ls ks os) (vol : ℕ →
           jump false = (omega arith, inside)
 
   -- the pending list
-  emit-small : (o : Op) → At o → AllSmall ls ks (append_entry c.pending (emit c o))
-  emit-small (Set a m) e = h.entries
-  emit-small (Add a b) e = h.entries
-  emit-small (Load a x) e = h.entries
-  emit-small (Store a x) e =
+  emit_small : (o : Op) → At o → AllSmall ls ks (append_entry c.pending (emit c o))
+  emit_small (Set a m) e = h.entries
+  emit_small (Add a b) e = h.entries
+  emit_small (Load a x) e = h.entries
+  emit_small (Store a x) e =
       all_snoc ls ks c.pending (write x (reg c a)) h.entries
       ((w.bounded i.pos (Store a x) e).1, h.regs_small a)
-  emit-small (Lock l) e = h.entries
-  emit-small (Unlock l) e =
+  emit_small (Lock l) e = h.entries
+  emit_small (Unlock l) e =
       all_snoc ls ks c.pending (release l) h.entries (w.bounded i.pos (Unlock l) e)
-  emit-small (Skip a u) e = h.entries
+  emit_small (Skip a u) e = h.entries
 
   -- the lock words
-  locked-count : (o : Op) → length (locked (suc t) c o) ≡ ks
-  locked-count (Set a m) = h.locks_count
-  locked-count (Add a b) = h.locks_count
-  locked-count (Load a x) = h.locks_count
-  locked-count (Store a x) = h.locks_count
-  locked-count (Lock l) = length-set c.locks l (suc t) ∙ h.locks_count
-  locked-count (Unlock l) = h.locks_count
-  locked-count (Skip a u) = h.locks_count
+  locked_count : (o : Op) → length (locked (suc t) c o) ≡ ks
+  locked_count (Set a m) = h.locks_count
+  locked_count (Add a b) = h.locks_count
+  locked_count (Load a x) = h.locks_count
+  locked_count (Store a x) = h.locks_count
+  locked_count (Lock l) = length-set c.locks l (suc t) ∙ h.locks_count
+  locked_count (Unlock l) = h.locks_count
+  locked_count (Skip a u) = h.locks_count
 
-  locked-small : (o : Op) (l : ℕ) → get_or (locked (suc t) c o) l 0 ≤ n
-  locked-small (Set a m) = h.locks_small
-  locked-small (Add a b) = h.locks_small
-  locked-small (Load a x) = h.locks_small
-  locked-small (Store a x) = h.locks_small
-  locked-small (Lock k) = set_all (λ i z. z ≤ n) 0 c.locks k (suc t) h.locks_small lt
-  locked-small (Unlock l) = h.locks_small
-  locked-small (Skip a u) = h.locks_small
+  locked_small : (o : Op) (l : ℕ) → get_or (locked (suc t) c o) l 0 ≤ n
+  locked_small (Set a m) = h.locks_small
+  locked_small (Add a b) = h.locks_small
+  locked_small (Load a x) = h.locks_small
+  locked_small (Store a x) = h.locks_small
+  locked_small (Lock k) = set_all (λ i z. z ≤ n) 0 c.locks k (suc t) h.locks_small lt
+  locked_small (Unlock l) = h.locks_small
+  locked_small (Skip a u) = h.locks_small
 
   op_fit : (o : Op) → At o → Fit n ls ks (length os) (next c o i.pos) (core_after Source vol (suc t) c o)
   op_fit o e = record {
-    place = (next-within o e).1;
-    few = omega (arith, h.few, length_append_entry c.pending (emit c o), (next-within o e).0);
-    regs_count = after-count o;
+    place = (next_within o e).1;
+    few = omega (arith, h.few, length_append_entry c.pending (emit c o), (next_within o e).0);
+    regs_count = after_count o;
     regs_small = after_small o e;
-    entries = emit-small o e;
+    entries = emit_small o e;
     memory_count = h.memory_count;
     memory_small = h.memory_small;
-    locks_count = locked-count o;
-    locks_small = locked-small o;
+    locks_count = locked_count o;
+    locks_small = locked_small o;
   }
 
   -- memory and the lock words after a commit
-  landed-fit : (e : Entry) → EntrySmall ls ks e
+  landed_fit : (e : Entry) → EntrySmall ls ks e
       → (length (landed c.memory e) ≡ ls) × ((x : ℕ) → get_or (landed c.memory e) x 0 < 2 ^ 32)
-  landed-fit (write y v) small = (
+  landed_fit (write y v) small = (
     length-set c.memory y v ∙ h.memory_count,
     set_all (λ i z. z < 2 ^ 32) 0 c.memory y v h.memory_small small.1,
   )
-  landed-fit (release l) small = (h.memory_count, h.memory_small)
+  landed_fit (release l) small = (h.memory_count, h.memory_small)
 
-  freed-fit : (e : Entry) → (length (freed c.locks e) ≡ ks) × ((l : ℕ) → get_or (freed c.locks e) l 0 ≤ n)
-  freed-fit (write y v) = (h.locks_count, h.locks_small)
-  freed-fit (release l) = (
+  freed_fit : (e : Entry) → (length (freed c.locks e) ≡ ks) × ((l : ℕ) → get_or (freed c.locks e) l 0 ≤ n)
+  freed_fit (write y v) = (h.locks_count, h.locks_small)
+  freed_fit (release l) = (
     length-set c.locks l 0 ∙ h.locks_count,
     set_all (λ i z. z ≤ n) 0 c.locks l 0 h.locks_small (omega arith),
   )
 
-  settle-fit : (x : ℕ) (e : Entry) → get_elem? c.pending x ≡ some e
+  settle_fit : (x : ℕ) (e : Entry) → get_elem? c.pending x ≡ some e
       → Fit n ls ks (length os) i.pos (settle c (without x c.pending) e)
-  settle-fit x e k = record {
+  settle_fit x e k = record {
     place = h.place;
     few = omega (arith, h.few, length_without c.pending x e k);
     regs_count = h.regs_count;
     regs_small = h.regs_small;
     entries = all_without ls ks x c.pending h.entries;
-    memory_count = (landed-fit e small).0;
-    memory_small = (landed-fit e small).1;
-    locks_count = (freed-fit e).0;
-    locks_small = (freed-fit e).1;
+    memory_count = (landed_fit e small).0;
+    memory_small = (landed_fit e small).1;
+    locks_count = (freed_fit e).0;
+    locks_small = (freed_fit e).1;
   }
     where
       small : EntrySmall ls ks e
       small = all_at ls ks x c.pending e k h.entries
 
-  pub turn-keeps : (k : ℕ) → Keeps n ls ks (length os) (turn Source vol (suc t) (map op os) i c k)
-  turn-keeps zero = go (get_elem? os i.pos) refl
+  pub turn_keeps : (k : ℕ) → Keeps n ls ks (length os) (turn Source vol (suc t) (map op os) i c k)
+  turn_keeps zero = go (get_elem? os i.pos) refl
     where
       done : (o : Op) → At o → (b : Bool)
           → Keeps n ls ks (length os)
@@ -217,11 +217,11 @@ module _ (n ls ks : ℕ) (os : List Op) (w : LawfulLane ls ks os) (vol : ℕ →
           → Keeps n ls ks (length os) (execute Source vol (suc t) i c (get_elem? (map op os) i.pos))
       go none e = rw (getElem?-map op os i.pos, e) tt
       go (some o) e = rw (getElem?-map op os i.pos, e) (act o e (permits Source vol c o))
-  turn-keeps (suc x) = go (get_elem? c.pending x) refl
+  turn_keeps (suc x) = go (get_elem? c.pending x) refl
     where
       act : (e : Entry) → get_elem? c.pending x ≡ some e → (b : Bool)
           → Keeps n ls ks (length os) (cond b (does (committed i) (settle c (without x c.pending) e) none) waits)
-      act e k true = settle-fit x e k
+      act e k true = settle_fit x e k
       act e k false = tt
 
       go : (e : Option Entry) → get_elem? c.pending x ≡ e → Keeps n ls ks (length os) (commit Source vol i c x e)

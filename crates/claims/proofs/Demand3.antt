@@ -30,17 +30,17 @@ use Rattle.claims.proofs.Fenced.{kernel_program, sheet_program}
 use Rattle.machine_spec.specs.Run.{answer_of, refusal, start_of, level_of, program_for, run_on, run_program, run_file, shown}
 use Rattle.machine_spec.specs.Run.{run_by, counts_as}
 use Rattle.claims.specs.Claims.{Shares, source_for, target_for, answer_for, Demand3, Runs, Bounds}
-use Rattle.claims.proofs.Matching.{Matched, both_ran, matching, observed, begin-matched}
+use Rattle.claims.proofs.Matching.{Matched, both_ran, matching, observed, begin_matched}
 use Rattle.claims.proofs.Legal.{source_legal, target_legal}
 use Rattle.claims.proofs.DirectPending.{start_ready}
-use Rattle.claims.proofs.DirectMatching.{direct-matching}
+use Rattle.claims.proofs.DirectMatching.{direct_matching}
 use Rattle.claims.proofs.Stuck.{stuck}
-use Rattle.claims.proofs.ReleasesHeld.{source-runs, target-runs}
+use Rattle.claims.proofs.ReleasesHeld.{source_runs, target_runs}
 use Rattle.claims.proofs.HeldSets.{held_at}
 use Rattle.machine_spec.specs.Shape.{Shaped, Within, MarksBehind, Unmarked}
-use Rattle.claims.proofs.BoundedRuns.{source-shaped, source-within}
-use Rattle.claims.proofs.MarksKept.{marks-kept}
-use Rattle.claims.proofs.KernelLanes.{fenced, disciplined, source-program}
+use Rattle.claims.proofs.BoundedRuns.{source_shaped, source_within}
+use Rattle.claims.proofs.MarksKept.{marks_kept}
+use Rattle.claims.proofs.KernelLanes.{fenced, disciplined, source_program}
 
 counts_legal : (m : Machine) (k : Program) (mvs : List Move)
     → legal (length k.lanes) (limit m) (counts_as m k mvs) ≡ true
@@ -77,11 +77,11 @@ module _ (k : Program) (w : Lawful k) where
   abbrev P : List (List Instr)
   P = program_for Source k
 
-  source-ran : (mvs : List Move) → legal n 64 mvs ≡ true → (r : Run) × (run_on Source k mvs ≡ ran r)
-  source-ran =
+  source_ran : (mvs : List Move) → legal n 64 mvs ≡ true → (r : Run) × (run_on Source k mvs ≡ ran r)
+  source_ran =
       subst (λ p. (mvs : List Move) → legal n 64 mvs ≡ true → (r : Run) × (run Source vol p begun mvs ≡ ran r))
-      (source-program k Level0)
-      (source-runs n k.locks (placed_lanes Level0 k) (λ t. held_at (get_or k.lanes t [])) (disciplined k w Level0)
+      (source_program k Level0)
+      (source_runs n k.locks (placed_lanes Level0 k) (λ t. held_at (get_or k.lanes t [])) (disciplined k w Level0)
       vol zeros)
 
   -- ## a target beside the source machine
@@ -94,20 +94,20 @@ module _ (k : Program) (w : Lawful k) where
     Q = program_for (Target m) k
 
     -- what the bytes of the sheet stand for are its lanes
-    pub target-program : sheet_program ks ≡ Q
-    target-program = sym (bytes_back (level_of (Target m)) k w)
+    pub target_program : sheet_program ks ≡ Q
+    target_program = sym (bytes_back (level_of (Target m)) k w)
 
-    target-ran : (mvs : List Move) → legal n (limit (Target m)) mvs ≡ true
+    target_ran : (mvs : List Move) → legal n (limit (Target m)) mvs ≡ true
         → (r : Run) × (run_on (Target m) k mvs ≡ ran r)
-    target-ran =
+    target_ran =
         subst (λ q. (mvs : List Move) → legal n (limit (Target m)) mvs ≡ true
         → (r : Run) × (run (Target m) vol q begun mvs ≡ ran r))
-        target-program
-        (target-runs n k.locks ks (λ t. held_at (get_or k.lanes t [])) (disciplined k w (level_of (Target m))) vol m
+        target_program
+        (target_runs n k.locks ks (λ t. held_at (get_or k.lanes t [])) (disciplined k w (level_of (Target m))) vol m
         (fenced k w m) zeros)
 
     begins : Matched m vol ks begun begun
-    begins = begin-matched m vol ks n zeros k.locks
+    begins = begin_matched m vol ks n zeros k.locks
 
     -- a run of the source program p for each of the sheet program q, and back
     abbrev Matches : List (List Instr) → List (List Instr) → Type 0
@@ -115,8 +115,8 @@ module _ (k : Program) (w : Lawful k) where
         → observe p (run Source vol p begun (source_schedule m vol q begun mvs)) ≡ observe q
         (run (Target m) vol q begun mvs)
 
-    matched-seen : Matches P Q
-    matched-seen = subst₂ Matches (source-program k (level_of (Target m))) target-program
+    matched_seen : Matches P Q
+    matched_seen = subst₂ Matches (source_program k (level_of (Target m))) target_program
         (λ mvs. observed m vol ks _ _ (matching m vol ks (fenced k w m) mvs begun begun begins))
 
     abbrev Directs : List (List Instr) → List (List Instr) → Type 0
@@ -124,9 +124,9 @@ module _ (k : Program) (w : Lawful k) where
         → observe p (run Source vol p begun mvs) ≡ observe q
         (run (Target m) vol q begun (target_schedule m vol q begun mvs))
 
-    direct-seen : Directs P Q
-    direct-seen = subst₂ Directs (source-program k (level_of (Target m))) target-program
-        (λ mvs le st. observed m vol ks _ _ (direct-matching m vol ks (fenced k w m) n mvs none begun begun begins
+    direct_seen : Directs P Q
+    direct_seen = subst₂ Directs (source_program k (level_of (Target m))) target_program
+        (λ mvs le st. observed m vol ks _ _ (direct_matching m vol ks (fenced k w m) n mvs none begun begun begins
         (start_ready n zeros k.locks) le st))
 
     -- two runs that are seen the same share what is compared
@@ -135,8 +135,8 @@ module _ (k : Program) (w : Lawful k) where
         → Shares (run_program Source k a) (run_program (Target m) k b)
     unfolding view_seen
     shares a b la lb e =
-        let x = source-ran a la in
-        let y = target-ran b lb in
+        let x = source_ran a la in
+        let y = target_ran b lb in
         rw (answered Source k a x.0 la x.1, answered (Target m) k b y.0 lb y.1) (record {
           ran = refl;
           ran_too = refl;
@@ -144,29 +144,29 @@ module _ (k : Program) (w : Lawful k) where
               (sym (ap (observe P) x.1) ∙ e ∙ ap (observe Q) y.1);
         })
 
-    program-matched : (mvs : List Move)
+    program_matched : (mvs : List Move)
         → Shares (run_program Source k (source_for m k mvs)) (run_program (Target m) k (counts_as (Target m) k mvs))
-    program-matched mvs =
+    program_matched mvs =
         let cs = counts_as (Target m) k mvs in
         let le = counts_legal (Target m) k mvs in
-        shares (source_for m k mvs) cs (source_legal m vol Q n begun cs le) le (matched-seen cs)
+        shares (source_for m k mvs) cs (source_legal m vol Q n begun cs le) le (matched_seen cs)
 
-    program-direct : (mvs : List Move) → direct vol P none begun (counts_as Source k mvs) ≡ true
+    program_direct : (mvs : List Move) → direct vol P none begun (counts_as Source k mvs) ≡ true
         → Shares (run_program Source k (counts_as Source k mvs)) (run_program (Target m) k (target_for m k mvs))
-    program-direct mvs st =
+    program_direct mvs st =
         let cs = counts_as Source k mvs in
         let le = counts_legal Source k mvs in
-        shares cs (target_for m k mvs) le (target_legal m vol Q n begun cs le) (direct-seen cs le st)
+        shares cs (target_for m k mvs) le (target_legal m vol Q n begun cs le) (direct_seen cs le st)
 
     -- where it ran to beside the source machine
-    pub ran-matched : (mvs : List Move) (r : Run) → run (Target m) vol (sheet_program ks) begun mvs ≡ ran r
+    pub ran_matched : (mvs : List Move) (r : Run) → run (Target m) vol (sheet_program ks) begun mvs ≡ ran r
         → Matched m vol ks (run Source vol (kernel_program ks) begun (source_schedule m vol (sheet_program ks) begun mvs))
         (ran r)
-    ran-matched mvs r e = subst (Matched m vol ks _) e (matching m vol ks (fenced k w m) mvs begun begun begins)
+    ran_matched mvs r e = subst (Matched m vol ks _) e (matching m vol ks (fenced k w m) mvs begun begun begins)
 
     -- its lane stands in its sheet part, since it stands at the place of a source lane
-    lane-within : (o : Outcome) (r : Run) → Matched m vol ks o (ran r) → Within (sheet_program ks) r.state
-    lane-within o r (both_ran e h) t =
+    lane_within : (o : Outcome) (r : Run) → Matched m vol ks o (ran r) → Within (sheet_program ks) r.state
+    lane_within o r (both_ran e h) t =
         let st = (h.lanes t).stands in
         let ps = get_or ks t [] in
         rw (get_or-map sheet ks t [], st.place)
@@ -175,44 +175,44 @@ module _ (k : Program) (w : Lawful k) where
     abbrev Stays : List (List Instr) → Type 0
     Stays q = (mvs : List Move) (r : Run) → run (Target m) vol q begun mvs ≡ ran r → Within q r.state
 
-    target-stays : Stays Q
-    target-stays = subst Stays target-program (λ mvs r e. lane-within _ r (ran-matched mvs r e))
+    target_stays : Stays Q
+    target_stays = subst Stays target_program (λ mvs r e. lane_within _ r (ran_matched mvs r e))
 
   -- ## every machine
 
   pub ran_to : (m : Machine) (mvs : List Move) → legal n (limit m) mvs ≡ true → (r : Run) × (run_on m k mvs ≡ ran r)
-  ran_to Source = source-ran
-  ran_to (Target m) = target-ran m
+  ran_to Source = source_ran
+  ran_to (Target m) = target_ran m
 
-  pub program-within : (m : Machine) (mvs : List Move) → legal n (limit m) mvs ≡ true
+  pub program_within : (m : Machine) (mvs : List Move) → legal n (limit m) mvs ≡ true
       → Within (program_for m k) (run_program m k mvs).state
-  program-within m mvs le =
+  program_within m mvs le =
       let x = ran_to m mvs le in
       rw (answered m k mvs x.0 le x.1) (go m x.0 le x.1)
     where
       go : (m : Machine) (r : Run) → legal n (limit m) mvs ≡ true → run_on m k mvs ≡ ran r
           → Within (program_for m k) r.state
-      go Source r le e = source-within k w mvs r le e
-      go (Target m) r le e = target-stays m mvs r e
+      go Source r le e = source_within k w mvs r le e
+      go (Target m) r le e = target_stays m mvs r e
 
-  program-marks : (m : Machine) (mvs : List Move) → legal n (limit m) mvs ≡ true
+  program_marks : (m : Machine) (mvs : List Move) → legal n (limit m) mvs ≡ true
       → MarksBehind (run_program m k mvs).state × (m ≢ Target Pso → Unmarked (run_program m k mvs).state)
-  program-marks m mvs le =
+  program_marks m mvs le =
       let x = ran_to m mvs le in
       rw (answered m k mvs x.0 le x.1)
-      (marks-kept m vol (program_for m k) n zeros k.locks mvs x.0 x.1)
+      (marks_kept m vol (program_for m k) n zeros k.locks mvs x.0 x.1)
 
-  source-bounds : (mvs : List Move) → legal n 64 mvs ≡ true → Shaped k (shown (run_program Source k mvs))
-  source-bounds mvs le =
-      let x = source-ran mvs le in
-      rw (answered Source k mvs x.0 le x.1) (source-shaped k w mvs x.0 le x.1)
+  source_bounds : (mvs : List Move) → legal n 64 mvs ≡ true → Shaped k (shown (run_program Source k mvs))
+  source_bounds mvs le =
+      let x = source_ran mvs le in
+      rw (answered Source k mvs x.0 le x.1) (source_shaped k w mvs x.0 le x.1)
 
   -- of a target, since its runs share what is bounded
-  program-bounds : (m : Machine) (mvs : List Move) → Shaped k (shown (run_program m k (counts_as m k mvs)))
-  program-bounds Source mvs = source-bounds (counts_as Source k mvs) (counts_legal Source k mvs)
-  program-bounds (Target m) mvs =
+  program_bounds : (m : Machine) (mvs : List Move) → Shaped k (shown (run_program m k (counts_as m k mvs)))
+  program_bounds Source mvs = source_bounds (counts_as Source k mvs) (counts_legal Source k mvs)
+  program_bounds (Target m) mvs =
       let le = source_legal m vol (Q m) n begun (counts_as (Target m) k mvs) (counts_legal (Target m) k mvs) in
-      subst (Shaped k) (program-matched m mvs).same (source-bounds (source_for m k mvs) le)
+      subst (Shaped k) (program_matched m mvs).same (source_bounds (source_for m k mvs) le)
 
 -- what an accepted file answers
 from_bytes : (m : Machine) (s : List ℕ) (k : Program) → verdict s ≡ accepted k → (mvs : List Move)
@@ -225,10 +225,10 @@ demand3 s k e m =
     record {
       matched =
           λ mvs. subst₂ Shares (from_bytes Source s k e _) (from_bytes (Target m) s k e _)
-          (program-matched k w m mvs);
+          (program_matched k w m mvs);
       stuck = λ mvs. stuck (Target m) (volatile_in k) (program_for (Target m) k) (answer_for (Target m) s k mvs).state;
       direct = λ mvs st. subst₂ Shares (from_bytes Source s k e _) (from_bytes (Target m) s k e _)
-          (program-direct k w m mvs st);
+          (program_direct k w m mvs st);
     }
 
 -- number 11 is never met
@@ -242,11 +242,11 @@ bounds s k e =
     let w = accepted_lawful s k e in
     record {
       shaped = λ m mvs. subst (λ a. Shaped k (shown a)) (from_bytes m s k e (counts_as m k mvs))
-          (program-bounds k w m mvs);
+          (program_bounds k w m mvs);
       within = λ m mvs. subst (λ a. Within (program_for m k) a.state) (from_bytes m s k e (counts_as m k mvs))
-          (program-within k w m (counts_as m k mvs) (counts_legal m k mvs));
+          (program_within k w m (counts_as m k mvs) (counts_legal m k mvs));
       marks = λ m mvs. subst (λ a. MarksBehind a.state) (from_bytes m s k e (counts_as m k mvs))
-          (program-marks k w m (counts_as m k mvs) (counts_legal m k mvs)).0;
+          (program_marks k w m (counts_as m k mvs) (counts_legal m k mvs)).0;
       unmarked = λ m ne mvs. subst (λ a. Unmarked a.state) (from_bytes m s k e (counts_as m k mvs))
-          ((program-marks k w m (counts_as m k mvs) (counts_legal m k mvs)).1 ne);
+          ((program_marks k w m (counts_as m k mvs) (counts_legal m k mvs)).1 ne);
     }

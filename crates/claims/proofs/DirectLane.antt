@@ -23,7 +23,7 @@ use Rattle.claims.specs.Schedules.{leading}
 use Rattle.claims.specs.Stuck.{halted}
 use Rattle.claims.proofs.Laws.Sheets.{Here, end, ahead, meet, here}
 use Rattle.claims.proofs.Laws.Pending.{oldest_commits}
-use Rattle.claims.proofs.Stuck.{free_permits, waits-permits}
+use Rattle.claims.proofs.Stuck.{free_permits, waits_permits}
 use Rattle.claims.proofs.Stands.{Stands}
 
 op_back : (m : Model) (vol : ℕ → Bool) (w : ℕ) (k i : Control) (c : Core) (r : ℕ → ℕ) → c.pending ≡ [] → (o : Op)
@@ -32,7 +32,7 @@ op_back m vol w k i c r nil o e =
     let f : permits Source vol c o ≡ false =
     free_permits Source vol c nil o
     ∙ ap not (sym (aim_blind (λ o. halted c.locks (some (op o))) (λ a t u. refl) r o))
-    ∙ sym (free_permits (Target m) vol c nil (aim r o)) ∙ waits-permits (Target m) vol w k c (aim r o) e in
+    ∙ sym (free_permits (Target m) vol c nil (aim r o)) ∙ waits_permits (Target m) vol w k c (aim r o) e in
     rw f
 
 pub fetch_barrier : (l : List Instr) (q n : ℕ) → leading (drop q l) ≡ suc n → (b : Barrier)

@@ -18,7 +18,7 @@ use Rattle.machine_spec.specs.State.{advance, run}
 use Rattle.claims.specs.Schedules.{keep, leading, expand}
 use Rattle.claims.proofs.Fenced.{AllFenced, kernel_program, sheet_program}
 use Rattle.claims.proofs.Laws.Lanes.{set_lane_same, set_lane_count}
-use Rattle.claims.proofs.Matching.{Follows, Matched, both_ran, source-turn, step-matched}
+use Rattle.claims.proofs.Matching.{Follows, Matched, both_ran, source_turn, step_matched}
 use Rattle.claims.proofs.DirectLane.{fetch_barrier, no_barrier, execute_back, is_pass, passes_barrier}
 use Rattle.claims.proofs.DirectLane.{drained_passes}
 
@@ -37,7 +37,7 @@ module _ (m : Model) (vol : ℕ → Bool) (ks : List (List (Placed Op)))
       (advance (Target m) vol (sheet_program ks) (ran s) mv)
   unfolding is_pass
   exact r s e h mv np back =
-      go (move_turn (Target m) vol (sheet_program ks) s.state mv) refl (step-matched m vol ks f r s e h mv)
+      go (move_turn (Target m) vol (sheet_program ks) s.state mv) refl (step_matched m vol ks f r s e h mv)
     where
       go : (u : Turn) → move_turn (Target m) vol (sheet_program ks) s.state mv ≡ u
           → Matched m vol ks (run Source vol (kernel_program ks) (ran r) (keep mv u))
@@ -56,10 +56,10 @@ module _ (m : Model) (vol : ℕ → Bool) (ks : List (List (Placed Op)))
       → Matched m vol ks (advance Source vol (kernel_program ks) (ran r) (move t 0))
       (run (Target m) vol (sheet_program ks) (ran s) (expand t 0 n))
   unfolding is_pass
-  through zero t r s e h lt nil lead = exact r s e h (move t 0) no-pass back
+  through zero t r s e h lt nil lead = exact r s e h (move t 0) no_pass back
     where
-      no-pass : is_pass (move_turn (Target m) vol (sheet_program ks) s.state (move t 0)) ≡ false
-      no-pass = go _ refl
+      no_pass : is_pass (move_turn (Target m) vol (sheet_program ks) s.state (move t 0)) ≡ false
+      no_pass = go _ refl
         where
           go : (x : Bool) → is_pass (move_turn (Target m) vol (sheet_program ks) s.state (move t 0)) ≡ x
               → is_pass (move_turn (Target m) vol (sheet_program ks) s.state (move t 0)) ≡ false
@@ -73,7 +73,7 @@ module _ (m : Model) (vol : ℕ → Bool) (ks : List (List (Placed Op)))
       back : move_turn (Target m) vol (sheet_program ks) s.state (move t 0) ≡ waits
           → move_turn Source vol (kernel_program ks) r.state (move t 0) ≡ waits
       back x =
-          source-turn m vol ks f r.state s.state h (move t 0)
+          source_turn m vol ks f r.state s.state h (move t 0)
           ∙ execute_back m vol (get_or ks t []) (suc t) (lane_at r.state t).control (lane_at s.state t).control
           (core_of s.state (lane_at s.state t)) nil (h.lanes t).stands
           (rw (get_or-map sheet ks t []) at lead) (rw (get_or-map sheet ks t []) at x)
@@ -108,7 +108,7 @@ module _ (m : Model) (vol : ℕ → Bool) (ks : List (List (Placed Op)))
       after : (r.row ≡ s₁.row) × Follows m vol ks r.state s₁.state
       after = matched_ran
           (subst (λ (u : Turn). Matched m vol ks (run Source vol (kernel_program ks) (ran r) (keep mv u))
-          (apply_turn s t (rank (get_or (sheet_program ks) t []) q) u)) passing (step-matched m vol ks f r s e h mv))
+          (apply_turn s t (rank (get_or (sheet_program ks) t []) q) u)) passing (step_matched m vol ks f r s e h mv))
 
       moved : lane_at s₁.state t ≡ lane_of k₁ c
       moved = set_lane_same s.state t k₁ c lt

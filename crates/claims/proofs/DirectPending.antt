@@ -50,53 +50,53 @@ After P es (passes k c) = P c.pending
 After P es (does k c v) = P c.pending
 
 module _ (vol : ℕ → Bool) (w : ℕ) (k : Control) (c : Core) where
-  emit-length : (o : Op) → length (append_entry [] (emit c o)) ≡ cond (appends o) 1 0
-  emit-length (Set a n) = refl
-  emit-length (Add a b) = refl
-  emit-length (Load a x) = refl
-  emit-length (Store a x) = refl
-  emit-length (Lock l) = refl
-  emit-length (Unlock l) = refl
-  emit-length (Skip a t) = refl
+  emit_length : (o : Op) → length (append_entry [] (emit c o)) ≡ cond (appends o) 1 0
+  emit_length (Set a n) = refl
+  emit_length (Add a b) = refl
+  emit_length (Load a x) = refl
+  emit_length (Store a x) = refl
+  emit_length (Lock l) = refl
+  emit_length (Unlock l) = refl
+  emit_length (Skip a t) = refl
 
-  effect-after : c.pending ≡ [] → (o : Op)
+  effect_after : c.pending ≡ [] → (o : Op)
       → After (λ es. length es ≡ cond (appends o) 1 0) c.pending (effect Source vol w k c o)
-  effect-after nil o = go (holds w c o)
+  effect_after nil o = go (holds w c o)
     where
       go : (b : Bool) → After (λ es. length es ≡ cond (appends o) 1 0) c.pending
           (cond b (does (goto k (next c o k.pos)) (core_after Source vol w c o) (loads Source vol c o)) refuses)
-      go true = ap (λ es. length (append_entry es (emit c o))) nil ∙ emit-length o
+      go true = ap (λ es. length (append_entry es (emit c o))) nil ∙ emit_length o
       go false = tt
 
   -- an operation that appends does not wait
-  halted-appends : (o : Op) → halted c.locks (some (op o)) ≡ true → appends o ≡ false
-  halted-appends (Set a n) h = refl
-  halted-appends (Add a b) h = refl
-  halted-appends (Load a x) h = refl
-  halted-appends (Store a x) h = sym h
-  halted-appends (Lock l) h = refl
-  halted-appends (Unlock l) h = sym h
-  halted-appends (Skip a t) h = refl
+  halted_appends : (o : Op) → halted c.locks (some (op o)) ≡ true → appends o ≡ false
+  halted_appends (Set a n) h = refl
+  halted_appends (Add a b) h = refl
+  halted_appends (Load a x) h = refl
+  halted_appends (Store a x) h = sym h
+  halted_appends (Lock l) h = refl
+  halted_appends (Unlock l) h = sym h
+  halted_appends (Skip a t) h = refl
 
-  execute-after : c.pending ≡ [] → (i : Option Instr)
+  execute_after : c.pending ≡ [] → (i : Option Instr)
       → After (λ es. length es ≡ cond (appends_at i) 1 0) c.pending (execute Source vol w k c i)
-  execute-after nil none = rw nil
-  execute-after nil (some (barrier b)) = rw nil
-  execute-after nil (some (op o)) = go (permits Source vol c o) refl
+  execute_after nil none = rw nil
+  execute_after nil (some (barrier b)) = rw nil
+  execute_after nil (some (op o)) = go (permits Source vol c o) refl
     where
       go : (b : Bool) → permits Source vol c o ≡ b
           → After (λ es. length es ≡ cond (appends o) 1 0) c.pending (execute Source vol w k c (some (op o)))
-      go true h = rw h (effect-after nil o)
+      go true h = rw h (effect_after nil o)
       go false h =
           let none-appended =
-          halted-appends o
+          halted_appends o
           (not-false (halted c.locks (some (op o))) (sym (free_permits Source vol c nil o) ∙ h)) in
           rw (h, none-appended, nil)
 
   -- a list of one entry after the commit of that entry
-  commit-after : length c.pending ≡ 1
+  commit_after : length c.pending ≡ 1
       → After (λ es. length es ≡ 0) c.pending (commit Source vol k c 0 (get_elem? c.pending 0))
-  commit-after one = go c.pending refl one
+  commit_after one = go c.pending refl one
     where
       go : (es : List Entry) → c.pending ≡ es → length es ≡ 1
           → After (λ es. length es ≡ 0) c.pending (commit Source vol k c 0 (get_elem? c.pending 0))
@@ -149,36 +149,36 @@ module _ (vol : ℕ → Bool) (prog : List (List Instr)) (n : ℕ) (r : Run) whe
   nothing_pending none t x h e = nil_of_length _ (h.lists t)
   nothing_pending (some u) t x h e = let k = (honoured u t 0 x h e).1 in absurd (omega arith)
 
-  ready-advance : (d d' : Option ℕ) (mv : Move) → Ready n d r.state → mv.lane < n
+  ready_advance : (d d' : Option ℕ) (mv : Move) → Ready n d r.state → mv.lane < n
       → ((i : ℕ) → i ≢ mv.lane → due d i ≡ due d' i)
       → After (λ es. length es ≡ due d' mv.lane) (lane_at r.state mv.lane).pending
       (move_turn Source vol prog r.state mv)
       → ReadyOut n d' (advance Source vol prog (ran r) mv)
-  ready-advance d d' mv h lt same a =
+  ready_advance d d' mv h lt same a =
       ready_land n d d' r mv.lane (rank (get_or prog mv.lane []) (pos_at r.state mv.lane))
       (move_turn Source vol prog r.state mv) h lt same a
 
-  pub ready-step : (d : Option ℕ) (t k : ℕ) → Ready n d r.state → t < n
+  pub ready_step : (d : Option ℕ) (t k : ℕ) → Ready n d r.state → t < n
       → honours d (move_turn Source vol prog r.state (move t k)) r.state (move t k) ≡ true
       → ReadyOut n (owes prog r.state (move t k)) (advance Source vol prog (ran r) (move t k))
-  ready-step none t zero h lt e =
+  ready_step none t zero h lt e =
       let i = get_elem? (get_or prog t []) (pos_at r.state t) in
-      ready-advance none (cond (appends_at i) (some t) none) (move t 0) h lt
+      ready_advance none (cond (appends_at i) (some t) none) (move t 0) h lt
       (λ j ne. sym (due_other (appends_at i) t j ne))
       (rw (due_own (appends_at i) t)
-      (execute-after vol (suc t) (lane_at r.state t).control (core_of r.state (lane_at r.state t))
+      (execute_after vol (suc t) (lane_at r.state t).control (core_of r.state (lane_at r.state t))
       (nil_of_length (lane_at r.state t).pending (h.lists t)) i))
-  ready-step (some u) t zero h lt e = let z =
+  ready_step (some u) t zero h lt e = let z =
       (honoured u t 0 (move_turn Source vol prog r.state (move t 0)) h e).1 in absurd (omega arith)
-  ready-step none t (suc k) h lt e =
+  ready_step none t (suc k) h lt e =
       let nil : (lane_at r.state t).pending ≡ [] = nil_of_length (lane_at r.state t).pending (h.lists t) in
-      ready-advance none none (move t (suc k)) h lt (λ i ne. refl) (rw nil)
-  ready-step (some u) t (suc zero) h lt e =
+      ready_advance none none (move t (suc k)) h lt (λ i ne. refl) (rw nil)
+  ready_step (some u) t (suc zero) h lt e =
       let same : t ≡ u = (honoured u t 1 (move_turn Source vol prog r.state (move t 1)) h e).0 in
-      ready-advance (some u) none (move t 1) h lt (λ i ne. due_other true u i (rw same at ne))
-      (commit-after vol (suc t) (lane_at r.state t).control (core_of r.state (lane_at r.state t))
+      ready_advance (some u) none (move t 1) h lt (λ i ne. due_other true u i (rw same at ne))
+      (commit_after vol (suc t) (lane_at r.state t).control (core_of r.state (lane_at r.state t))
       (h.lists t ∙ ap (λ j. due (some u) j) same ∙ due_own true u))
-  ready-step (some u) t (suc (suc k)) h lt e =
+  ready_step (some u) t (suc (suc k)) h lt e =
       let z = (honoured u t (suc (suc k)) (move_turn Source vol prog r.state (move t (suc (suc k)))) h e).1 in
       absurd (omega arith)
 

@@ -41,9 +41,9 @@ module _ (m : Machine) (vol : ℕ → Bool) (prog : List (List Instr)) (n c : �
       (λ t. leb (length (lane_at s t).pending) c && every (suc c)
       (λ x. child (explore k) s t (move_turn m vol prog s (move t x))))
 
-  refused-good : (t k : ℕ) (mvs : List Move) → GoodOut good (run m vol prog (refused t k) mvs)
-  refused-good t k [] = tt
-  refused-good t k (mv ∷ mvs) = refused-good t k mvs
+  refused_good : (t k : ℕ) (mvs : List Move) → GoodOut good (run m vol prog (refused t k) mvs)
+  refused_good t k [] = tt
+  refused_good t k (mv ∷ mvs) = refused_good t k mvs
 
   -- a choice beyond the pending list waits
   late : (s : State) (t x : ℕ) → length (lane_at s t).pending < x → move_turn m vol prog s (move t x) ≡ waits
@@ -72,7 +72,7 @@ module _ (m : Machine) (vol : ℕ → Bool) (prog : List (List Instr)) (n c : �
       → (q : ℕ) (u : Turn) → child (explore k) r.state t u ≡ true
       → GoodOut good (run m vol prog (apply_turn r t q u) mvs)
   onward k r t e mvs rec q waits h = rec (suc k) _ e
-  onward k r t e mvs rec q refuses h = refused-good t q mvs
+  onward k r t e mvs rec q refuses h = refused_good t q mvs
   onward k r t e mvs rec q (passes j d) h = rec k _ h
   onward k r t e mvs rec q (does j d v) h = rec k _ h
 

@@ -100,16 +100,16 @@ module _ (vol : ℕ → Bool) (ks : ℕ) (es : List Entry) (i : ℕ) (e : Entry)
       → (no_mark i ks ≡ true) × (not (any_same e (take i es)) ≡ true)
   parts h = and_true (no_mark i ks) (not (any_same e (take i es))) (rw (length_at es i e k) at h)
 
-  pub ordered-commit : (m : Model) → may_commit (Target m) vol ks (take i es) e ≡ true → Ordered m vol ks es
+  pub ordered_commit : (m : Model) → may_commit (Target m) vol ks (take i es) e ≡ true → Ordered m vol ks es
       → Ordered m vol (after_commit ks) (without i es)
-  ordered-commit Tso h q = tt
-  ordered-commit Pso h q = parted_without vol ks es i (parts h).0 q
+  ordered_commit Tso h q = tt
+  ordered_commit Pso h q = parted_without vol ks es i (parts h).0 q
 
   -- what a target may commit, so may the source machine
-  pub source-commits : (m : Model) (other : ℕ) → may_commit (Target m) vol ks (take i es) e ≡ true → Ordered m vol ks es
+  pub source_commits : (m : Model) (other : ℕ) → may_commit (Target m) vol ks (take i es) e ≡ true → Ordered m vol ks es
       → may_commit Source vol other (take i es) e ≡ true
-  source-commits Tso other h q = oldest_commits Source vol other (take i es) e h
-  source-commits Pso other h q = go (is_sync vol e) refl
+  source_commits Tso other h q = oldest_commits Source vol other (take i es) e h
+  source_commits Pso other h q = go (is_sync vol e) refl
     where
       go : (b : Bool) → is_sync vol e ≡ b → cond b (is_nil (take i es)) (not (any_same e (take i es))) ≡ true
       go true s = parted_oldest vol ks es i e (parts h).0 q k s

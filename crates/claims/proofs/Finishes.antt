@@ -38,9 +38,9 @@ use Rattle.machine_spec.proofs.Levels.{program_lanes}
 use Rattle.claims.specs.Claims.{instructions_in, Finishes}
 use Rattle.claims.proofs.Laws.Lanes.{set_lane_count, summed, summed_set, start_summed}
 use Rattle.claims.proofs.Laws.Pending.{length_append_entry, length_without}
-use Rattle.claims.proofs.Laws.Sheets.{op-fetched, op-located}
-use Rattle.claims.proofs.KernelLanes.{lane-placed}
-use Rattle.claims.proofs.Demand3.{answered, ran_to, program-within}
+use Rattle.claims.proofs.Laws.Sheets.{op_fetched, op_located}
+use Rattle.claims.proofs.KernelLanes.{lane_placed}
+use Rattle.claims.proofs.Demand3.{answered, ran_to, program_within}
 use Rattle.claims.proofs.Progress.{legal_with, progress}
 
 -- ## lanes whose operations go on
@@ -71,7 +71,7 @@ sheet_onward ls ks ps w x o e c =
     os = operations ps
 
     f : (p : ℕ) × (p < length ps) × (x ≡ op_at ps p)
-    f = op-located ps x o e
+    f = op_located ps x o e
 
     p : ℕ
     p = f.0
@@ -80,12 +80,12 @@ sheet_onward ls ks ps w x o e c =
     inside = omega (arith, f.1, length-map ps (λ (y : Placed Op). y.oper))
 
     same : aim (start ps) (operation_at os p) ≡ o
-    same = cc (op-fetched ps p f.1, e, f.2)
+    same = cc (op_fetched ps p f.1, e, f.2)
 
 program_onward : (k : Program) → Lawful k → (m : Machine) (t : ℕ) → Onward (get_or (program_for m k) t [])
 program_onward k w m t =
     let os = get_or k.lanes t [] in
-    rw (program_lanes k w m, get_or-map sheet (placed_lanes (level_of m) k) t [], lane-placed k (level_of m) t)
+    rw (program_lanes k w m, get_or-map sheet (placed_lanes (level_of m) k) t [], lane_placed k (level_of m) t)
     (sheet_onward k.locations k.locks (placed (level_of m) (volatile_in k) os)
     (rw (placed_operations (level_of m) (steps (volatile_in k) os) 0 os) (w.lane t)))
 
@@ -105,24 +105,24 @@ module _ (m : Machine) (vol : ℕ → Bool) (w : ℕ) (is : List Instr) (on : On
   abbrev G : Turn → Type 0
   G = After k.pos (length c.pending)
 
-  execute-grows : (i : Option Instr) → get_elem? is k.pos ≡ i → G (execute m vol w k c i)
-  execute-grows none at = tt
-  execute-grows (some (op o)) at =
+  execute_grows : (i : Option Instr) → get_elem? is k.pos ≡ i → G (execute m vol w k c i)
+  execute_grows none at = tt
+  execute_grows (some (op o)) at =
       cond_by G (permits m vol c o) _ waits (λ e.
       cond_by G (holds w c o) _ refuses
       (λ h. omega (arith, on k.pos o at c, length_append_entry c.pending (emit c o))) (λ h. tt)) (λ e. tt)
-  execute-grows (some (barrier b)) at =
+  execute_grows (some (barrier b)) at =
       cond_by G (may_pass m b c.pending) _ waits (λ e. omega arith) (λ e. tt)
 
-  commit-grows : (i : ℕ) (e : Option Entry) → get_elem? c.pending i ≡ e → G (commit m vol k c i e)
-  commit-grows i none at = tt
-  commit-grows i (some e) at =
+  commit_grows : (i : ℕ) (e : Option Entry) → get_elem? c.pending i ≡ e → G (commit m vol k c i e)
+  commit_grows i none at = tt
+  commit_grows i (some e) at =
       cond_by G (may_commit m vol k.marks (take i c.pending) e) _ waits
       (λ h. omega (arith, length_without c.pending i e at)) (λ h. tt)
 
-  turn-grows : (n : ℕ) → G (turn m vol w is k c n)
-  turn-grows zero = execute-grows (get_elem? is k.pos) refl
-  turn-grows (suc i) = commit-grows i (get_elem? c.pending i) refl
+  turn_grows : (n : ℕ) → G (turn m vol w is k c n)
+  turn_grows zero = execute_grows (get_elem? is k.pos) refl
+  turn_grows (suc i) = commit_grows i (get_elem? c.pending i) refl
 
 -- ## a run
 
@@ -165,20 +165,20 @@ apply_counted n r t p (does k c v) lt h g = put_counted n r.done r.state t k c l
 
 module _ (m : Machine) (vol : ℕ → Bool) (prog : List (List Instr)) (on : (t : ℕ) → Onward (get_or prog t [])) (n : ℕ)
   where
-    advance-counted : (o : Outcome) (mv : Move) → mv.lane < n → CountedOut n o → CountedOut n (advance m vol prog o mv)
-    advance-counted (refused t p) mv lt h = tt
-    advance-counted (ran r) mv lt h =
+    advance_counted : (o : Outcome) (mv : Move) → mv.lane < n → CountedOut n o → CountedOut n (advance m vol prog o mv)
+    advance_counted (refused t p) mv lt h = tt
+    advance_counted (ran r) mv lt h =
         apply_counted n r mv.lane _ (move_turn m vol prog r.state mv) lt h
-        (turn-grows m vol (suc mv.lane) (get_or prog mv.lane []) (on mv.lane)
+        (turn_grows m vol (suc mv.lane) (get_or prog mv.lane []) (on mv.lane)
         (lane_at r.state mv.lane).control (core_of r.state (lane_at r.state mv.lane)) mv.choice)
 
-    run-counted : (b : ℕ) (mvs : List Move) (o : Outcome) → legal n b mvs ≡ true → CountedOut n o
+    run_counted : (b : ℕ) (mvs : List Move) (o : Outcome) → legal n b mvs ≡ true → CountedOut n o
         → CountedOut n (run m vol prog o mvs)
-    run-counted b [] o le h = h
-    run-counted b (mv ∷ mvs) o le h =
+    run_counted b [] o le h = h
+    run_counted b (mv ∷ mvs) o le h =
         let fits = and_true (ltb mv.lane n && leb mv.choice b) (legal n b mvs) le in
         let lt = ltb-true mv.lane n (and_true (ltb mv.lane n) (leb mv.choice b) fits.0).0 in
-        run-counted b mvs (advance m vol prog o mv) fits.1 (advance-counted o mv lt h)
+        run_counted b mvs (advance m vol prog o mv) fits.1 (advance_counted o mv lt h)
 
 start_counted : (n : ℕ) (mem : List ℕ) (l : ℕ) → Counted n 0 (start_state n mem l)
 start_counted n mem l = record { lanes = length-replicate n _; few = omega (arith, start_summed entries n mem l refl) }
@@ -196,29 +196,29 @@ module _ (k : Program) (w : Lawful k) (m : Machine) (mvs : List Move) where
   abbrev n : ℕ
   n = length k.lanes
 
-  ran-counted : (r : Run) → legal n (limit m) mvs ≡ true → run_on m k mvs ≡ ran r → Counted n r.done r.state
-  ran-counted r le e =
+  ran_counted : (r : Run) → legal n (limit m) mvs ≡ true → run_on m k mvs ≡ ran r → Counted n r.done r.state
+  ran_counted r le e =
       subst (CountedOut n) e
-      (run-counted m (volatile_in k) (program_for m k) (program_onward k w m) n (limit m) mvs (begin (start_of k)) le
+      (run_counted m (volatile_in k) (program_for m k) (program_onward k w m) n (limit m) mvs (begin (start_of k)) le
       (start_counted n (replicate k.locations 0) k.locks))
 
-  few-done : (run_program m k mvs).done ≤ 2 * instructions_in (program_for m k)
-  few-done = go (legal n (limit m) mvs) refl
+  few_done : (run_program m k mvs).done ≤ 2 * instructions_in (program_for m k)
+  few_done = go (legal n (limit m) mvs) refl
     where
       go : (b : Bool) → legal n (limit m) mvs ≡ b → (run_program m k mvs).done ≤ 2 * instructions_in (program_for m k)
       go false le = rw le (omega arith)
       go true le =
           let (r, e) = ran_to k w m mvs le in
           let same = answered m k mvs r le e in
-          let within = positions_few r.state.lanes (program_for m k) (rw same at (program-within k w m mvs le)) in
-          rw same (omega (arith, (ran-counted r le e).few, within))
+          let within = positions_few r.state.lanes (program_for m k) (rw same at (program_within k w m mvs le)) in
+          rw same (omega (arith, (ran_counted r le e).few, within))
 
 module _ (s : List ℕ) (k : Program) (e : verdict s ≡ accepted k) (m : Machine) where
   abbrev most : ℕ
   most = 2 * instructions_in (program_for m k)
 
   few : (mvs : List Move) → (run_file m s mvs).done ≤ most
-  few mvs = rw e (few-done k (accepted_lawful s k e) m mvs)
+  few mvs = rw e (few_done k (accepted_lawful s k e) m mvs)
 
   -- one permitted move after the other
   last : (rest : ℕ) (mvs : List Move) → legal (length k.lanes) (limit m) mvs ≡ true

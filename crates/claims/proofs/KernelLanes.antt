@@ -53,20 +53,20 @@ kernel_placed l vol [] = refl
 kernel_placed l vol (os ∷ lanes) = λ i. map op (placed_operations l (steps vol os) 0 os i) ∷ kernel_placed l vol lanes i
 
 module _ (k : Program) where
-  pub lane-placed : (l : Level) (t : ℕ) → get_or (placed_lanes l k) t [] ≡ placed l (volatile_in k) (get_or k.lanes t [])
-  lane-placed l t = get_or-map (placed l (volatile_in k)) k.lanes t []
+  pub lane_placed : (l : Level) (t : ℕ) → get_or (placed_lanes l k) t [] ≡ placed l (volatile_in k) (get_or k.lanes t [])
+  lane_placed l t = get_or-map (placed l (volatile_in k)) k.lanes t []
 
-  pub source-program : (l : Level) → kernel_program (placed_lanes l k) ≡ program_for Source k
-  source-program l = kernel_placed l (volatile_in k) k.lanes
+  pub source_program : (l : Level) → kernel_program (placed_lanes l k) ≡ program_for Source k
+  source_program l = kernel_placed l (volatile_in k) k.lanes
 
   module _ (w : Lawful k) where
     pub fenced : (m : Model) (t : ℕ) → AllFenced m (volatile_in k) (get_or (placed_lanes (level_of (Target m)) k) t [])
     fenced m t =
-        rw (lane-placed (level_of (Target m)) t)
+        rw (lane_placed (level_of (Target m)) t)
         (placed_fenced m (volatile_in k) (get_or k.lanes t []) (forward (w.lane t) (volatile_in k)))
 
     pub disciplined : (l : Level) (t : ℕ)
         → Disciplined k.locks (operations (get_or (placed_lanes l k) t [])) (held_at (get_or k.lanes t []))
     disciplined l t =
-        rw (lane-placed l t, placed_operations l (steps (volatile_in k) (get_or k.lanes t [])) 0 (get_or k.lanes t []))
+        rw (lane_placed l t, placed_operations l (steps (volatile_in k) (get_or k.lanes t [])) 0 (get_or k.lanes t []))
         (lane_disciplined k.locations k.locks (get_or k.lanes t []) w.few_locks (w.lane t))

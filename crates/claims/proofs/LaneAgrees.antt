@@ -20,23 +20,23 @@ use Rattle.machine_spec.specs.declared.Model.{Model}
 use Rattle.machine_spec.specs.Rules.{may_commit, may_pass}
 use Rattle.machine_spec.specs.Step.{Control, Core, Turn, waits, passes, passed, committed, execute, commit, turn}
 use Rattle.claims.proofs.Fenced.{AllFenced}
-use Rattle.claims.proofs.Laws.Sheets.{has_snoc, chain-at, barrier_at, op-at}
-use Rattle.claims.proofs.Exposed.{exposed_without, exposed_pass, ordered_pass, ordered-commit, source-commits}
+use Rattle.claims.proofs.Laws.Sheets.{has_snoc, chain_at_lem, barrier_at, op_at_lem}
+use Rattle.claims.proofs.Exposed.{exposed_without, exposed_pass, ordered_pass, ordered_commit, source_commits}
 use Rattle.claims.proofs.Stands.{Safe, Stands}
-use Rattle.claims.proofs.OpAgrees.{Agrees, wait, passed_by, act, op-agrees}
+use Rattle.claims.proofs.OpAgrees.{Agrees, wait, passed_by, act, op_agrees}
 
 module _ (m : Model) (vol : ℕ → Bool) (ps : List (Placed Op)) where
-  commit-agrees : (i k : Control) (c : Core) (n : ℕ) (e : Option Entry) → get_elem? c.pending n ≡ e
+  commit_agrees : (i k : Control) (c : Core) (n : ℕ) (e : Option Entry) → get_elem? c.pending n ≡ e
       → Stands m vol ps i.pos k c.pending
       → Agrees m vol ps i.pos c (commit (Target m) vol k c n e) (commit Source vol i c n e)
-  commit-agrees i k c n none at st = wait
-  commit-agrees i k c n (some e) at st = go (may_commit (Target m) vol k.marks (take n c.pending) e) refl
+  commit_agrees i k c n none at st = wait
+  commit_agrees i k c n (some e) at st = go (may_commit (Target m) vol k.marks (take n c.pending) e) refl
     where
       go : (b : Bool) → may_commit (Target m) vol k.marks (take n c.pending) e ≡ b
           → Agrees m vol ps i.pos c (commit (Target m) vol k c n (some e)) (commit Source vol i c n (some e))
       go false h = rw h wait
       go true h =
-          rw (h, source-commits vol k.marks c.pending n e at m i.marks h st.ordered) (act left)
+          rw (h, source_commits vol k.marks c.pending n e at m i.marks h st.ordered) (act left)
         where
           left : Stands m vol ps i.pos (committed k) (without n c.pending)
           left = record {
@@ -44,14 +44,14 @@ module _ (m : Model) (vol : ℕ → Bool) (ps : List (Placed Op)) where
             place = st.place;
             within = st.within;
             safe = λ b v x. st.safe b v (exposed_without b vol k.marks c.pending n e at x);
-            ordered = ordered-commit vol k.marks c.pending n e at m h st.ordered;
+            ordered = ordered_commit vol k.marks c.pending n e at m h st.ordered;
           }
 
   module _ (f : AllFenced m vol ps) (w : ℕ) (i k : Control) (c : Core) (st : Stands m vol ps i.pos k c.pending)
     where
-      execute-agrees : Agrees m vol ps i.pos c (execute (Target m) vol w k c (get_elem? (sheet ps) k.pos))
+      execute_agrees : Agrees m vol ps i.pos c (execute (Target m) vol w k c (get_elem? (sheet ps) k.pos))
           (execute Source vol w i c (get_elem? (map op (operations ps)) i.pos))
-      execute-agrees = go (get_elem? ps i.pos) refl
+      execute_agrees = go (get_elem? ps i.pos) refl
         where
           u : Turn
           u = execute Source vol w i c (get_elem? (map op (operations ps)) i.pos)
@@ -105,17 +105,17 @@ module _ (m : Model) (vol : ℕ → Bool) (ps : List (Placed Op)) where
                   let all : st.passed ≡ length s.before = omega (arith, most) in
                   let at : k.pos ≡ start ps i.pos + length s.before = rw (← all) st.place in
                   let fetch : get_elem? (sheet ps) k.pos ≡ some (op (aim (start ps) s.oper)) =
-                  rw at (op-at ps i.pos s here) in
-                  rw (fetch, chain-at ps i.pos s here)
-                  (op-agrees f (record {
+                  rw at (op_at_lem ps i.pos s here) in
+                  rw (fetch, chain_at_lem ps i.pos s here)
+                  (op_agrees f (record {
                     here = here;
                     place = at;
                     safe = λ b v e. ((guard b v e).0, rw (all, take-length) at (guard b v e).1);
                     ordered = st.ordered;
                   }) w s.oper refl)
 
-      pub turn-agrees : (n : ℕ)
+      pub turn_agrees : (n : ℕ)
           → Agrees m vol ps i.pos c (turn (Target m) vol w (sheet ps) k c n)
           (turn Source vol w (map op (operations ps)) i c n)
-      turn-agrees zero = execute-agrees
-      turn-agrees (suc n) = commit-agrees i k c n (get_elem? c.pending n) refl st
+      turn_agrees zero = execute_agrees
+      turn_agrees (suc n) = commit_agrees i k c n (get_elem? c.pending n) refl st

@@ -1,5 +1,5 @@
 -- A barrier is left out of a lane of a sheet, as the claims say it, exactly where it is as placement's theorems say it:
--- theorems `left_out` and `placed-left-out`.
+-- theorems `left_out` and `placed_left_out`.
 use mathlib.Core.Path.{◌≡◌, sym, ap, ◌∙◌}
 use mathlib.Core.Bool.{true, false}
 use mathlib.Core.List.{List}
@@ -21,7 +21,7 @@ use Rattle.sheet_format.specs.Items.{operation_at, keeps_at}
 use Rattle.sheet_format.proofs.PlacedLanes.{placed_operations}
 use Rattle.sheet_format.proofs.Laws.Aim.{keeps_aim}
 use Rattle.claims.specs.Claims.{lane_of, kernel_lane, chain_of, LeftOut}
-use Rattle.claims.proofs.Laws.Sheets.{rank-op, op-fetched, op-located}
+use Rattle.claims.proofs.Laws.Sheets.{rank_op, op_fetched, op_located}
 
 module _ (l : Level) (k : Program) (bytes : List ℕ) (t : ℕ)
     (read : lane_of bytes t ≡ sheet (placed l (volatile_in k) (kernel_lane k t)))
@@ -32,18 +32,18 @@ module _ (l : Level) (k : Program) (bytes : List ℕ) (t : ℕ)
   abbrev ps : List (Placed Op)
   ps = placed l (volatile_in k) ops
 
-  same-operations : operations ps ≡ ops
-  same-operations = placed_operations l (chain_of k t) 0 ops
+  same_operations : operations ps ≡ ops
+  same_operations = placed_operations l (chain_of k t) 0 ops
 
   -- the p-th operation
   fetched : (p : ℕ) → p < length ps
       → get_elem? (lane_of bytes t) (op_at ps p) ≡ some (op (aim (start ps) (operation_at ops p)))
   fetched p h =
-      ap (λ is. get_elem? is (op_at ps p)) read ∙ op-fetched ps p h
-      ∙ ap (λ os. some (op (aim (start ps) (operation_at os p)))) same-operations
+      ap (λ is. get_elem? is (op_at ps p)) read ∙ op_fetched ps p h
+      ∙ ap (λ os. some (op (aim (start ps) (operation_at os p)))) same_operations
 
   ranked : (p : ℕ) → p < length ps → rank (lane_of bytes t) (op_at ps p) ≡ p
-  ranked p h = ap (λ is. rank is (op_at ps p)) read ∙ rank-op (start ps) ps p h
+  ranked p h = ap (λ is. rank is (op_at ps p)) read ∙ rank_op (start ps) ps p h
 
   module _ (b : Barrier) (x : ℕ) where
     pub left_out : PlacedLeftOut ps (stands (chain_of k t)) (keeps_at l ops) b x → LeftOut l k bytes t b x
@@ -58,11 +58,11 @@ module _ (l : Level) (k : Program) (bytes : List ℕ) (t : ℕ)
       dropped = keeps_aim l (start ps) (operation_at ops p) b ∙ dropped;
     }
 
-    pub placed-left-out : LeftOut l k bytes t b x → PlacedLeftOut ps (stands (chain_of k t)) (keeps_at l ops) b x
-    placed-left-out y = (p, f.1, f.2, standing, sym (keeps_aim l (start ps) (operation_at ops p) b) ∙ dropped)
+    pub placed_left_out : LeftOut l k bytes t b x → PlacedLeftOut ps (stands (chain_of k t)) (keeps_at l ops) b x
+    placed_left_out y = (p, f.1, f.2, standing, sym (keeps_aim l (start ps) (operation_at ops p) b) ∙ dropped)
       where
         f : (p : ℕ) × (p < length ps) × (x ≡ op_at ps p)
-        f = op-located ps x y.operation (ap (λ is. get_elem? is x) (sym read) ∙ y.here)
+        f = op_located ps x y.operation (ap (λ is. get_elem? is x) (sym read) ∙ y.here)
 
         p : ℕ
         p = f.0

@@ -61,8 +61,8 @@ pub record Kept (n : ℕ) (held : ℕ → Bool) (t : ℕ) (locks : List ℕ) (d 
 module _ (n : ℕ) (t : ℕ) (es : List Entry) (locks : List ℕ) (len : length locks ≡ n) (held : ℕ → Bool)
     (h : Claims held t es locks) where
   -- a lock that the lane claims has its word
-  pub claimed-word : (l : ℕ) → 0 < claim (held l) es l → eqb (get_or locks l 0) (suc t) ≡ true
-  claimed-word l c = go (eqb (get_or locks l 0) (suc t)) refl
+  pub claimed_word : (l : ℕ) → 0 < claim (held l) es l → eqb (get_or locks l 0) (suc t) ≡ true
+  claimed_word l c = go (eqb (get_or locks l 0) (suc t)) refl
     where
       go : (b : Bool) → eqb (get_or locks l 0) (suc t) ≡ b → eqb (get_or locks l 0) (suc t) ≡ true
       go true w = w
@@ -121,7 +121,7 @@ module _ (n : ℕ) (t : ℕ) (es : List Entry) (locks : List ℕ) (len : length 
       there = e k ∙ rw (eq-eqb k k refl)
 
       word : eqb (get_or locks k 0) (suc t) ≡ true
-      word = claimed-word k (omega (arith, there))
+      word = claimed_word k (omega (arith, there))
 
       mine : get_or locks k 0 ≡ suc t
       mine = eqb-true (get_or locks k 0) (suc t) word

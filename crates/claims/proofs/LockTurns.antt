@@ -20,7 +20,7 @@ use Rattle.machine_spec.specs.Step.{Control, Core, Turn, waits, refuses, passes,
 use Rattle.machine_spec.specs.Step.{core_after, effect, execute, settle, committed, commit, turn}
 use Rattle.claims.proofs.HeldSets.{Disciplined}
 use Rattle.claims.proofs.LockClaims.{one, releases, releases_snoc, releases_without, claim, Claims, Kept}
-use Rattle.claims.proofs.LockClaims.{claimed-word, unchanged, taken, let_go}
+use Rattle.claims.proofs.LockClaims.{claimed_word, unchanged, taken, let_go}
 
 -- no turn of the source machine is refused, and none passes a barrier
 abbrev pub Sound : (n : ℕ) → (ℕ → ℕ → Bool) → ℕ → List ℕ → Turn → Type 0
@@ -40,21 +40,21 @@ module _ (n : ℕ) (os : List Op) (held : ℕ → ℕ → Bool) (D : Disciplined
       unchanged n t c.pending c.locks len (held i.pos) h (held p) d (λ l. rw (e l, r l)) k
 
   -- an operation that is carried out, at the position and with the core after it
-  op-kept : (o : Op) → get_elem? os i.pos ≡ some o → permits Source vol c o ≡ true
+  op_kept : (o : Op) → get_elem? os i.pos ≡ some o → permits Source vol c o ≡ true
       → Kept n (held (next c o i.pos)) t c.locks (core_after Source vol (suc t) c o)
-  op-kept (Set a m) e may = plain (suc i.pos) _ (D.onward i.pos (Set a m) e) (λ l. refl) refl
-  op-kept (Add a b) e may = plain (suc i.pos) _ (D.onward i.pos (Add a b) e) (λ l. refl) refl
-  op-kept (Load a x) e may = plain (suc i.pos) _ (D.onward i.pos (Load a x) e) (λ l. refl) refl
-  op-kept (Store a x) e may =
+  op_kept (Set a m) e may = plain (suc i.pos) _ (D.onward i.pos (Set a m) e) (λ l. refl) refl
+  op_kept (Add a b) e may = plain (suc i.pos) _ (D.onward i.pos (Add a b) e) (λ l. refl) refl
+  op_kept (Load a x) e may = plain (suc i.pos) _ (D.onward i.pos (Load a x) e) (λ l. refl) refl
+  op_kept (Store a x) e may =
       plain (suc i.pos) _ (D.onward i.pos (Store a x) e)
       (λ l. omega (arith, releases_snoc l c.pending (write x (reg c a)))) refl
-  op-kept (Lock k) e may =
+  op_kept (Lock k) e may =
       let free =
       eqb-true (get_or c.locks k 0) 0
       (and_true (not (any_sync vol c.pending)) (eqb (get_or c.locks k 0) 0) may).1 in
       taken n t c.pending c.locks len (held i.pos) h (held (suc i.pos)) k _ (D.onward i.pos (Lock k) e)
       (D.takes i.pos k e) free refl refl
-  op-kept (Unlock k) e may =
+  op_kept (Unlock k) e may =
       unchanged n t c.pending c.locks len (held i.pos) h (held (suc i.pos)) _ moved refl
     where
       -- the claim passes from the held set to the pending release
@@ -70,32 +70,32 @@ module _ (n : ℕ) (os : List Op) (held : ℕ → ℕ → Bool) (D : Disciplined
               let at-k : held i.pos l ≡ true = rw (← eqb-true k l j) (D.frees i.pos k e) in
               rw (j, at-k) (omega arith)
           go false j = rw j (omega arith)
-  op-kept (Skip a u) e may = go (eqb (reg c a) 0)
+  op_kept (Skip a u) e may = go (eqb (reg c a) 0)
     where
       go : (b : Bool) → Kept n (held (cond b u (suc i.pos))) t c.locks c
       go true = plain u c (D.jumps i.pos a u e) (λ l. refl) refl
       go false = plain (suc i.pos) c (D.onward i.pos (Skip a u) e) (λ l. refl) refl
 
   -- an UNLOCK finds its own word
-  op-holds : (o : Op) → get_elem? os i.pos ≡ some o → holds (suc t) c o ≡ true
-  op-holds (Set a m) e = refl
-  op-holds (Add a b) e = refl
-  op-holds (Load a x) e = refl
-  op-holds (Store a x) e = refl
-  op-holds (Lock k) e = refl
-  op-holds (Unlock k) e =
+  op_holds : (o : Op) → get_elem? os i.pos ≡ some o → holds (suc t) c o ≡ true
+  op_holds (Set a m) e = refl
+  op_holds (Add a b) e = refl
+  op_holds (Load a x) e = refl
+  op_holds (Store a x) e = refl
+  op_holds (Lock k) e = refl
+  op_holds (Unlock k) e =
       let has = D.frees i.pos k e in
-      claimed-word n t c.pending c.locks len (held i.pos) h k (rw has (omega arith))
-  op-holds (Skip a u) e = refl
+      claimed_word n t c.pending c.locks len (held i.pos) h k (rw has (omega arith))
+  op_holds (Skip a u) e = refl
 
-  effect-sound : (o : Op) → get_elem? os i.pos ≡ some o → permits Source vol c o ≡ true
+  effect_sound : (o : Op) → get_elem? os i.pos ≡ some o → permits Source vol c o ≡ true
       → Sound n held t c.locks (effect Source vol (suc t) i c o)
-  effect-sound o e may = rw (op-holds o e) (op-kept o e may)
+  effect_sound o e may = rw (op_holds o e) (op_kept o e may)
 
-  commit-sound : (x : ℕ) (e : Option Entry) → get_elem? c.pending x ≡ e
+  commit_sound : (x : ℕ) (e : Option Entry) → get_elem? c.pending x ≡ e
       → Sound n held t c.locks (commit Source vol i c x e)
-  commit-sound x none k = tt
-  commit-sound x (some e) k = go (may_commit Source vol i.marks (take x c.pending) e) e k
+  commit_sound x none k = tt
+  commit_sound x (some e) k = go (may_commit Source vol i.marks (take x c.pending) e) e k
     where
       go : (b : Bool) (e : Entry) → get_elem? c.pending x ≡ some e
           → Sound n held t c.locks (cond b (does (committed i) (settle c (without x c.pending) e) none) waits)
@@ -106,16 +106,16 @@ module _ (n : ℕ) (os : List Op) (held : ℕ → ℕ → Bool) (D : Disciplined
           let_go n t c.pending c.locks len (held i.pos) h m _
           (λ l. releases_without l x c.pending (release m) k) refl
 
-  pub turn-sound : (k : ℕ) → Sound n held t c.locks (turn Source vol (suc t) (map op os) i c k)
-  turn-sound zero = go (get_elem? os i.pos) refl
+  pub turn_sound : (k : ℕ) → Sound n held t c.locks (turn Source vol (suc t) (map op os) i c k)
+  turn_sound zero = go (get_elem? os i.pos) refl
     where
       act : (o : Op) → get_elem? os i.pos ≡ some o → (b : Bool) → permits Source vol c o ≡ b
           → Sound n held t c.locks (cond (permits Source vol c o) (effect Source vol (suc t) i c o) waits)
-      act o e true may = rw may (effect-sound o e may)
+      act o e true may = rw may (effect_sound o e may)
       act o e false may = rw may tt
 
       go : (o : Option Op) → get_elem? os i.pos ≡ o
           → Sound n held t c.locks (execute Source vol (suc t) i c (get_elem? (map op os) i.pos))
       go none e = rw (getElem?-map op os i.pos, e) tt
       go (some o) e = rw (getElem?-map op os i.pos, e) (act o e (permits Source vol c o) refl)
-  turn-sound (suc x) = commit-sound x (get_elem? c.pending x) refl
+  turn_sound (suc x) = commit_sound x (get_elem? c.pending x) refl

@@ -1,5 +1,5 @@
 -- On every machine each mark stands behind an entry that is pending, and only the pso machine leaves any: theorem
--- `marks-kept`.
+-- `marks_kept`.
 use mathlib.Core.Path.{◌≡◌, refl, ap, sym, subst}
 use mathlib.Core.Bool.{Bool, true, false, cond}
 use mathlib.Core.List.{List, [], ◌∷◌, ◌++◌}
@@ -45,13 +45,13 @@ module _ (m : Machine) where
   After (passes k c) = Kept k.marks c.pending
   After (does k c v) = Kept k.marks c.pending
 
-  after-either : (b : Bool) (u v : Turn) → After u → After v → After (cond b u v)
-  after-either true u v p q = p
-  after-either false u v p q = q
+  after_either : (b : Bool) (u v : Turn) → After u → After v → After (cond b u v)
+  after_either true u v p q = p
+  after_either false u v p q = q
 
-  append-kept : (ks : ℕ) (es : List Entry) (x : Option Entry) → Kept ks es → Kept ks (append_entry es x)
-  append-kept ks es none h = h
-  append-kept ks es (some e) h =
+  append_kept : (ks : ℕ) (es : List Entry) (x : Option Entry) → Kept ks es → Kept ks (append_entry es x)
+  append_kept ks es none h = h
+  append_kept ks es (some e) h =
       let more : length es < length (es ++ (e ∷ [])) = omega (arith, length-append es (e ∷ [])) in
       (omega (arith, h.0, pow-lt more), h.1)
 
@@ -63,34 +63,34 @@ module _ (m : Machine) where
       go false = h.0
 
   module _ (vol : ℕ → Bool) (w : ℕ) (k : Control) (c : Core) (h : Kept k.marks c.pending) where
-    execute-kept : (i : Option Instr) → After (execute m vol w k c i)
-    execute-kept none = tt
-    execute-kept (some (op o)) =
-        after-either (permits m vol c o) _ waits
-        (after-either (holds w c o) _ refuses (append-kept k.marks c.pending (emit c o) h) tt) tt
-    execute-kept (some (barrier b)) =
-        after-either (may_pass m b c.pending) _ waits (pass_kept b k.marks c.pending h) tt
+    execute_kept : (i : Option Instr) → After (execute m vol w k c i)
+    execute_kept none = tt
+    execute_kept (some (op o)) =
+        after_either (permits m vol c o) _ waits
+        (after_either (holds w c o) _ refuses (append_kept k.marks c.pending (emit c o) h) tt) tt
+    execute_kept (some (barrier b)) =
+        after_either (may_pass m b c.pending) _ waits (pass_kept b k.marks c.pending h) tt
 
-    commit-kept : (i : ℕ) (e : Option Entry) → get_elem? c.pending i ≡ e → After (commit m vol k c i e)
-    commit-kept i none at = tt
-    commit-kept i (some e) at =
-        after-either (may_commit m vol k.marks (take i c.pending) e) _ waits (
+    commit_kept : (i : ℕ) (e : Option Entry) → get_elem? c.pending i ≡ e → After (commit m vol k c i e)
+    commit_kept i none at = tt
+    commit_kept i (some e) at =
+        after_either (may_commit m vol k.marks (take i c.pending) e) _ waits (
           commit_behind _ k.marks (subst (λ n. k.marks < 2 ^ n) (length_without c.pending i e at) h.0),
           λ ne. ap after_commit (h.1 ne),
         ) tt
 
-    turn-kept : (prog : List Instr) (n : ℕ) → After (turn m vol w prog k c n)
-    turn-kept prog zero = execute-kept (get_elem? prog k.pos)
-    turn-kept prog (suc i) = commit-kept i (get_elem? c.pending i) refl
+    turn_kept : (prog : List Instr) (n : ℕ) → After (turn m vol w prog k c n)
+    turn_kept prog zero = execute_kept (get_elem? prog k.pos)
+    turn_kept prog (suc i) = commit_kept i (get_elem? c.pending i) refl
 
   -- of every lane of a state
   abbrev All : State → Type 0
   All s = (t : ℕ) → Kept (lane_at s t).control.marks (lane_at s t).pending
 
   -- a lane that is put, or one past the last, which is not
-  put-kept : (s : State) (t : ℕ) (k : Control) (c : Core) → All s → Kept k.marks c.pending
+  put_kept : (s : State) (t : ℕ) (k : Control) (c : Core) → All s → Kept k.marks c.pending
       → All (set_lane s t k c)
-  put-kept s t k c h p = go (dec_lt t (length s.lanes))
+  put_kept s t k c h p = go (dec_lt t (length s.lanes))
     where
       go : Dec (t < length s.lanes) → All (set_lane s t k c)
       go (yes lt) = set_lane_each (λ u l. Kept l.control.marks l.pending) s t k c lt p (λ u ne. h u)
@@ -102,30 +102,30 @@ module _ (m : Machine) where
   AllOut (ran r) = All r.state
   AllOut (refused t p) = Unit {0}
 
-  apply-kept : (r : Run) (t p : ℕ) (u : Turn) → All r.state → After u → AllOut (apply_turn r t p u)
-  apply-kept r t p waits h a = h
-  apply-kept r t p refuses h a = tt
-  apply-kept r t p (passes k c) h a = put-kept r.state t k c h a
-  apply-kept r t p (does k c v) h a = put-kept r.state t k c h a
+  apply_kept : (r : Run) (t p : ℕ) (u : Turn) → All r.state → After u → AllOut (apply_turn r t p u)
+  apply_kept r t p waits h a = h
+  apply_kept r t p refuses h a = tt
+  apply_kept r t p (passes k c) h a = put_kept r.state t k c h a
+  apply_kept r t p (does k c v) h a = put_kept r.state t k c h a
 
   module _ (vol : ℕ → Bool) (prog : List (List Instr)) where
-    advance-kept : (o : Outcome) (mv : Move) → AllOut o → AllOut (advance m vol prog o mv)
-    advance-kept (refused t p) mv h = tt
-    advance-kept (ran r) mv h =
-        apply-kept r mv.lane _ (move_turn m vol prog r.state mv) h
-        (turn-kept vol (suc mv.lane) _ (core_of r.state (lane_at r.state mv.lane)) (h mv.lane)
+    advance_kept : (o : Outcome) (mv : Move) → AllOut o → AllOut (advance m vol prog o mv)
+    advance_kept (refused t p) mv h = tt
+    advance_kept (ran r) mv h =
+        apply_kept r mv.lane _ (move_turn m vol prog r.state mv) h
+        (turn_kept vol (suc mv.lane) _ (core_of r.state (lane_at r.state mv.lane)) (h mv.lane)
         (get_or prog mv.lane []) mv.choice)
 
-    run-kept : (mvs : List Move) (o : Outcome) → AllOut o → AllOut (run m vol prog o mvs)
-    run-kept [] o h = h
-    run-kept (mv ∷ mvs) o h = run-kept mvs (advance m vol prog o mv) (advance-kept o mv h)
+    run_kept : (mvs : List Move) (o : Outcome) → AllOut o → AllOut (run m vol prog o mvs)
+    run_kept [] o h = h
+    run_kept (mv ∷ mvs) o h = run_kept mvs (advance m vol prog o mv) (advance_kept o mv h)
 
-    pub marks-kept : (n : ℕ) (mem : List ℕ) (l : ℕ) (mvs : List Move) (r : Run)
+    pub marks_kept : (n : ℕ) (mem : List ℕ) (l : ℕ) (mvs : List Move) (r : Run)
         → run m vol prog (begin (start_state n mem l)) mvs ≡ ran r
         → MarksBehind r.state × (m ≢ Target Pso → Unmarked r.state)
-    marks-kept n mem l mvs r e =
+    marks_kept n mem l mvs r e =
         let all : All r.state =
-        subst AllOut e (run-kept mvs (begin (start_state n mem l))
+        subst AllOut e (run_kept mvs (begin (start_state n mem l))
         (start_each (λ x. Kept x.control.marks x.pending) n mem l (omega arith, λ ne. refl)
         (omega arith, λ ne. refl))) in
         (λ t. (all t).0, λ ne t. (all t).1 ne)

@@ -21,10 +21,10 @@ use Rattle.claims.specs.Schedules.{keep, keep_move, source_schedule}
 use Rattle.claims.proofs.Fenced.{AllFenced, kernel_program, sheet_program}
 use Rattle.claims.proofs.Laws.Lanes.{set_lane_own, set_lane_count, set_lane_both, start_each}
 use Rattle.machine_spec.proofs.Laws.Finished.{finished_same}
-use Rattle.claims.proofs.Laws.Sheets.{rank-cells, ended-cells}
+use Rattle.claims.proofs.Laws.Sheets.{rank_cells, ended_cells}
 use Rattle.claims.proofs.Stands.{Stands}
 use Rattle.claims.proofs.OpAgrees.{Agrees, wait, refuse, passed_by, act}
-use Rattle.claims.proofs.LaneAgrees.{turn-agrees}
+use Rattle.claims.proofs.LaneAgrees.{turn_agrees}
 use Rattle.claims.proofs.Exposed.{exposed_nil, ordered_nil}
 
 -- a source lane and the target's lane that it matches
@@ -44,9 +44,9 @@ pub data Matched (m : Model) (vol : ℕ → Bool) (ks : List (List (Placed Op)))
   both_refused : {t k : ℕ} → Matched m vol ks (refused t k) (refused t k)
 
 module _ (m : Model) (vol : ℕ → Bool) (ks : List (List (Placed Op))) where
-  follows-put : (a b : State) → Follows m vol ks a b → (t : ℕ) (i k : Control) (d : Core)
+  follows_put : (a b : State) → Follows m vol ks a b → (t : ℕ) (i k : Control) (d : Core)
       → Stands m vol (get_or ks t []) i.pos k d.pending → Follows m vol ks (set_lane a t i d) (set_lane b t k d)
-  follows-put a b h t i k d st = record {
+  follows_put a b h t i k d st = record {
     lanes = set_lane_both (λ n. LaneFollows m vol (get_or ks n [])) a b h.count h.lanes t i k d d
         (record { regs = refl; pending = refl; stands = st });
     count = set_lane_count a t i d ∙ h.count ∙ sym (set_lane_count b t k d);
@@ -54,25 +54,25 @@ module _ (m : Model) (vol : ℕ → Bool) (ks : List (List (Placed Op))) where
     locks = refl;
   }
 
-  same-core : (a b : State) → Follows m vol ks a b → (t : ℕ) → core_of a (lane_at a t) ≡ core_of b (lane_at b t)
-  same-core a b h t =
+  same_core : (a b : State) → Follows m vol ks a b → (t : ℕ) → core_of a (lane_at a t) ≡ core_of b (lane_at b t)
+  same_core a b h t =
       λ i. record
       { regs = (h.lanes t).regs i; pending = (h.lanes t).pending i; memory = h.memory i; locks = h.locks i }
 
   module _ (f : (t : ℕ) → AllFenced m vol (get_or ks t [])) where
-    pub source-turn : (a b : State) → Follows m vol ks a b → (mv : Move)
+    pub source_turn : (a b : State) → Follows m vol ks a b → (mv : Move)
         → move_turn Source vol (kernel_program ks) a mv
         ≡ turn Source vol (suc mv.lane) (map op (operations (get_or ks mv.lane [])))
         (lane_at a mv.lane).control (core_of b (lane_at b mv.lane)) mv.choice
-    source-turn a b h mv =
-        rw (get_or-map (λ ps. map op (operations ps)) ks mv.lane [], same-core a b h mv.lane) refl
+    source_turn a b h mv =
+        rw (get_or-map (λ ps. map op (operations ps)) ks mv.lane [], same_core a b h mv.lane) refl
 
-    pub lane-agrees : (a b : State) → Follows m vol ks a b → (mv : Move)
+    pub lane_agrees : (a b : State) → Follows m vol ks a b → (mv : Move)
         → Agrees m vol (get_or ks mv.lane []) (pos_at a mv.lane) (core_of b (lane_at b mv.lane))
         (move_turn (Target m) vol (sheet_program ks) b mv) (move_turn Source vol (kernel_program ks) a mv)
-    lane-agrees a b h mv =
-        rw (source-turn a b h mv, get_or-map sheet ks mv.lane [])
-        (turn-agrees m vol (get_or ks mv.lane []) (f mv.lane) (suc mv.lane) _ _
+    lane_agrees a b h mv =
+        rw (source_turn a b h mv, get_or-map sheet ks mv.lane [])
+        (turn_agrees m vol (get_or ks mv.lane []) (f mv.lane) (suc mv.lane) _ _
         (core_of b (lane_at b mv.lane)) (h.lanes mv.lane).stands mv.choice)
 
     same_rank : (a b : State) → Follows m vol ks a b → (t : ℕ)
@@ -80,12 +80,12 @@ module _ (m : Model) (vol : ℕ → Bool) (ks : List (List (Placed Op))) where
     same_rank a b h t =
         let st = (h.lanes t).stands in
         rw (get_or-map (λ ps. map op (operations ps)) ks t [], get_or-map sheet ks t [], st.place)
-        (sym (rank-cells (start (get_or ks t [])) (get_or ks t []) (pos_at a t) st.passed st.within))
+        (sym (rank_cells (start (get_or ks t [])) (get_or ks t []) (pos_at a t) st.passed st.within))
 
-    pub step-matched : (r s : Run) → r.row ≡ s.row → Follows m vol ks r.state s.state → (mv : Move)
+    pub step_matched : (r s : Run) → r.row ≡ s.row → Follows m vol ks r.state s.state → (mv : Move)
         → Matched m vol ks (run Source vol (kernel_program ks) (ran r) (keep_move m vol (sheet_program ks) (ran s) mv))
         (advance (Target m) vol (sheet_program ks) (ran s) mv)
-    step-matched r s e h mv = go _ _ (lane-agrees a b h mv) refl
+    step_matched r s e h mv = go _ _ (lane_agrees a b h mv) refl
       where
         a : State
         a = r.state
@@ -110,34 +110,34 @@ module _ (m : Model) (vol : ℕ → Bool) (ks : List (List (Placed Op))) where
         go u' u (passed_by {k = j} st) k =
             both_ran e
             (subst (λ (z : State). Follows m vol ks z (set_lane b t j c))
-            (ap (set_lane a t (lane_at a t).control) (sym (same-core a b h t)) ∙ set_lane_own a t)
-            (follows-put a b h t (lane_at a t).control j c st))
+            (ap (set_lane a t (lane_at a t).control) (sym (same_core a b h t)) ∙ set_lane_own a t)
+            (follows_put a b h t (lane_at a t).control j c st))
         go u' u (act {j = j} {j' = j'} {d = d} {v = v} st) k =
             rw (k, same_rank a b h t)
             (both_ran (ap (λ l. l ++ load_row t (rank (get_or (sheet_program ks) t []) (pos_at b t)) v) e)
-            (follows-put a b h t j j' d st))
+            (follows_put a b h t j j' d st))
 
-    advance-matched : (o o' : Outcome) → Matched m vol ks o o' → (mv : Move)
+    advance_matched : (o o' : Outcome) → Matched m vol ks o o' → (mv : Move)
         → Matched m vol ks (run Source vol (kernel_program ks) o (keep_move m vol (sheet_program ks) o' mv))
         (advance (Target m) vol (sheet_program ks) o' mv)
-    advance-matched o o' (both_ran {r = r} {s = s} e h) mv = step-matched r s e h mv
-    advance-matched o o' both_refused mv = both_refused
+    advance_matched o o' (both_ran {r = r} {s = s} e h) mv = step_matched r s e h mv
+    advance_matched o o' both_refused mv = both_refused
 
     pub matching : (mvs : List Move) (o o' : Outcome) → Matched m vol ks o o'
         → Matched m vol ks (run Source vol (kernel_program ks) o (source_schedule m vol (sheet_program ks) o' mvs))
         (run (Target m) vol (sheet_program ks) o' mvs)
     matching [] o o' h = h
-    matching (mv ∷ mvs) o o' h = rw foldl-append (matching mvs _ _ (advance-matched o o' h mv))
+    matching (mv ∷ mvs) o o' h = rw foldl-append (matching mvs _ _ (advance_matched o o' h mv))
 
   same_end : (a b : State) → Follows m vol ks a b → (t : ℕ)
       → ended_at (kernel_program ks) a t ≡ ended_at (sheet_program ks) b t
   same_end a b h t =
       let st = (h.lanes t).stands in
       rw (get_or-map (λ ps. map op (operations ps)) ks t [], get_or-map sheet ks t [], st.place)
-      (sym (ended-cells (start (get_or ks t [])) (get_or ks t []) (pos_at a t) st.passed st.within))
+      (sym (ended_cells (start (get_or ks t [])) (get_or ks t []) (pos_at a t) st.passed st.within))
 
-  same-finish : (a b : State) → Follows m vol ks a b → finished (kernel_program ks) a ≡ finished (sheet_program ks) b
-  same-finish a b h =
+  same_finish : (a b : State) → Follows m vol ks a b → finished (kernel_program ks) a ≡ finished (sheet_program ks) b
+  same_finish a b h =
       finished_same (kernel_program ks) (sheet_program ks) a b
       (length-map ks (λ ps. map op (operations ps)) ∙ sym (length-map ks sheet)) h.count (same_end a b h)
       (λ t. (h.lanes t).pending)
@@ -153,7 +153,7 @@ module _ (m : Model) (vol : ℕ → Bool) (ks : List (List (Placed Op))) where
       (λ i. (h.lanes i).pending) in
       λ i. saw (record {
         row = e i;
-        finished = same-finish r.state s.state h i;
+        finished = same_finish r.state s.state h i;
         regs = regs i;
         memory = h.memory i;
         locks =
@@ -162,20 +162,20 @@ module _ (m : Model) (vol : ℕ → Bool) (ks : List (List (Placed Op))) where
       })
 
   -- lanes at their start with nothing pending match themselves
-  start-follows : (s : State) → ((t : ℕ) → ((lane_at s t).control ≡ at_start) × ((lane_at s t).pending ≡ []))
+  start_follows : (s : State) → ((t : ℕ) → ((lane_at s t).control ≡ at_start) × ((lane_at s t).pending ≡ []))
       → Follows m vol ks s s
-  start-follows s z =
+  start_follows s z =
       record {
-        lanes = λ t. record { regs = refl; pending = refl; stands = at-start t };
+        lanes = λ t. record { regs = refl; pending = refl; stands = at_start_lem t };
         count = refl;
         memory =
             refl;
         locks = refl;
       }
     where
-      at-start : (t : ℕ)
+      at_start_lem : (t : ℕ)
           → Stands m vol (get_or ks t []) (lane_at s t).control.pos (lane_at s t).control (lane_at s t).pending
-      at-start t = rw ((z t).0, (z t).1) (record {
+      at_start_lem t = rw ((z t).0, (z t).1) (record {
         passed = 0;
         place = omega (arith, start_zero (get_or ks t []));
         within = omega arith;
@@ -183,8 +183,8 @@ module _ (m : Model) (vol : ℕ → Bool) (ks : List (List (Placed Op))) where
         ordered = ordered_nil m vol 0;
       })
 
-  pub begin-matched : (n : ℕ) (mem : List ℕ) (l : ℕ)
+  pub begin_matched : (n : ℕ) (mem : List ℕ) (l : ℕ)
       → Matched m vol ks (begin (start_state n mem l)) (begin (start_state n mem l))
-  begin-matched n mem l =
-      both_ran refl (start-follows (start_state n mem l)
+  begin_matched n mem l =
+      both_ran refl (start_follows (start_state n mem l)
       (start_each (λ x. (x.control ≡ at_start) × (x.pending ≡ [])) n mem l (refl, refl) (refl, refl)))

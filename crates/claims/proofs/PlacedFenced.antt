@@ -27,7 +27,7 @@ use Rattle.sheet_format.specs.declared.Level.{Level}
 use Rattle.sheet_format.specs.Levels.{drains, placed}
 use Rattle.sheet_format.specs.Items.{operation_at, keeps_at}
 use Rattle.sheet_format.proofs.PlacedLanes.{placed_operations}
-use Rattle.sheet_format.proofs.Before.{has_chosen, placed-before}
+use Rattle.sheet_format.proofs.Before.{has_chosen, placed_before}
 use Rattle.machine_spec.specs.declared.Model.{Model}
 use Rattle.machine_spec.specs.declared.Machine.TheVariants.{Target}
 use Rattle.machine_spec.specs.Run.{level_of}
@@ -113,8 +113,8 @@ module _ (b : Barrier) (vol : ℕ → Bool) (ps : List (Placed Op)) (B : ℕ →
   abbrev chain : Chain
   chain = steps vol (operations ps)
 
-  step-at : (i : ℕ) (s : Placed Op) → get_elem? ps i ≡ some s → (i < length chain) × (at chain i ≡ step_of vol s.oper)
-  step-at i s e =
+  step_at : (i : ℕ) (s : Placed Op) → get_elem? ps i ≡ some s → (i < length chain) × (at chain i ≡ step_of vol s.oper)
+  step_at i s e =
       some_at chain i (step_of vol s.oper) Other
       (rw (getElem?-map (step_of vol) (operations ps) i, getElem?-map (λ (z : Placed Op). z.oper) ps i, e))
 
@@ -128,14 +128,14 @@ module _ (b : Barrier) (vol : ℕ → Bool) (ps : List (Placed Op)) (B : ℕ →
     clear : (k : ℕ) → Between path k → B k ≡ false
 
   step : (i p : ℕ) (s : Placed Op) → get_elem? ps i ≡ some s → Edge ps i p → Next chain i p
-  step i p s e falls = ((step-at i s e).0, inl refl)
-  step i p s e (jumps s' e' j) = ((step-at i s e).0, inr ((step-at i s' e').1 ∙ jump_step vol s'.oper p j))
+  step i p s e falls = ((step_at i s e).0, inl refl)
+  step i p s e (jumps s' e' j) = ((step_at i s e).0, inr ((step_at i s' e').1 ∙ jump_step vol s'.oper p j))
 
   way : (p : ℕ) → Open b vol ps p → Way p
   way p (starts {i = i} s e raised w) = record {
     from = i;
     first = s.oper;
-    earlier = (step-at i s e).1;
+    earlier = (step_at i s e).1;
     raises = raised;
     path = edge (step i p s e w);
     clear = λ k z. absurd z;
@@ -156,8 +156,8 @@ module _ (b : Barrier) (vol : ℕ → Bool) (ps : List (Placed Op)) (B : ℕ →
         ];
       }
 
-  sentence-fenced : Fenced b vol ps
-  sentence-fenced p s e need o =
+  sentence_fenced : Fenced b vol ps
+  sentence_fenced p s e need o =
       let x = way p o in
       let f = parted_pair b vol x.first s.oper x.raises need in
       stand p s e (needs_flows b vol s.oper need) ∙ (sentence p).1 (record {
@@ -166,7 +166,7 @@ module _ (b : Barrier) (vol : ℕ → Bool) (ps : List (Placed Op)) (B : ℕ →
           first = f.0;
           second = f.1;
           earlier = x.earlier ∙ access_step vol x.first f.0 f.2;
-          later = (step-at p s e).1 ∙ access_step vol s.oper f.1 f.3;
+          later = (step_at p s e).1 ∙ access_step vol s.oper f.1 f.3;
           calls = f.4;
         };
         path = x.path;
@@ -177,7 +177,7 @@ module _ (b : Barrier) (vol : ℕ → Bool) (ps : List (Placed Op)) (B : ℕ →
 pub placed_fenced : (m : Model) (vol : ℕ → Bool) (ops : List Op) → Forward (steps vol ops)
     → AllFenced m vol (placed (level_of (Target m)) vol ops)
 placed_fenced m vol ops forward b v =
-    sentence-fenced b vol (placed l vol ops) (stands (steps vol ops) b) stand
+    sentence_fenced b vol (placed l vol ops) (stands (steps vol ops) b) stand
     (subst (λ (os : List Op). Sentence (steps vol os) b (stands (steps vol ops) b))
     (sym (placed_operations l (steps vol ops) 0 ops))
     (correct (steps vol ops) b forward))
@@ -188,7 +188,7 @@ placed_fenced m vol ops forward b v =
     stand : (p : ℕ) (x : Placed Op) → get_elem? (placed l vol ops) p ≡ some x → drains x.oper ≡ false
         → has b x.before ≡ stands (steps vol ops) b p
     stand p x e flows =
-        ap (λ y. has b (before_of y)) (sym e) ∙ ap (has b) (placed-before l vol ops p)
+        ap (λ y. has b (before_of y)) (sym e) ∙ ap (has b) (placed_before l vol ops p)
         ∙ has_chosen (λ a. keeps_at l ops a p && stands (steps vol ops) a p) b ∙ rw (here, v x.oper flows)
       where
         here : operation_at ops p ≡ x.oper

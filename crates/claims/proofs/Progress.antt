@@ -50,10 +50,10 @@ use Rattle.claims.proofs.Legal.{legal_append, source_legal}
 use Rattle.claims.proofs.Stuck.{stuck}
 use Rattle.claims.proofs.HeldSets.{Disciplined, held_at}
 use Rattle.claims.proofs.LockClaims.{one, claim}
-use Rattle.claims.proofs.ReleasesHeld.{Inv, InvOut, source-kept}
+use Rattle.claims.proofs.ReleasesHeld.{Inv, InvOut, source_kept}
 use Rattle.claims.proofs.Matching.{Follows, Matched, both_ran, observed}
-use Rattle.claims.proofs.KernelLanes.{source-program, disciplined}
-use Rattle.claims.proofs.Demand3.{answered, target-program, ran-matched, ran_to}
+use Rattle.claims.proofs.KernelLanes.{source_program, disciplined}
+use Rattle.claims.proofs.Demand3.{answered, target_program, ran_matched, ran_to}
 
 -- where every lane is halted the run is finished
 abbrev Ends : List (List Instr) → State → Type 0
@@ -142,8 +142,8 @@ module _ (n : ℕ) (ks : List (List (Placed Op))) (held : ℕ → ℕ → ℕ �
       go (inl z) = rw z
       go (inr z) = absurd (unawaited n z.0 (omega arith) (record { lane = t; next = z.1; word = z.2 }))
 
-  source-finished : finished (kernel_program ks) a ≡ true
-  source-finished =
+  source_finished : finished (kernel_program ks) a ≡ true
+  source_finished =
       both_true _ _ (every_true (length (kernel_program ks)) (ended_at (kernel_program ks) a) (λ t lt. ended t))
       (every_true (length a.lanes) (λ t. is_nil (lane_at a t).pending) (λ t lt. ap is_nil (drained t)))
 
@@ -157,8 +157,8 @@ here_halted locks {r} (meet {o = o}) h =
     sym (aim_blind (λ x. halted locks (some (op x))) (λ a t u. refl) r o) ∙ h
 
 module _ (m : Model) (vol : ℕ → Bool) (ks : List (List (Placed Op))) where
-  follows-halted : (a b : State) → Follows m vol ks a b → AllHalted (sheet_program ks) b → AllHalted (kernel_program ks) a
-  follows-halted a b f h t lt =
+  follows_halted : (a b : State) → Follows m vol ks a b → AllHalted (sheet_program ks) b → AllHalted (kernel_program ks) a
+  follows_halted a b f h t lt =
       let x = h t (omega (arith, length-map ks sheet, length-map ks (λ ps. map op (operations ps)))) in
       let st = (f.lanes t).stands in
       let there : halted b.locks (Option.map op (next_of ks a t)) ≡ true =
@@ -167,13 +167,13 @@ module _ (m : Model) (vol : ℕ → Bool) (ks : List (List (Placed Op))) where
       ((f.lanes t).pending ∙ x.0, rw (f.locks, fetched ks a t) there)
 
   -- the two are finished alike
-  matched-ends : (r s : Run) → r.row ≡ s.row → Follows m vol ks r.state s.state
+  matched_ends : (r s : Run) → r.row ≡ s.row → Follows m vol ks r.state s.state
       → Ends (kernel_program ks) r.state → Ends (sheet_program ks) s.state
-  matched-ends r s e f ends h =
+  matched_ends r s e f ends h =
       let alike : view_of r.row (finished (kernel_program ks) r.state) r.state
       ≡ view_of s.row (finished (sheet_program ks) s.state) s.state =
       cc (observed m vol ks (ran r) (ran s) (both_ran e f)) in
-      sym (ap (λ v. v.finished) alike) ∙ ends (follows-halted r.state s.state f h)
+      sym (ap (λ v. v.finished) alike) ∙ ends (follows_halted r.state s.state f h)
 
 -- ## a search for a permitted move
 
@@ -213,33 +213,33 @@ module _ (k : Program) (w : Lawful k) where
   EndsOn m prog = (mvs : List Move) (r : Run) → legal n (limit m) mvs ≡ true → run m vol prog begun mvs ≡ ran r
       → Ends prog r.state
 
-  source-ends : (l : Level) → EndsOn Source (kernel_program (placed_lanes l k))
-  source-ends l mvs r le e =
+  source_ends : (l : Level) → EndsOn Source (kernel_program (placed_lanes l k))
+  source_ends l mvs r le e =
       let held : ℕ → ℕ → ℕ → Bool = λ t. held_at (get_or k.lanes t []) in
       let kept : Inv n k.locks held r.state =
       subst (InvOut n k.locks held) e
-      (source-kept n k.locks (placed_lanes l k) held (disciplined k w l) vol (replicate k.locations 0) mvs le) in
-      source-finished k.locks (placed_lanes l k) held (disciplined k w l) r.state
-      (rw (ap length (source-program k l) ∙ length-map k.lanes (map op)) kept)
+      (source_kept n k.locks (placed_lanes l k) held (disciplined k w l) vol (replicate k.locations 0) mvs le) in
+      source_finished k.locks (placed_lanes l k) held (disciplined k w l) r.state
+      (rw (ap length (source_program k l) ∙ length-map k.lanes (map op)) kept)
 
   module _ (m : Model) where
     abbrev ks : List (List (Placed Op))
     ks = placed_lanes (level_of (Target m)) k
 
-    beside-ends : (mvs : List Move) (o : Outcome) (r : Run) → legal n 64 mvs ≡ true
+    beside_ends : (mvs : List Move) (o : Outcome) (r : Run) → legal n 64 mvs ≡ true
         → run Source vol (kernel_program ks) begun mvs ≡ o → Matched m vol ks o (ran r)
         → Ends (sheet_program ks) r.state
-    beside-ends mvs o r le q (both_ran {r = a} e f) =
-        matched-ends m vol ks a r e f (source-ends (level_of (Target m)) mvs a le q)
+    beside_ends mvs o r le q (both_ran {r = a} e f) =
+        matched_ends m vol ks a r e f (source_ends (level_of (Target m)) mvs a le q)
 
-    target-ends : EndsOn (Target m) (sheet_program ks)
-    target-ends mvs r le e =
-        beside-ends (source_schedule m vol (sheet_program ks) begun mvs) _ r
-        (source_legal m vol (sheet_program ks) n begun mvs le) refl (ran-matched k w m mvs r e)
+    target_ends : EndsOn (Target m) (sheet_program ks)
+    target_ends mvs r le e =
+        beside_ends (source_schedule m vol (sheet_program ks) begun mvs) _ r
+        (source_legal m vol (sheet_program ks) n begun mvs le) refl (ran_matched k w m mvs r e)
 
-  machine-ends : (m : Machine) → EndsOn m (program_for m k)
-  machine-ends Source = subst (EndsOn Source) (source-program k Level0) (source-ends Level0)
-  machine-ends (Target m) = subst (EndsOn (Target m)) (target-program k w m) (target-ends m)
+  machine_ends : (m : Machine) → EndsOn m (program_for m k)
+  machine_ends Source = subst (EndsOn Source) (source_program k Level0) (source_ends Level0)
+  machine_ends (Target m) = subst (EndsOn (Target m)) (target_program k w m) (target_ends m)
 
   module _ (m : Machine) (mvs : List Move) (le : legal n (limit m) mvs ≡ true) (r : Run) (e : run_on m k mvs ≡ ran r)
     where
@@ -266,8 +266,8 @@ module _ (k : Program) (w : Lawful k) where
             | inr z ↦ inr z
           ]
 
-      lane-tried : (t : ℕ) → t < n → Found ⊎ Waiting t
-      lane-tried t lt = go (tried t 0 lt (omega arith)) (tried t 1 lt (omega arith))
+      lane_tried : (t : ℕ) → t < n → Found ⊎ Waiting t
+      lane_tried t lt = go (tried t 0 lt (omega arith)) (tried t 1 lt (omega arith))
         where
           go : Done t 0 ⊎ (turn_of t 0 ≡ waits) → Done t 1 ⊎ (turn_of t 1 ≡ waits) → Found ⊎ Waiting t
           go (inl d) y = inl (t, 0, lt, omega arith, d)
@@ -277,10 +277,10 @@ module _ (k : Program) (w : Lawful k) where
       none_left : ((t : ℕ) → t < n → Waiting t) → (run_program m k mvs).finished ≡ true
       none_left f =
           let halts = (stuck m vol (program_for m k) r.state).0 (λ t lt. f t (rw (programs_many k w m) at lt)) in
-          rw (answered m k mvs r le e) (machine-ends m mvs r le e halts)
+          rw (answered m k mvs r le e) (machine_ends m mvs r le e halts)
 
       found : ((run_program m k mvs).finished ≡ true) ⊎ Found
-      found = elim (each_or Waiting n lane-tried) [ inl p ↦ inr p | inr f ↦ inl (none_left f) ]
+      found = elim (each_or Waiting n lane_tried) [ inl p ↦ inr p | inr f ↦ inl (none_left f) ]
 
 pub progress : (s : List ℕ) (k : Program) → verdict s ≡ accepted k → Progress s k
 progress s k e m mvs le =

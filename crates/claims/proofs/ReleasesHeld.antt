@@ -20,11 +20,11 @@ use Rattle.machine_spec.specs.State.{move_turn, advance, run, begin}
 use Rattle.claims.specs.Schedules.{source_schedule}
 use Rattle.claims.proofs.Fenced.{AllFenced, kernel_program, sheet_program}
 use Rattle.claims.proofs.Laws.Lanes.{set_lane_count, set_lane_each, start_each}
-use Rattle.claims.proofs.Matching.{Matched, both_ran, both_refused, matching, begin-matched}
+use Rattle.claims.proofs.Matching.{Matched, both_ran, both_refused, matching, begin_matched}
 use Rattle.claims.proofs.Legal.{source_legal}
 use Rattle.claims.proofs.HeldSets.{Disciplined}
 use Rattle.claims.proofs.LockClaims.{one, Claims, free_word}
-use Rattle.claims.proofs.LockTurns.{Sound, turn-sound}
+use Rattle.claims.proofs.LockTurns.{Sound, turn_sound}
 
 -- a state of m lanes, whose claims the words of n locks tell
 pub record Inv (m n : ℕ) (held : ℕ → ℕ → ℕ → Bool) (a : State) : Type 0 where
@@ -38,12 +38,12 @@ InvOut m n held (refused t k) = ⊥
 
 module _ (m n : ℕ) (ks : List (List (Placed Op))) (held : ℕ → ℕ → ℕ → Bool)
     (D : (t : ℕ) → Disciplined n (operations (get_or ks t [])) (held t)) (vol : ℕ → Bool) where
-  inv-land : (r : Run) (t k : ℕ) → t < m → Inv m n held r.state → (u : Turn) → Sound n (held t) t r.state.locks u
+  inv_land : (r : Run) (t k : ℕ) → t < m → Inv m n held r.state → (u : Turn) → Sound n (held t) t r.state.locks u
       → InvOut m n held (apply_turn r t k u)
-  inv-land r t k lt i waits s = record { lanes = i.lanes; locks = i.locks; claims = i.claims }
-  inv-land r t k lt i refuses s = s
-  inv-land r t k lt i (passes j d) s = absurd s
-  inv-land r t k lt i (does j d v) s = record {
+  inv_land r t k lt i waits s = record { lanes = i.lanes; locks = i.locks; claims = i.claims }
+  inv_land r t k lt i refuses s = s
+  inv_land r t k lt i (passes j d) s = absurd s
+  inv_land r t k lt i (does j d v) s = record {
     lanes = set_lane_count r.state t j d ∙ i.lanes;
     locks = s.count;
     claims = set_lane_each (λ u l. Claims (held u l.control.pos) u l.pending d.locks) r.state t j d
@@ -51,26 +51,26 @@ module _ (m n : ℕ) (ks : List (List (Placed Op))) (held : ℕ → ℕ → ℕ 
         (λ u ne l. i.claims u l ∙ ap one (sym (s.foreign l u ne)));
   }
 
-  inv-step : (r : Run) (mv : Move) → mv.lane < m → Inv m n held r.state
+  inv_step : (r : Run) (mv : Move) → mv.lane < m → Inv m n held r.state
       → InvOut m n held (advance Source vol (kernel_program ks) (ran r) mv)
-  inv-step r mv lt i =
-      inv-land r mv.lane _ lt i (move_turn Source vol (kernel_program ks) r.state mv)
+  inv_step r mv lt i =
+      inv_land r mv.lane _ lt i (move_turn Source vol (kernel_program ks) r.state mv)
       (rw (get_or-map (λ ps. map op (operations ps)) ks mv.lane [])
-      (turn-sound n (operations (get_or ks mv.lane [])) (held mv.lane) (D mv.lane) vol mv.lane
+      (turn_sound n (operations (get_or ks mv.lane [])) (held mv.lane) (D mv.lane) vol mv.lane
       (lane_at r.state mv.lane).control
       (core_of r.state (lane_at r.state mv.lane)) i.locks (i.claims mv.lane) mv.choice))
 
-  inv-run : (mvs : List Move) (o : Outcome) → InvOut m n held o → legal m 64 mvs ≡ true
+  inv_run : (mvs : List Move) (o : Outcome) → InvOut m n held o → legal m 64 mvs ≡ true
       → InvOut m n held (run Source vol (kernel_program ks) o mvs)
-  inv-run [] o i le = i
-  inv-run (mv ∷ mvs) (refused t k) i le = absurd i
-  inv-run (mv ∷ mvs) (ran r) i le =
+  inv_run [] o i le = i
+  inv_run (mv ∷ mvs) (refused t k) i le = absurd i
+  inv_run (mv ∷ mvs) (ran r) i le =
       let fits = and_true (ltb mv.lane m && leb mv.choice 64) (legal m 64 mvs) le in
       let lt : mv.lane < m = ltb-true mv.lane m (and_true (ltb mv.lane m) (leb mv.choice 64) fits.0).0 in
-      inv-run mvs (advance Source vol (kernel_program ks) (ran r) mv) (inv-step r mv lt i) fits.1
+      inv_run mvs (advance Source vol (kernel_program ks) (ran r) mv) (inv_step r mv lt i) fits.1
 
-  inv-start : (mem : List ℕ) → Inv m n held (start_state m mem n)
-  inv-start mem = record {
+  inv_start : (mem : List ℕ) → Inv m n held (start_state m mem n)
+  inv_start mem = record {
     lanes = length-replicate m _;
     locks = length-replicate n 0;
     claims = λ t.
@@ -83,30 +83,30 @@ module _ (m n : ℕ) (ks : List (List (Placed Op))) (held : ℕ → ℕ → ℕ 
           rw ((D t).starts l)
           (getD-replicate-all (λ w. 0 ≡ one (eqb w (suc t))) n 0 0 (rw (free_word t)) (rw (free_word t)) l)
 
-  ran-of : (o : Outcome) → InvOut m n held o → (r : Run) × (o ≡ ran r)
-  ran-of (ran r) i = (r, refl)
-  ran-of (refused t k) i = absurd i
+  ran_of : (o : Outcome) → InvOut m n held o → (r : Run) × (o ≡ ran r)
+  ran_of (ran r) i = (r, refl)
+  ran_of (refused t k) i = absurd i
 
   -- a source run keeps the claims
-  pub source-kept : (mem : List ℕ) (mvs : List Move) → legal m 64 mvs ≡ true
+  pub source_kept : (mem : List ℕ) (mvs : List Move) → legal m 64 mvs ≡ true
       → InvOut m n held (run Source vol (kernel_program ks) (begin (start_state m mem n)) mvs)
-  source-kept mem mvs = inv-run mvs (begin (start_state m mem n)) (inv-start mem)
+  source_kept mem mvs = inv_run mvs (begin (start_state m mem n)) (inv_start mem)
 
   -- no source run is refused
-  pub source-runs : (mem : List ℕ) (mvs : List Move) → legal m 64 mvs ≡ true → (r : Run)
+  pub source_runs : (mem : List ℕ) (mvs : List Move) → legal m 64 mvs ≡ true → (r : Run)
       × (run Source vol (kernel_program ks) (begin (start_state m mem n)) mvs ≡ ran r)
-  source-runs mem mvs le = ran-of _ (source-kept mem mvs le)
+  source_runs mem mvs le = ran_of _ (source_kept mem mvs le)
 
-  matched-inv : (x : Model) (o o' : Outcome) → Matched x vol ks o o' → InvOut m n held o → (r : Run) × (o' ≡ ran r)
-  matched-inv x o o' (both_ran {s = s} e h) i = (s, refl)
-  matched-inv x o o' both_refused i = absurd i
+  matched_inv : (x : Model) (o o' : Outcome) → Matched x vol ks o o' → InvOut m n held o → (r : Run) × (o' ≡ ran r)
+  matched_inv x o o' (both_ran {s = s} e h) i = (s, refl)
+  matched_inv x o o' both_refused i = absurd i
 
   -- nor is a run of a target, since it would share the refusal
-  pub target-runs : (x : Model) → ((t : ℕ) → AllFenced x vol (get_or ks t [])) → (mem : List ℕ) (mvs : List Move)
+  pub target_runs : (x : Model) → ((t : ℕ) → AllFenced x vol (get_or ks t [])) → (mem : List ℕ) (mvs : List Move)
       → legal m (limit (Target x)) mvs ≡ true
       → (r : Run) × (run (Target x) vol (sheet_program ks) (begin (start_state m mem n)) mvs ≡ ran r)
-  target-runs x f mem mvs le =
+  target_runs x f mem mvs le =
       let s = begin (start_state m mem n) in
-      matched-inv x _ _ (matching x vol ks f mvs s s (begin-matched x vol ks m mem n))
-      (source-kept mem (source_schedule x vol (sheet_program ks) s mvs)
+      matched_inv x _ _ (matching x vol ks f mvs s s (begin_matched x vol ks m mem n))
+      (source_kept mem (source_schedule x vol (sheet_program ks) s mvs)
       (source_legal x vol (sheet_program ks) m s mvs le))

@@ -23,7 +23,7 @@ use Rattle.claims.specs.Direct.{appends}
 use Rattle.sheet_format.specs.Levels.{drains}
 use Rattle.claims.proofs.Fenced.{publishes, opens, needs, KeptAt, Edge, falls, jumps, Open, starts}
 use Rattle.claims.proofs.Fenced.{goes_on, AllFenced}
-use Rattle.claims.proofs.Laws.Sheets.{next-begins}
+use Rattle.claims.proofs.Laws.Sheets.{next_begins}
 use Rattle.claims.proofs.Laws.Pending.{sealed, parted_snoc}
 use Rattle.claims.proofs.Exposed.{exposed, exposed_nil, exposed_snoc, Ordered}
 
@@ -75,7 +75,7 @@ module _ {m : Model} {vol : ℕ → Bool} {ps : List (Placed Op)} where
             goes_on s (r.safe b v old).0 r.here (r.safe b v old).1 nd way
 
     following : suc k.pos ≡ start ps (suc i.pos)
-    following = ap suc r.place ∙ sym (next-begins ps i.pos s r.here)
+    following = ap suc r.place ∙ sym (next_begins ps i.pos s r.here)
 
     -- with the same entries pending
     pub onwards : drains s.oper ≡ false → Stands m vol ps (suc i.pos) (goto k (suc k.pos)) c.pending
@@ -89,8 +89,8 @@ module _ {m : Model} {vol : ℕ → Bool} {ps : List (Placed Op)} where
         (λ b v x. leads (rw e) t (jumps s r.here (rw e)) b v (or_right (opens b vol s.oper) _ x)) r.ordered
 
     -- after a LOCK nothing is exposed
-    pub locked-on : is_nil c.pending ≡ true → Stands m vol ps (suc i.pos) (goto k (suc k.pos)) c.pending
-    locked-on nil =
+    pub locked_on : is_nil c.pending ≡ true → Stands m vol ps (suc i.pos) (goto k (suc k.pos)) c.pending
+    locked_on nil =
         fresh (suc i.pos) (goto k (suc k.pos)) c.pending following
         (λ b v e. absurd (false≢true (sym (exposed_nil b vol k.marks c.pending nil) ∙ e))) r.ordered
 
@@ -104,10 +104,10 @@ module _ {m : Model} {vol : ℕ → Bool} {ps : List (Placed Op)} where
         go true h = let g = r.safe b v h in absurd (false≢true (sym g.1 ∙ f b v i.pos s r.here n g.0))
 
     -- a volatile store or UNLOCK that is appended on pso follows a mark
-    still-ordered : AllFenced m vol ps → (e : Entry) → is_sync vol e ≡ publishes vol s.oper → (m' : Model) → m' ≡ m
+    still_ordered : AllFenced m vol ps → (e : Entry) → is_sync vol e ≡ publishes vol s.oper → (m' : Model) → m' ≡ m
         → Ordered m' vol k.marks c.pending → Ordered m' vol k.marks (c.pending ++ (e ∷ []))
-    still-ordered f e y Tso same q = tt
-    still-ordered f e y Pso same q =
+    still_ordered f e y Tso same q = tt
+    still_ordered f e y Pso same q =
         let keeps : KeptAt m SS = subst (λ x. KeptAt x SS) same (λ o flows. refl) in
         parted_snoc vol k.marks c.pending e
         (λ x. not-false (sealed (length c.pending) k.marks) (parted f SS keeps (sym y ∙ x))) q
@@ -119,4 +119,4 @@ module _ {m : Model} {vol : ℕ → Bool} {ps : List (Placed Op)} where
     appended f e a nd y =
         fresh (suc i.pos) (goto k (suc k.pos)) _ following
         (λ b v x. leads nd _ falls b v (exposed_snoc b vol k.marks c.pending e s.oper a y x))
-        (still-ordered f e y m refl r.ordered)
+        (still_ordered f e y m refl r.ordered)

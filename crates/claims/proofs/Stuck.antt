@@ -76,9 +76,9 @@ module _ (m : Machine) (vol : ℕ → Bool) (w : ℕ) (k : Control) (c : Core) w
       go true = refl
       go false = refl
 
-  pub waits-permits : (o : Op) → execute m vol w k c (some (op o)) ≡ waits → permits m vol c o ≡ false
+  pub waits_permits : (o : Op) → execute m vol w k c (some (op o)) ≡ waits → permits m vol c o ≡ false
   unfolding is_wait
-  waits-permits o e = go (permits m vol c o) refl
+  waits_permits o e = go (permits m vol c o) refl
     where
       go : (b : Bool) → permits m vol c o ≡ b → permits m vol c o ≡ false
       go false h = h
@@ -86,19 +86,19 @@ module _ (m : Machine) (vol : ℕ → Bool) (w : ℕ) (k : Control) (c : Core) w
 
   module _ (nil : c.pending ≡ []) where
     -- with nothing pending a lane waits exactly at its end or at a held lock
-    waits-halted : (i : Option Instr) → execute m vol w k c i ≡ waits → halted c.locks i ≡ true
-    waits-halted none e = refl
-    waits-halted (some (barrier b)) e =
+    waits_halted : (i : Option Instr) → execute m vol w k c i ≡ waits → halted c.locks i ≡ true
+    waits_halted none e = refl
+    waits_halted (some (barrier b)) e =
         let f : execute m vol w k c (some (barrier b)) ≡ passes (passed m k c b) c =
         rw (nil, free_pass m b) in
         cc
-    waits-halted (some (op o)) e =
-        not-false (halted c.locks (some (op o))) (sym (free_permits m vol c nil o) ∙ waits-permits o e)
+    waits_halted (some (op o)) e =
+        not-false (halted c.locks (some (op o))) (sym (free_permits m vol c nil o) ∙ waits_permits o e)
 
-    halted-waits : (i : Option Instr) → halted c.locks i ≡ true → execute m vol w k c i ≡ waits
-    halted-waits none e = refl
-    halted-waits (some (barrier b)) e = cc
-    halted-waits (some (op o)) e = let f : permits m vol c o ≡ false = free_permits m vol c nil o ∙ ap not e in rw f
+    halted_waits : (i : Option Instr) → halted c.locks i ≡ true → execute m vol w k c i ≡ waits
+    halted_waits none e = refl
+    halted_waits (some (barrier b)) e = cc
+    halted_waits (some (op o)) e = let f : permits m vol c o ≡ false = free_permits m vol c nil o ∙ ap not e in rw f
 
 -- of every machine, for every program and in every state
 pub stuck : (m : Machine) (vol : ℕ → Bool) (prog : List (List Instr)) (s : State)
@@ -107,7 +107,7 @@ stuck m vol prog s = (there, back)
   where
     back : AllHalted prog s → Stuck m vol prog s
     back h t lt = (
-      halted-waits m vol (suc t) (lane_at s t).control (core_of s (lane_at s t)) (h t lt).0
+      halted_waits m vol (suc t) (lane_at s t).control (core_of s (lane_at s t)) (h t lt).0
           (get_elem? (get_or prog t []) (pos_at s t)) (h t lt).1,
       rw (h t lt).0,
     )
@@ -118,6 +118,6 @@ stuck m vol prog s = (there, back)
         nothing_pending m vol (lane_at s t).control (core_of s (lane_at s t)) (lane_at s t).pending refl
         (h t lt).1 in (
           nil,
-          waits-halted m vol (suc t) (lane_at s t).control (core_of s (lane_at s t)) nil
+          waits_halted m vol (suc t) (lane_at s t).control (core_of s (lane_at s t)) nil
               (get_elem? (get_or prog t []) (pos_at s t)) (h t lt).0,
         )

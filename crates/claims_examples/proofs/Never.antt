@@ -76,8 +76,8 @@ module _ (m : Machine) (k : Program) (fuel : ℕ) (search : Searched m k (progra
   ended (ran r) h = not-true _ h
   ended (refused t p) h = refl
 
-  never-all-zero : (mvs : List Move) → ends_all_zero (run_program m k mvs) ≡ false
-  never-all-zero mvs = go (legal (length k.lanes) (limit m) mvs) refl
+  never_all_zero : (mvs : List Move) → ends_all_zero (run_program m k mvs) ≡ false
+  never_all_zero mvs = go (legal (length k.lanes) (limit m) mvs) refl
     where
       go : (b : Bool) → legal (length k.lanes) (limit m) mvs ≡ b → ends_all_zero (run_program m k mvs) ≡ false
       go false h = rw h
@@ -95,7 +95,7 @@ never_on : (m : Model) (mvs : List Move)
     → ends_all_zero (run_by (Target m) (store_buffering 3) (verdict (store_buffering 3)) mvs) ≡ false
 never_on m mvs =
     ap (λ v. ends_all_zero (run_by (Target m) (store_buffering 3) v mvs)) stands_for
-    ∙ never-all-zero (Target m) kernel 11 (searched m) mvs
+    ∙ never_all_zero (Target m) kernel 11 (searched m) mvs
 
 pub never_on_tso : (mvs : List Move)
     → ends_all_zero (run_by (Target Tso) (store_buffering 3) (verdict (store_buffering 3)) mvs) ≡ false
@@ -109,4 +109,4 @@ pub never_on_source : (mvs : List Move)
     → ends_all_zero (run_by Source (store_buffering 3) (verdict (store_buffering 3)) mvs) ≡ false
 never_on_source mvs =
     ap (λ v. ends_all_zero (run_by Source (store_buffering 3) v mvs)) stands_for
-    ∙ never-all-zero Source kernel 9 refl mvs
+    ∙ never_all_zero Source kernel 9 refl mvs

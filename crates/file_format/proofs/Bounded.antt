@@ -13,7 +13,7 @@ use Rattle.file_format.specs.Linkage.{chain}
 use Rattle.file_format.specs.Accepted.{op_by, op_of, ops_of}
 use Rattle.file_format.specs.Lawful.{Bounded}
 use Rattle.file_format.proofs.Laws.Search.{all_at}
-use Rattle.file_format.proofs.Laws.Rules.{record-rule, next_small}
+use Rattle.file_format.proofs.Laws.Rules.{record_rule_lem, next_small}
 use Rattle.file_format.proofs.Laws.Linkage.{chain_stop, chain_suc}
 use Rattle.file_format.proofs.Laws.Targets.{position_le}
 use Rattle.file_format.proofs.Laws.Accepted.{ops_of_at}
@@ -38,10 +38,10 @@ module _ (s : List ℕ) (ok : bad_record s ≡ 0) where
   Numbered r = (1 ≤ r) × (r ≤ record_count s)
 
   -- every record of a chain is one of the file's
-  pub chain-range : (k r p : ℕ) → r ≤ record_count s → p < length (chain s k r) → Numbered (get_or (chain s k r) p 0)
+  pub chain_range : (k r p : ℕ) → r ≤ record_count s → p < length (chain s k r) → Numbered (get_or (chain s k r) p 0)
   unfolding chain
-  chain-range zero r p hr h = absurd (omega arith)
-  chain-range (suc k) r p hr h = go (dec_le 1 r) p h (chain-range k (next s r))
+  chain_range zero r p hr h = absurd (omega arith)
+  chain_range (suc k) r p hr h = go (dec_le 1 r) p h (chain_range k (next s r))
     where
       go : Dec (1 ≤ r) → (p : ℕ) → p < length (chain s (suc k) r)
           → ((p : ℕ) → next s r ≤ record_count s → p < length (chain s k (next s r))
@@ -53,19 +53,19 @@ module _ (s : List ℕ) (ok : bad_record s ≡ 0) where
           let more = chain_suc s k r (λ z. omega arith) in
           rw more (ih p (next_small s ok r l hr) (omega (arith, ap length more)))
 
-  op-bounded : (i : ℕ) → Numbered i → (p : ℕ) (rest : List ℕ)
+  op_bounded : (i : ℕ) → Numbered i → (p : ℕ) (rest : List ℕ)
       → Bounded (locations s) (locks s) (p + 1 + length rest) p (op_of s p rest i)
   unfolding record_rule op_of
-  op-bounded i range p rest =
-      let holds = record-rule s ok i range.0 range.1 in
+  op_bounded i range p rest =
+      let holds = record_rule_lem s ok i range.0 range.1 in
       bounded_by (locations s) (locks s) (p + 1 + length rest) p (operation s i) _ _ _ _
       (ltb-true _ _ (all_at (record_tests s i) 0 holds)) (ltb-true _ _ (all_at (record_tests s i) 1 holds))
       (ltb-true _ _ (all_at (record_tests s i) 3 holds)) (omega arith) (omega (arith, position_le (target s i) rest))
 
-  pub lane-bounded : (h : ℕ) → h ≤ record_count s → (p : ℕ) (d : Op) → p < length (chain s 64 h)
+  pub lane_bounded : (h : ℕ) → h ≤ record_count s → (p : ℕ) (d : Op) → p < length (chain s 64 h)
       → Bounded (locations s) (locks s) (length (chain s 64 h)) p (get_or (ops_of s (chain s 64 h)) p d)
-  lane-bounded h hr p d inside =
+  lane_bounded h hr p d inside =
       let rs = chain s 64 h in
       let rest : p + 1 + length (drop (p + 1) rs) ≡ length rs = omega (arith, length-drop (p + 1) rs) in
       rw (ops_of_at s rs p d inside)
-      (rw rest at (op-bounded (get_or rs p 0) (chain-range 64 h p hr inside) p (drop (p + 1) rs)))
+      (rw rest at (op_bounded (get_or rs p 0) (chain_range 64 h p hr inside) p (drop (p + 1) rs)))

@@ -86,9 +86,9 @@ module _ (rs : List ℕ) (ops : List Op) (len : length rs ≡ length ops)
           let last : p ≡ n = omega arith in
           rw last both.0
 
-  skip-agrees : (a q p : ℕ) → get_elem? ops p ≡ some (Skip a q) → p < length ops → q ≤ length ops
+  skip_agrees : (a q p : ℕ) → get_elem? ops p ≡ some (Skip a q) → p < length ops → q ≤ length ops
       → same (held ops p) (held ops q) ≡ true
-  skip-agrees a q p e inside hi =
+  skip_agrees a q p e inside hi =
       let parts = rw (e, eq-eqb q q refl) at (agreed (length ops) q p (split q hi).0 inside) in
       not-false (same (held ops p) (held ops q)) parts
 
@@ -105,7 +105,7 @@ module _ (rs : List ℕ) (ops : List Op) (len : length rs ≡ length ops)
       not-false _ (rw e at (split p (omega (arith, at.0))).1)
   keeps ls ks p (Skip a q) e b =
       let at = some_at ops p (Skip a q) (Set 0 0) e in
-      skip-agrees a q p e at.0 b.2
+      skip_agrees a q p e at.0 b.2
 
   pub released : same (held ops (length ops)) no_locks ≡ true
   released = not-false _ (rw (at_beyond ops (length ops) (omega arith)) at (split (length ops) (omega arith)).1)

@@ -4,6 +4,7 @@
 // where some way holds lock l, bit 4 + l where some way does not; ways are joined by `|`, and differ where a lock has
 // both bits.
 #![tactic(auto)]
+
 ghost use Rattle.std.specs.Prelude.{◌≡◌, List, false, ℕ, ◌+◌, ◌-◌, ◌*◌, ◌<◌, ◌≤◌, length, set, get_or, take, drop};
 ghost use Rattle.std.specs.Int.Bits.{bit_or};
 ghost use Rattle.file_format.specs.declared.accepted.Op.{Op};

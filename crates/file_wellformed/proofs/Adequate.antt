@@ -18,9 +18,9 @@ use Rattle.file_format.proofs.Laws.Search.{nothing_found, nothing_named}
 use Rattle.file_format.proofs.Laws.Linkage.{walk_of_here, walk_of_on}
 use Rattle.file_format.proofs.Laws.Linkage.{chain_room, chain_length, chain_front, chain_behind}
 use Rattle.file_format.proofs.Laws.Targets.{member_position, position_at}
-use Rattle.file_format.proofs.Laws.Rules.{head-range}
+use Rattle.file_format.proofs.Laws.Rules.{head_range}
 use Rattle.file_format.specs.Structured.{Structured}
-use Rattle.file_format.proofs.Bounded.{chain-range}
+use Rattle.file_format.proofs.Bounded.{chain_range}
 
 -- records that have a flag each; flag 0 is no record's
 abbrev Flagged : List Bool → List ℕ → Type 0
@@ -51,7 +51,7 @@ pub walk_ends : (s : List ℕ) → Structured s → record_count s ≤ 256 → (
     → length (chain s 257 (head s t)) < 257
 walk_ends s ok small met t ht room z e =
     let range : Flagged met (chain s 257 (head s t)) = λ p l.
-    let r = chain-range s ok.fields.records 257 (head s t) p (head-range s ok.fields.header t ht) l in
+    let r = chain_range s ok.fields.records 257 (head s t) p (head_range s ok.fields.header t ht) l in
     (r.0, omega (arith, r.1, room)) in
     omega (arith, met_few met (chain s 257 (head s t)) z (omega (arith, room)) range e)
 
@@ -82,7 +82,7 @@ module _ (s : List ℕ) (ok : Structured s) (t : ℕ) (ht : t < 4) where
     unfolding bad_target unreachable_target
     later =
         let r = get_or lane p 0 in
-        let range = chain-range s ok.fields.records 64 (head s t) p (head-range s ok.fields.header t ht) h in
+        let range = chain_range s ok.fields.records 64 (head s t) p (head_range s ok.fields.header t ht) h in
         let reached : unreachable_target s r ≡ false =
         nothing_found (unreachable_target s) 1 (record_count s) r (omega arith) ok.targets range.0
         (omega (arith, range.1)) in

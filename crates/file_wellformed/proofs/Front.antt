@@ -11,7 +11,7 @@ use lib.Seq.{take_all, get_or-take}
 use borrow.Author.Tests.{le-ltb, ne_eqb}
 use Rattle.file_format.specs.Fields.{byte, record_count}
 use Rattle.file_format.specs.Rules.{head_rule, header_rule}
-use Rattle.file_format.proofs.Laws.Rules.{few-records}
+use Rattle.file_format.proofs.Laws.Rules.{few_records}
 use Rattle.file_verdict.specs.Verdict.{refused, fields_then, structure_then, refusal_of, verdict}
 
 -- k bytes of a file, the first of which is byte i
@@ -20,14 +20,14 @@ bytes s i zero = []
 bytes s i (suc k) = byte s i ∷ bytes s (suc i) k
 
 module _ (n : ℕ) (s : List ℕ) where
-  bytes-front : (i k : ℕ) → i + k ≤ n → bytes (take n s) i k ≡ bytes s i k
-  bytes-front i zero h = refl
-  bytes-front i (suc k) h = ap₂ ◌∷◌ (get_or-take n s i 0 (omega arith)) (bytes-front (suc i) k (omega arith))
+  bytes_front : (i k : ℕ) → i + k ≤ n → bytes (take n s) i k ≡ bytes s i k
+  bytes_front i zero h = refl
+  bytes_front i (suc k) h = ap₂ ◌∷◌ (get_or-take n s i 0 (omega arith)) (bytes_front (suc i) k (omega arith))
 
   -- the header rule reads the first 16 bytes
-  header-front : 16 ≤ n → header_rule (take n s) ≡ header_rule s
+  header_front : 16 ≤ n → header_rule (take n s) ≡ header_rule s
   unfolding header_rule head_rule
-  header-front h = ap header_rule (bytes-front 0 16 h)
+  header_front h = ap header_rule (bytes_front 0 16 h)
 
 -- the verdict on a file that is longer than 3,088 bytes
 long_verdict : (s : List ℕ) → 3088 < length s → verdict s ≡ refused (cond (header_rule s) 3 2) 0
@@ -36,7 +36,7 @@ long_verdict s h = go (header_rule s) refl
   where
     go : (b : Bool) → header_rule s ≡ b → verdict s ≡ refused (cond b 3 2) 0
     go true e =
-        let other = ne_eqb (length s) (16 + 12 * record_count s) (λ z. omega (arith, few-records s e)) in
+        let other = ne_eqb (length s) (16 + 12 * record_count s) (λ z. omega (arith, few_records s e)) in
         rw (le-ltb (length s) 16 (omega arith), e, other)
     go false e = rw (le-ltb (length s) 16 (omega arith), e)
 
@@ -47,5 +47,5 @@ front_verdict s = go (dec_le (length s) 3089)
     go (yes h) = ap verdict (take_all 3089 s h)
     go (no n) =
         long_verdict (take 3089 s) (omega (arith, length-take 3089 s))
-        ∙ ap (λ b. refused (cond b 3 2) 0) (header-front 3089 s (omega arith))
+        ∙ ap (λ b. refused (cond b 3 2) 0) (header_front 3089 s (omega arith))
         ∙ sym (long_verdict s (omega arith))

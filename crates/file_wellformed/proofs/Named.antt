@@ -22,8 +22,8 @@ use Rattle.file_format.specs.Accepted.{records_at, program_of}
 use Rattle.file_format.specs.Held.{record_at, lock_fault}
 use Rattle.file_format.specs.Rising.{lock_order}
 use Rattle.file_verdict.specs.Verdict.{unless, fields_then, structure_then, refusal_of, number_of, record_of}
-use Rattle.file_format.proofs.Laws.Rules.{few-records, head-range}
-use Rattle.file_format.proofs.Bounded.{chain-range}
+use Rattle.file_format.proofs.Laws.Rules.{few_records, head_range}
+use Rattle.file_format.proofs.Bounded.{chain_range}
 
 -- 9 is of a buffer, not of a file
 pub number_small : (s : List ℕ) → (number_of (refusal_of s) ≤ 12) × (number_of (refusal_of s) ≢ 9)
@@ -47,11 +47,11 @@ module _ (n : ℕ) where
   either f true h g = h
   either f false h g = g
 
-  lowest-small : (test : ℕ → Bool) (i k : ℕ) → i + k ≤ n → lowest test (suc i) k ≤ n
+  lowest_small : (test : ℕ → Bool) (i k : ℕ) → i + k ≤ n → lowest test (suc i) k ≤ n
   unfolding lowest
-  lowest-small test i zero h = omega arith
-  lowest-small test i (suc k) h =
-      either (λ x. x) (test (suc i)) (omega arith) (lowest-small test (suc i) k (omega arith))
+  lowest_small test i zero h = omega arith
+  lowest_small test i (suc k) h =
+      either (λ x. x) (test (suc i)) (omega arith) (lowest_small test (suc i) k (omega arith))
 
   first_small : (f : ℕ → ℕ) (i k : ℕ) → ((j : ℕ) → j < i + k → f j ≤ n) → first_of f i k ≤ n
   unfolding first_of
@@ -63,11 +63,11 @@ module _ (n : ℕ) where
   abbrev Small : List ℕ → Type 0
   Small rs = (p : ℕ) → get_or rs p 0 ≤ n
 
-  walk-small : (met : List Bool) (rs : List ℕ) → Small rs → (walk_of met rs).twice ≤ n
+  walk_small : (met : List Bool) (rs : List ℕ) → Small rs → (walk_of met rs).twice ≤ n
   unfolding walk_of
-  walk-small met [] h = omega arith
-  walk-small met (r ∷ rs) h =
-      either {A = Walked} (λ w. w.twice) (get_or met r false) (h 0) (walk-small (set met r true) rs (λ p. h (suc p)))
+  walk_small met [] h = omega arith
+  walk_small met (r ∷ rs) h =
+      either {A = Walked} (λ w. w.twice) (get_or met r false) (h 0) (walk_small (set met r true) rs (λ p. h (suc p)))
 
   at_small : (rs : List ℕ) (i : ℕ) → Small rs → record_at rs i ≤ n
   unfolding record_at
@@ -79,52 +79,52 @@ module _ (n : ℕ) where
 
   -- the records that a file names whose header and records keep their rules
   module _ (s : List ℕ) (few : record_count s ≤ n) (header : header_rule s ≡ true) (records : bad_record s ≡ 0) where
-    chain-small : (k h : ℕ) → h ≤ record_count s → Small (chain s k h)
-    chain-small k h hr p = go (dec_lt p (length (chain s k h)))
+    chain_small : (k h : ℕ) → h ≤ record_count s → Small (chain s k h)
+    chain_small k h hr p = go (dec_lt p (length (chain s k h)))
       where
         go : Dec (p < length (chain s k h)) → get_or (chain s k h) p 0 ≤ n
-        go (yes l) = omega (arith, (chain-range s records k h p hr l).1)
+        go (yes l) = omega (arith, (chain_range s records k h p hr l).1)
         go (no l) = omega (arith, get_or-eq_default (chain s k h) 0 {n = p} (omega arith))
 
     lane_small : (k t : ℕ) → t < 4 → Small (chain s k (head s t))
-    lane_small k t h = chain-small k (head s t) (head-range s header t h)
+    lane_small k t h = chain_small k (head s t) (head_range s header t h)
 
-    linkage-small : (met : List Bool) (t k : ℕ) → t + k ≤ 4 → linkage_from s met t k ≤ n
+    linkage_small : (met : List Bool) (t k : ℕ) → t + k ≤ 4 → linkage_from s met t k ≤ n
     unfolding linkage_from
-    linkage-small met t zero h = lowest-small _ 0 (record_count s) (omega arith)
-    linkage-small met t (suc k) h =
+    linkage_small met t zero h = lowest_small _ 0 (record_count s) (omega arith)
+    linkage_small met t (suc k) h =
         either (λ x. x) (eqb (walk_lane s met t).twice 0)
-        (linkage-small (walk_lane s met t).met (suc t) k (omega arith))
-        (walk-small met (chain s 257 (head s t)) (lane_small 257 t (omega arith)))
+        (linkage_small (walk_lane s met t).met (suc t) k (omega arith))
+        (walk_small met (chain s 257 (head s t)) (lane_small 257 t (omega arith)))
 
-    heads-small : (t : ℕ) → get_or (heads s) t 0 ≤ record_count s
-    heads-small zero = head-range s header 0 (omega arith)
-    heads-small (suc zero) = head-range s header 1 (omega arith)
-    heads-small (suc (suc zero)) = head-range s header 2 (omega arith)
-    heads-small (suc (suc (suc zero))) = head-range s header 3 (omega arith)
-    heads-small (suc (suc (suc (suc t)))) = omega arith
+    heads_small : (t : ℕ) → get_or (heads s) t 0 ≤ record_count s
+    heads_small zero = head_range s header 0 (omega arith)
+    heads_small (suc zero) = head_range s header 1 (omega arith)
+    heads_small (suc (suc zero)) = head_range s header 2 (omega arith)
+    heads_small (suc (suc (suc zero))) = head_range s header 3 (omega arith)
+    heads_small (suc (suc (suc (suc t)))) = omega arith
 
     lanes_small : (k : ℕ) (hs : List ℕ) → ((t : ℕ) → get_or hs t 0 ≤ record_count s)
         → (t : ℕ) → Small (get_or (map (records_at s) (take k hs)) t [])
     lanes_small zero hs h t = λ p. omega arith
     lanes_small (suc k) [] h t = λ p. omega arith
-    lanes_small (suc k) (r ∷ hs) h zero = chain-small 64 r (h 0)
+    lanes_small (suc k) (r ∷ hs) h zero = chain_small 64 r (h 0)
     lanes_small (suc k) (r ∷ hs) h (suc t) = lanes_small k hs (λ p. h (suc p)) t
 
     -- the first of a place in each lane
     locks_small : (f : ℕ → ℕ) → first_of (λ t. record_at (get_or (program_of s).records t []) (f t)) 0 4 ≤ n
     locks_small f =
         first_small _ 0 4 (λ t h. at_small (get_or (program_of s).records t []) (f t)
-        (lanes_small (lane_count s) (heads s) heads-small t))
+        (lanes_small (lane_count s) (heads s) heads_small t))
 
   -- where a check names a record up to n, and what comes after it does once it passed, the refusal does
-  refuse-if : (b : Bool) (r a : Refusal) → record_of r ≤ n → (b ≡ false → record_of a ≤ n) → record_of (cond b r a) ≤ n
-  refuse-if true r a h g = h
-  refuse-if false r a h g = g refl
+  refuse_if : (b : Bool) (r a : Refusal) → record_of r ≤ n → (b ≡ false → record_of a ≤ n) → record_of (cond b r a) ≤ n
+  refuse_if true r a h g = h
+  refuse_if false r a h g = g refl
 
-  refuse-unless : (x : ℕ) (f : ℕ → Refusal) (a : Refusal) → record_of (f x) ≤ n → (x ≡ 0 → record_of a ≤ n)
+  refuse_unless : (x : ℕ) (f : ℕ → Refusal) (a : Refusal) → record_of (f x) ≤ n → (x ≡ 0 → record_of a ≤ n)
       → record_of (unless x f a) ≤ n
-  refuse-unless x f a h g = go (eqb x 0) refl
+  refuse_unless x f a h g = go (eqb x 0) refl
     where
       go : (b : Bool) → eqb x 0 ≡ b → record_of (cond b a (f x)) ≤ n
       go true e = g (eqb-true x 0 e)
@@ -134,18 +134,18 @@ module _ (n : ℕ) where
   named : (s : List ℕ) → (header_rule s ≡ true → record_count s ≤ n) → record_of (refusal_of s) ≤ n
   unfolding refusal_of structure_then fields_then bad_record bad_linkage chain_too_long bad_target lock_fault lock_order
   named s most =
-      refuse-if (ltb (length s) 16) TruncatedHeader _ (omega arith) (λ _.
-      refuse-if (not (header_rule s)) BadHeader _ (omega arith) (λ bad.
+      refuse_if (ltb (length s) 16) TruncatedHeader _ (omega arith) (λ _.
+      refuse_if (not (header_rule s)) BadHeader _ (omega arith) (λ bad.
       let header = not-false (header_rule s) bad in
       let few : record_count s ≤ n = most header in
-      refuse-if (not (eqb (length s) (16 + 12 * record_count s))) BadLength _ (omega arith) (λ _.
-      refuse-unless (bad_record s) BadRecord _ (lowest-small _ 0 (record_count s) (omega arith)) (λ records.
-      refuse-unless (bad_linkage s) BadLinkage _ (linkage-small s few header records _ 0 4 (omega arith)) (λ _.
-      refuse-unless (chain_too_long s) ChainTooLong _
+      refuse_if (not (eqb (length s) (16 + 12 * record_count s))) BadLength _ (omega arith) (λ _.
+      refuse_unless (bad_record s) BadRecord _ (lowest_small _ 0 (record_count s) (omega arith)) (λ records.
+      refuse_unless (bad_linkage s) BadLinkage _ (linkage_small s few header records _ 0 4 (omega arith)) (λ _.
+      refuse_unless (chain_too_long s) ChainTooLong _
       (first_small _ 0 4 (λ t h. lane_small s few header records 65 t h 64)) (λ _.
-      refuse-unless (bad_target s) BadTarget _ (lowest-small _ 0 (record_count s) (omega arith)) (λ _.
-      refuse-unless (lock_fault (program_of s)) LockFault _ (locks_small s few header records _) (λ _.
-      refuse-unless (lock_order (program_of s)) LockOrder Accepted (locks_small s few header records _)
+      refuse_unless (bad_target s) BadTarget _ (lowest_small _ 0 (record_count s) (omega arith)) (λ _.
+      refuse_unless (lock_fault (program_of s)) LockFault _ (locks_small s few header records _) (λ _.
+      refuse_unless (lock_order (program_of s)) LockOrder Accepted (locks_small s few header records _)
       (λ _. omega arith)))))))))
 
 -- the record is one of the file's, or 0
@@ -153,4 +153,4 @@ pub record_counted : (s : List ℕ) → record_of (refusal_of s) ≤ record_coun
 record_counted s = named (record_count s) s (λ _. omega arith)
 
 pub record_named : (s : List ℕ) → record_of (refusal_of s) ≤ 256
-record_named s = named 256 s (few-records s)
+record_named s = named 256 s (few_records s)

@@ -1,5 +1,5 @@
--- Each record of an accepted file stands in exactly one lane, at one place of it: `entry-range`, `record-placed` and
--- `record-once`.
+-- Each record of an accepted file stands in exactly one lane, at one place of it: `entry_range`, `record_placed` and
+-- `record_once`.
 use Prim.Native.Nat.{ℕ, zero, suc, ◌+◌, ◌≤◌, ◌<◌}
 use mathlib.Core.Path.{◌≡◌, refl, sym, ◌∙◌, subst}
 use mathlib.Core.List.{List, []}
@@ -17,10 +17,10 @@ use Rattle.file_format.specs.Linkage.{chain, walk_lane, linkage_from, bad_linkag
 use Rattle.file_format.specs.Structured.{Structured}
 use Rattle.file_format.specs.Accepted.{Program, records_at, program_of}
 use Rattle.file_format.proofs.Laws.Search.{nothing_found, nothing_named}
-use Rattle.file_format.proofs.Laws.Rules.{few-records, head-range}
+use Rattle.file_format.proofs.Laws.Rules.{few_records, head_range}
 use Rattle.file_format.proofs.Laws.Linkage.{chain_room}
 use Rattle.file_format.proofs.Laws.Lanes.{lane_records}
-use Rattle.file_format.proofs.Bounded.{chain-range}
+use Rattle.file_format.proofs.Bounded.{chain_range}
 use Rattle.file_verdict.specs.Verdict.{accepted, verdict}
 use Rattle.file_verdict.proofs.Laws.Verdict.{sound, accepted_as}
 use Rattle.file_wellformed.proofs.Walks.{At, Walk, Flagged, none_at, walk}
@@ -34,11 +34,11 @@ module _ (s : List ℕ) (ok : Structured s) where
   abbrev Numbered : ℕ → Type 0
   Numbered i = (1 ≤ i) × (i ≤ record_count s)
 
-  in-range : (t p i : ℕ) → t < 4 → At (lane_of t) p i → Numbered i
-  in-range t p i h e =
+  in_range : (t p i : ℕ) → t < 4 → At (lane_of t) p i → Numbered i
+  in_range t p i h e =
       let x = some_at (lane_of t) p i 0 e in
       subst Numbered x.1
-      (chain-range s ok.fields.records 257 (head s t) p (head-range s ok.fields.header t h) x.0)
+      (chain_range s ok.fields.records 257 (head s t) p (head_range s ok.fields.header t h) x.0)
 
   -- what the lanes from t up to 3 say, where met are the flags before them
   record Lanes (met : List Bool) (t : ℕ) : Type 0 where
@@ -53,8 +53,8 @@ module _ (s : List ℕ) (ok : Structured s) where
       apart : (v p q i : ℕ) → suc t ≤ v → v < 4 → At (lane_of t) p i → At (lane_of v) q i → ⊥
       apart v p q i lo hi e f = true≢false (sym (w.marked p i e) ∙ ls.fresh v q i lo hi f)
 
-      lanes-suc : Lanes met t
-      lanes-suc = record { fresh = news; once = ones; found = λ i n. back i (ls.found i n) }
+      lanes_suc : Lanes met t
+      lanes_suc = record { fresh = news; once = ones; found = λ i n. back i (ls.found i n) }
         where
           unmet : (i : ℕ) (b : Bool) → get_or met i false ≡ b → get_or after i false ≡ false → b ≡ false
           unmet i false e h = refl
@@ -114,10 +114,10 @@ module _ (s : List ℕ) (ok : Structured s) where
       go false b e ih = absurd (eqb-false (walk_lane s met t).twice 0 b e)
       go true b e ih =
           let range : Flagged met (lane_of t) = λ p i f.
-          let x = in-range t p i small f in
-          (x.0, omega (arith, x.1, room, few-records s ok.fields.header)) in
+          let x = in_range t p i small f in
+          (x.0, omega (arith, x.1, room, few_records s ok.fields.header)) in
           let w = walk met (lane_of t) range (eqb-true (walk_lane s met t).twice 0 b) in
-          lanes-suc met (walk_lane s met t).met t small w (ih (omega arith) (w.size ∙ room) e)
+          lanes_suc met (walk_lane s met t).met t small w (ih (omega arith) (w.size ∙ room) e)
 
   all_lanes : Lanes (replicate 257 false) 0
   unfolding bad_linkage
@@ -152,21 +152,21 @@ module _ (s : List ℕ) (ok : Structured s) where
           ))) e)
 
   own_range : (t p i : ℕ) → RecordAt t p i → Numbered i
-  own_range t p i e = let x = whole_at t p i e in in-range t p i x.0 x.1
+  own_range t p i e = let x = whole_at t p i e in in_range t p i x.0 x.1
 
-  own-placed : (i : ℕ) → Numbered i → (t : ℕ) × (p : ℕ) × RecordAt t p i
-  own-placed i n = go (all_lanes.found i n)
+  own_placed : (i : ℕ) → Numbered i → (t : ℕ) × (p : ℕ) × RecordAt t p i
+  own_placed i n = go (all_lanes.found i n)
     where
       small : i < 257
-      small = omega (arith, n.1, few-records s ok.fields.header)
+      small = omega (arith, n.1, few_records s ok.fields.header)
 
       go : (get_or (replicate 257 false) i false ≡ true) ⊎ ((u : ℕ) × (p : ℕ) × (u < 4) × At (lane_of u) p i)
           → (t : ℕ) × (p : ℕ) × RecordAt t p i
       go (inl h) = absurd (false≢true (sym (get_or-replicate 257 i false false small) ∙ h))
       go (inr x) = (x.0, x.1, subst (λ l. At l x.1 i) (sym (lane_whole x.0 x.2)) x.3)
 
-  own-once : (t u p q i : ℕ) → RecordAt t p i → RecordAt u q i → (t ≡ u) × (p ≡ q)
-  own-once t u p q i e f =
+  own_once : (t u p q i : ℕ) → RecordAt t p i → RecordAt u q i → (t ≡ u) × (p ≡ q)
+  own_once t u p q i e f =
       let x = whole_at t p i e in
       let y = whole_at u q i f in
       all_lanes.once t u p q i (omega arith) x.0 (omega arith) y.0 x.1 y.1
@@ -181,18 +181,18 @@ module _ (s : List ℕ) (k : Program) (e : verdict s ≡ accepted k) where
   same = (accepted_as s k e).1
 
   -- every entry of a lane is a record of the file
-  pub entry-range : (t p i : ℕ) → At (get_or k.records t []) p i → (1 ≤ i) × (i ≤ record_count s)
-  entry-range =
+  pub entry_range : (t p i : ℕ) → At (get_or k.records t []) p i → (1 ≤ i) × (i ≤ record_count s)
+  entry_range =
       subst (λ k. (t p i : ℕ) → At (get_or k.records t []) p i → (1 ≤ i) × (i ≤ record_count s)) same (own_range s ok)
 
   -- each record stands in some lane
-  pub record-placed : (i : ℕ) → 1 ≤ i → i ≤ record_count s → (t : ℕ) × (p : ℕ) × At (get_or k.records t []) p i
-  record-placed i lo hi =
-      subst (λ k. (t : ℕ) × (p : ℕ) × At (get_or k.records t []) p i) same (own-placed s ok i (lo, hi))
+  pub record_placed : (i : ℕ) → 1 ≤ i → i ≤ record_count s → (t : ℕ) × (p : ℕ) × At (get_or k.records t []) p i
+  record_placed i lo hi =
+      subst (λ k. (t : ℕ) × (p : ℕ) × At (get_or k.records t []) p i) same (own_placed s ok i (lo, hi))
 
   -- and at no second place
-  pub record-once : (t u p q i : ℕ) → At (get_or k.records t []) p i → At (get_or k.records u []) q i
+  pub record_once : (t u p q i : ℕ) → At (get_or k.records t []) p i → At (get_or k.records u []) q i
       → (t ≡ u) × (p ≡ q)
-  record-once =
+  record_once =
       subst (λ k. (t u p q i : ℕ) → At (get_or k.records t []) p i → At (get_or k.records u []) q i
-      → (t ≡ u) × (p ≡ q)) same (own-once s ok)
+      → (t ≡ u) × (p ≡ q)) same (own_once s ok)

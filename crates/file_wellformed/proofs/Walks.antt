@@ -43,8 +43,8 @@ module _ (met after : List Bool) (r : ℕ) (rs : List ℕ) (inside : r < length 
   other : (p i : ℕ) → At rs p i → i ≡ r → ⊥
   other p i e z = true≢false (sym here ∙ ap (λ j. get_or (set met r true) j false) (sym z) ∙ w.fresh p i e)
 
-  walk-suc : Walk met after (r ∷ rs)
-  walk-suc = record {
+  walk_suc : Walk met after (r ∷ rs)
+  walk_suc = record {
     size = w.size ∙ length-set met r true;
     kept = λ i h. keeps i h (ℕ_discrete i r);
     marked = marks;
@@ -102,6 +102,6 @@ walk met (r ∷ rs) range e = go (get_or met r false) refl (walk (set met r true
         let on = walk_of_on met r rs b in
         let same : length (set met r true) ≡ length met = length-set met r true in
         subst (λ w. Walk met w (r ∷ rs)) (sym (ap (λ w. w.met) on))
-        (walk-suc met (walk_of (set met r true) rs).met r rs first.1 b
+        (walk_suc met (walk_of (set met r true) rs).met r rs first.1 b
         (ih (λ p i f. let x = range (suc p) i f in (x.0, omega (arith, x.1, same)))
         (sym (ap (λ w. w.twice) on) ∙ e)))

@@ -1,6 +1,7 @@
 // Prints the pages of the kernel file on standard input, or its refusal. Of a file that is longer than every kernel,
 // which is refused by its header or its length, the first 3,089 bytes are enough.
 #![tactic(auto)]
+
 use console::print::say_part;
 use sheet_format::WriteResult;
 

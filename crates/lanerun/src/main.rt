@@ -1,6 +1,7 @@
 // Runs a schedule of text on a kernel file and tells each move and the state at the end. The last line says how it
 // ended: `ran`, the line of a refusal, or what could not be read.
 #![tactic(auto)]
+
 mod files;
 mod tell;
 

@@ -35,20 +35,20 @@ at_beyond (x ∷ l) zero h = absurd (omega arith)
 at_beyond (x ∷ l) (suc p) h = at_beyond l p (omega arith)
 
 module _ {ℓ} {A : Type ℓ} where
-  pub getElem?-seam : (xs : List A) (y : A) (ys : List A) → get_elem? (xs ++ y ∷ ys) (length xs) ≡ some y
-  getElem?-seam [] y ys = refl
-  getElem?-seam (x ∷ xs) y ys = getElem?-seam xs y ys
+  pub get_elem?_seam : (xs : List A) (y : A) (ys : List A) → get_elem? (xs ++ y ∷ ys) (length xs) ≡ some y
+  get_elem?_seam [] y ys = refl
+  get_elem?_seam (x ∷ xs) y ys = get_elem?_seam xs y ys
 
-  pub getElem?-left : (xs ys : List A) (d : A) (i : ℕ) → i < length xs → get_elem? (xs ++ ys) i ≡ some (get_or xs i d)
-  getElem?-left [] ys d i h = absurd (omega arith)
-  getElem?-left (x ∷ xs) ys d zero h = refl
-  getElem?-left (x ∷ xs) ys d (suc i) h = getElem?-left xs ys d i (omega arith)
+  pub get_elem?_left : (xs ys : List A) (d : A) (i : ℕ) → i < length xs → get_elem? (xs ++ ys) i ≡ some (get_or xs i d)
+  get_elem?_left [] ys d i h = absurd (omega arith)
+  get_elem?_left (x ∷ xs) ys d zero h = refl
+  get_elem?_left (x ∷ xs) ys d (suc i) h = get_elem?_left xs ys d i (omega arith)
 
-  pub at-behind : (xs ys : List A) (i : ℕ) → get_elem? (xs ++ ys) (length xs + i) ≡ get_elem? ys i
-  at-behind [] ys i = let e : 0 + i ≡ i = omega arith in ap (get_elem? ys) e
-  at-behind (x ∷ xs) ys i =
+  pub at_behind : (xs ys : List A) (i : ℕ) → get_elem? (xs ++ ys) (length xs + i) ≡ get_elem? ys i
+  at_behind [] ys i = let e : 0 + i ≡ i = omega arith in ap (get_elem? ys) e
+  at_behind (x ∷ xs) ys i =
       let e : suc (length xs) + i ≡ suc (length xs + i) = omega arith in
-      ap (get_elem? (x ∷ xs ++ ys)) e ∙ at-behind xs ys i
+      ap (get_elem? (x ∷ xs ++ ys)) e ∙ at_behind xs ys i
 
 -- row 0, which is 0, stands for every position that the list has not
 pub get_d_within : (l : List ℕ) (n : ℕ) → length l ≡ n → get_or l 0 0 ≡ 0 → (i : ℕ)
@@ -108,9 +108,9 @@ map_take_at f (x ∷ l) (suc n) (suc t) h past = map_take_at f l n t (omega arit
 
 -- what holds of two lists place by place still does after an update of both at one place
 module _ {ℓ κ μ} {A : Type ℓ} {B : Type κ} (R : ℕ → A → B → Type μ) (a₀ : A) (b₀ : B) where
-  pub pointwise-set : (l : List A) (m : List B) → length l ≡ length m → ((i : ℕ) → R i (get_or l i a₀) (get_or m i b₀))
+  pub pointwise_set : (l : List A) (m : List B) → length l ≡ length m → ((i : ℕ) → R i (get_or l i a₀) (get_or m i b₀))
       → (t : ℕ) (a : A) (b : B) → R t a b → (i : ℕ) → R i (get_or (set l t a) i a₀) (get_or (set m t b) i b₀)
-  pointwise-set l m e h t a b r i = go (ℕ_discrete i t) (dec_lt t (length l))
+  pointwise_set l m e h t a b r i = go (ℕ_discrete i t) (dec_lt t (length l))
     where
       go : Dec (i ≡ t) → Dec (t < length l) → R i (get_or (set l t a) i a₀) (get_or (set m t b) i b₀)
       go (no d) k = rw (get_or-set_other l t i a a₀ d, get_or-set_other m t i b b₀ d) (h i)
@@ -120,7 +120,7 @@ module _ {ℓ κ μ} {A : Type ℓ} {B : Type κ} (R : ℕ → A → B → Type 
 -- the same of one list
 pub set_all {ℓ κ} : {A : Type ℓ} (P : ℕ → A → Type κ) (d : A) (l : List A) (t : ℕ) (a : A)
     → ((i : ℕ) → P i (get_or l i d)) → P t a → (i : ℕ) → P i (get_or (set l t a) i d)
-set_all P d l t a h p = pointwise-set (λ i x y. P i x) d d l l refl h t a a p
+set_all P d l t a h p = pointwise_set (λ i x y. P i x) d d l l refl h t a a p
 
 -- of a list whose element at t is replaced, from the others
 pub set-each {ℓ κ} : {A : Type ℓ} (P : ℕ → A → Type κ) (d : A) (l : List A) (t : ℕ) (a : A) → t < length l → P t a

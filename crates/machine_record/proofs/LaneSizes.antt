@@ -24,6 +24,6 @@ unfolding entries_bytes
 entries_length n ks es =
     turn_even (λ i. place_bytes (mark_at ks i) (get_elem? es i)) 8 n (λ i. place_length (mark_at ks i) (get_elem? es i))
 
-pub lane_length : (l : Lane) → length (state_lane l) ≡ lane_size
+pub lane_length_lem : (l : Lane) → length (state_lane l) ≡ lane_size
 unfolding state_lane in_turn
-lane_length l = omega (arith, entries_length 64 l.control.marks l.pending)
+lane_length_lem l = omega (arith, entries_length 64 l.control.marks l.pending)

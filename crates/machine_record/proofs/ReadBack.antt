@@ -22,9 +22,9 @@ use Rattle.machine_record.specs.Places.{lane_size, lane_from, position_from, reg
 use Rattle.machine_record.specs.Lanes.{flag, entry_bytes, place_bytes, entries_bytes, state_lane}
 use Rattle.machine_record.specs.Record.{head_bytes, record_of, state_bytes}
 use Rattle.machine_record.specs.Fields.{entry_in, fields_in, fields_of, Same, Fits}
-use Rattle.machine_record.proofs.LaneSizes.{place_length, lane_length}
+use Rattle.machine_record.proofs.LaneSizes.{place_length, lane_length_lem}
 use Rattle.machine_record.proofs.Sizes.{head_length}
-use Rattle.machine_record.proofs.Laws.Has.{Has, has_whole, has_front, has_behind, has_within, has-turn}
+use Rattle.machine_record.proofs.Laws.Has.{Has, has_whole, has_front, has_behind, has_within, has_turn}
 use Rattle.machine_record.proofs.Laws.Has.{has_word, has_low, has_quad}
 
 -- ## a lane
@@ -40,23 +40,23 @@ module _ (l : Lane) where
   abbrev entries : List ℕ
   entries = entries_bytes 64 l.control.marks l.pending
 
-  lane-position : Has (state_lane l) 0 (word_bytes l.control.pos)
+  lane_position : Has (state_lane l) 0 (word_bytes l.control.pos)
   unfolding state_lane
-  lane-position =
+  lane_position =
       has_front (word_bytes (length l.pending) ++ registers ++ entries)
       (has_whole (word_bytes l.control.pos)) (omega arith)
 
-  lane_count : Has (state_lane l) 2 (word_bytes (length l.pending))
+  lane_count_lem : Has (state_lane l) 2 (word_bytes (length l.pending))
   unfolding state_lane
-  lane_count =
+  lane_count_lem =
       has_behind (word_bytes l.control.pos)
       (has_front (registers ++ entries) (has_whole (word_bytes (length l.pending))) (omega arith))
 
-  lane-register : (r : ℕ) → r < 8 → Has (state_lane l) (4 + 4 * r) (quad_bytes (get_or l.regs r 0))
+  lane_register : (r : ℕ) → r < 8 → Has (state_lane l) (4 + 4 * r) (quad_bytes (get_or l.regs r 0))
   unfolding state_lane in_turn
-  lane-register r h =
+  lane_register r h =
       has_behind front
-      (has_front entries (has-turn (λ i. quad_bytes (get_or l.regs i 0)) 4 (λ j. refl) 8 r h) (omega arith))
+      (has_front entries (has_turn (λ i. quad_bytes (get_or l.regs i 0)) 4 (λ j. refl) 8 r h) (omega arith))
 
   abbrev place : ℕ → List ℕ
   place i = place_bytes (mark_at l.control.marks i) (get_elem? l.pending i)
@@ -65,7 +65,7 @@ module _ (l : Lane) where
   unfolding state_lane entries_bytes in_turn
   lane_place i h =
       has_behind (front ++ registers)
-      (has-turn place 8 (λ j. place_length (mark_at l.control.marks j) (get_elem? l.pending j)) 64 i h)
+      (has_turn place 8 (λ j. place_length (mark_at l.control.marks j) (get_elem? l.pending j)) 64 i h)
 
 -- ## the record of an answer
 
@@ -105,38 +105,38 @@ module _ (a : Answer) where
       let size = head_length a.finished a.done a.waited a.state.memory a.state.locks in
       has_front (in_turn (λ t. state_lane (lane_at a.state t)) 4) h (omega arith)
 
-  head-lock : (l : ℕ) → l < 4 → Has head (lock_from l) (get_or a.state.locks l 0 ∷ [])
+  head_lock : (l : ℕ) → l < 4 → Has head (lock_from l) (get_or a.state.locks l 0 ∷ [])
   unfolding head_bytes in_turn
-  head-lock l h =
-      let turn = has-turn (λ i. get_or a.state.locks i 0 ∷ []) 1 (λ j. refl) 4 l h in
+  head_lock l h =
+      let turn = has_turn (λ i. get_or a.state.locks i 0 ∷ []) 1 (λ j. refl) 4 l h in
       has_behind (take 4 head) (has_front (drop 8 head) (rw (one-mul l) at turn) (omega arith))
 
-  head-memory : (x : ℕ) → x < 16 → Has head (memory_from x) (quad_bytes (get_or a.state.memory x 0))
+  head_memory : (x : ℕ) → x < 16 → Has head (memory_from x) (quad_bytes (get_or a.state.memory x 0))
   unfolding head_bytes in_turn
-  head-memory x h =
-      has_behind (take 24 head) (has-turn (λ i. quad_bytes (get_or a.state.memory i 0)) 4 (λ j. refl) 16 x h)
+  head_memory x h =
+      has_behind (take 24 head) (has_turn (λ i. quad_bytes (get_or a.state.memory i 0)) 4 (λ j. refl) 16 x h)
 
   head_done : Has head done_from (quad_bytes a.done)
   unfolding head_bytes in_turn
   head_done = has_behind (take 8 head) (has_front (drop 12 head) (has_whole (quad_bytes a.done)) (omega arith))
 
-  head-waited : Has head waited_from (quad_bytes a.waited)
+  head_waited : Has head waited_from (quad_bytes a.waited)
   unfolding head_bytes in_turn
-  head-waited = has_behind (take 16 head) (has_front (drop 20 head) (has_whole (quad_bytes a.waited)) (omega arith))
+  head_waited = has_behind (take 16 head) (has_front (drop 20 head) (has_whole (quad_bytes a.waited)) (omega arith))
 
   -- of the counts of moves, the low halves
-  pub done-low : (fields_in (state_bytes a)).done ≡ a.done % 2 ^ 32
-  done-low = has_low a.done (in_head head_done (omega arith))
+  pub done_low : (fields_in (state_bytes a)).done ≡ a.done % 2 ^ 32
+  done_low = has_low a.done (in_head head_done (omega arith))
 
-  pub waited-low : (fields_in (state_bytes a)).waited ≡ a.waited % 2 ^ 32
-  waited-low = has_low a.waited (in_head head-waited (omega arith))
+  pub waited_low : (fields_in (state_bytes a)).waited ≡ a.waited % 2 ^ 32
+  waited_low = has_low a.waited (in_head head_waited (omega arith))
 
-  finished-back : (fields_in (state_bytes a)).finished ≡ a.finished
+  finished_back : (fields_in (state_bytes a)).finished ≡ a.finished
   unfolding record_of head_bytes
-  finished-back = flag_back a.finished
+  finished_back = flag_back a.finished
 
-  lock-back : (l : ℕ) → l < 4 → (fields_in (state_bytes a)).lock l ≡ get_or a.state.locks l 0
-  lock-back l h = rw (add-zero (lock_from l)) at ((in_head (head-lock l h) (omega arith)).at 0 (omega arith))
+  lock_back : (l : ℕ) → l < 4 → (fields_in (state_bytes a)).lock l ≡ get_or a.state.locks l 0
+  lock_back l h = rw (add-zero (lock_from l)) at ((in_head (head_lock l h) (omega arith)).at 0 (omega arith))
 
   module _ (t : ℕ) (there : t < 4) where
     abbrev lane : Lane
@@ -146,19 +146,19 @@ module _ (a : Answer) where
         → Has (state_bytes a) (lane_from t + k) x
     unfolding record_of head_bytes in_turn
     in_lane has fits =
-        let size = lane_length lane in
+        let size = lane_length_lem lane in
         has_within
         (has_behind head
-        (has-turn (λ j. state_lane (lane_at a.state j)) lane_size (λ j. lane_length (lane_at a.state j)) 4 t there))
+        (has_turn (λ j. state_lane (lane_at a.state j)) lane_size (λ j. lane_length_lem (lane_at a.state j)) 4 t there))
         has (omega arith)
 
     position_in : Has (state_bytes a) (position_from t) (word_bytes lane.control.pos)
-    position_in = rw (add-zero (lane_from t)) at (in_lane (lane-position lane) (omega arith))
+    position_in = rw (add-zero (lane_from t)) at (in_lane (lane_position lane) (omega arith))
 
-    register-in : (r : ℕ) → r < 8 → Has (state_bytes a) (register_from t r) (quad_bytes (get_or lane.regs r 0))
-    register-in r h =
+    register_in : (r : ℕ) → r < 8 → Has (state_bytes a) (register_from t r) (quad_bytes (get_or lane.regs r 0))
+    register_in r h =
         let e : lane_from t + (4 + 4 * r) ≡ register_from t r = omega arith in
-        rw e at (in_lane (lane-register lane r h) (omega arith))
+        rw e at (in_lane (lane_register lane r h) (omega arith))
 
     entry_in_lem : (i : ℕ) → i < 64 → i < length lane.pending
         → Has (state_bytes a) (entry_from t i)
@@ -172,14 +172,14 @@ module _ (a : Answer) where
 
   pub read_back : Fits a → Same (fields_in (state_bytes a)) (fields_of a)
   read_back f = record {
-    finished = finished-back;
-    done = done-low ∙ mod-eq_of_lt f.done;
-    waited = waited-low ∙ mod-eq_of_lt f.waited;
-    lock = lock-back;
-    memory = λ x h. has_quad (in_head (head-memory x h) (omega arith)) (f.memory x);
+    finished = finished_back;
+    done = done_low ∙ mod-eq_of_lt f.done;
+    waited = waited_low ∙ mod-eq_of_lt f.waited;
+    lock = lock_back;
+    memory = λ x h. has_quad (in_head (head_memory x h) (omega arith)) (f.memory x);
     position = λ t h. has_word (position_in t h) (f.position t);
-    count = λ t h. has_word (in_lane t h (lane_count (lane t h)) (omega arith)) (omega (arith, f.pending t));
-    register = λ t r h l. has_quad (register-in t h r l) (f.registers t r);
+    count = λ t h. has_word (in_lane t h (lane_count_lem (lane t h)) (omega arith)) (omega (arith, f.pending t));
+    register = λ t r h l. has_quad (register_in t h r l) (f.registers t r);
     entry = λ t i h l.
         let few = f.pending t in
         entry_back (mark_at (lane t h).control.marks i) (get_or (lane t h).pending i no_entry)

@@ -10,7 +10,7 @@ use Rattle.sheet_format.specs.Put.{in_turn}
 use Rattle.sheet_format.proofs.Laws.Turn.{turn_even}
 use Rattle.machine_record.specs.Places.{lane_size, lane_from}
 use Rattle.machine_record.specs.Lanes.{state_lane}
-use Rattle.machine_record.proofs.LaneSizes.{lane_length}
+use Rattle.machine_record.proofs.LaneSizes.{lane_length_lem}
 use Rattle.machine_record.specs.Record.{head_bytes, record_of}
 
 pub head_length : (f : Bool) (d w : ℕ) (memory locks : List ℕ) → length (head_bytes f d w memory locks) ≡ lane_from 0
@@ -25,5 +25,5 @@ record_length f d w s =
       arith,
       length-append (head_bytes f d w s.memory s.locks) (in_turn lanes 4),
       head_length f d w s.memory s.locks,
-      turn_even lanes lane_size 4 (λ t. lane_length (lane_at s t)),
+      turn_even lanes lane_size 4 (λ t. lane_length_lem (lane_at s t)),
     )

@@ -1,5 +1,6 @@
 // The state record of a run, written for C.
 #![tactic(auto)]
+
 pub mod lane;
 pub mod put;
 pub mod state;

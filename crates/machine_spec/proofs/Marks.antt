@@ -55,13 +55,13 @@ module _ (n ks : ℕ) where
   half : 2 ^ suc n / 2 ≡ 2 ^ n
   half = omega (arith, pow-suc 2 n)
 
-  first-stays : after_ss (suc (suc n)) ks % 2 ≡ ks % 2
-  first-stays =
+  first_stays : after_ss (suc (suc n)) ks % 2 ≡ ks % 2
+  first_stays =
       let even : 2 ^ suc n % 2 ≡ 0 = omega (arith, pow-suc 2 n) in
       or_mod ks (2 ^ suc n) 1 ∙ ap (bit_or (ks % 2)) even ∙ or_zero_r (ks % 2)
 
-  rest-shifts : after_ss (suc (suc n)) ks / 2 ≡ after_ss (suc n) (ks / 2)
-  rest-shifts = or_shr ks (2 ^ suc n) 1 ∙ ap (bit_or (ks / 2)) half
+  rest_shifts : after_ss (suc (suc n)) ks / 2 ≡ after_ss (suc n) (ks / 2)
+  rest_shifts = or_shr ks (2 ^ suc n) 1 ∙ ap (bit_or (ks / 2)) half
 
 -- SS at the end of a list whose first entry has its mark or has none
 pass_on : (x y : Entry) (b : Bool) (xs : List EntryOrMark)
@@ -83,8 +83,8 @@ ss_listed (x ∷ []) ks =
     rw odd (by_test (λ b. entry x ∷ mark ∷ [] ≡ pass_ss (entry x ∷ marked b [])) refl refl (eqb (ks % 2) 1))
 ss_listed (x ∷ y ∷ es) ks =
     ap (λ n. entry x ∷ marked (eqb n 1) (listed (y ∷ es) (after_ss (length (x ∷ y ∷ es)) ks / 2)))
-    (first-stays (length es) ks)
-    ∙ ap (λ n. entry x ∷ marked (eqb (ks % 2) 1) (listed (y ∷ es) n)) (rest-shifts (length es) ks)
+    (first_stays (length es) ks)
+    ∙ ap (λ n. entry x ∷ marked (eqb (ks % 2) 1) (listed (y ∷ es) n)) (rest_shifts (length es) ks)
     ∙ ap (λ l. entry x ∷ marked (eqb (ks % 2) 1) l) (ss_listed (y ∷ es) (ks / 2))
     ∙ sym (pass_on x y (eqb (ks % 2) 1) _)
 

@@ -30,8 +30,8 @@ module _ (s : List ℕ) (k : Program) (e : verdict s ≡ accepted k) where
     answered o r = ap (λ v. run_by m s v mvs) e ∙ rw (le, r) refl
 
     -- it is not refused
-    pub not-refused : (t p : ℕ) → run_on m k mvs ≡ refused t p → ⊥
-    not-refused t p r =
+    pub not_refused : (t p : ℕ) → run_on m k mvs ≡ refused t p → ⊥
+    not_refused t p r =
         let eleven : ◌≡◌ {A = ℕ} 11 0 =
         sym (ap (λ (a : Answer). a.number) (answered (refused t p) r)) ∙ c.runs m mvs le in
         absurd (omega arith)
@@ -43,12 +43,12 @@ module _ (s : List ℕ) (k : Program) (e : verdict s ≡ accepted k) where
       pub shape : Shaped k (shown (answer (ran r)))
       shape = subst (λ a. Shaped k (shown a)) ends (c.bounds.shaped m mvs)
 
-      pub lane_count : length r.state.lanes ≡ length k.lanes
-      lane_count = sym (length-map r.state.lanes (λ (l : Lane). l.pending)) ∙ shape.lanes.1
+      pub lane_count_lem : length r.state.lanes ≡ length k.lanes
+      lane_count_lem = sym (length-map r.state.lanes (λ (l : Lane). l.pending)) ∙ shape.lanes.1
 
       pub pending_few : (t : ℕ) → length (lane_at r.state t).pending ≤ 64
       pending_few t =
           rw (get_or-map (λ (l : Lane). l.pending) r.state.lanes t idle) at (shape.pending_few t)
 
-      pub stands-within : Within (program_for m k) r.state
-      stands-within = subst (λ a. Within (program_for m k) a.state) ends (c.bounds.within m mvs)
+      pub stands_within : Within (program_for m k) r.state
+      stands_within = subst (λ a. Within (program_for m k) a.state) ends (c.bounds.within m mvs)

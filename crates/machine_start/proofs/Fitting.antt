@@ -21,7 +21,7 @@ use Rattle.machine_spec.specs.View.{view_of}
 use Rattle.machine_spec.specs.Shape.{Shaped, Within}
 use Rattle.machine_record.specs.Fields.{Fits}
 use Rattle.claims.proofs.Theorem.{claims}
-use Rattle.machine_start.proofs.Ranges.{program-short}
+use Rattle.machine_start.proofs.Ranges.{program_short}
 use Rattle.machine_start.proofs.Laws.Runs.{shaped_small}
 
 -- ## no more moves are counted than are made
@@ -37,15 +37,15 @@ turn_few n r t p (passes k c) h = omega arith
 turn_few n r t p (does k c v) h = omega arith
 
 module _ (m : Machine) (vol : ℕ → Bool) (prog : List (List Instr)) where
-  run-few : (mvs : List Move) (n l : ℕ) (o : Outcome) → Few n o → n + length mvs ≤ l → Few l (run m vol prog o mvs)
-  run-few [] n l (ran r) h e = omega arith
-  run-few [] n l (refused t p) h e = tt
-  run-few (mv ∷ mvs) n l (ran r) h e =
-      run-few mvs (suc n) l (advance m vol prog (ran r) mv)
+  run_few : (mvs : List Move) (n l : ℕ) (o : Outcome) → Few n o → n + length mvs ≤ l → Few l (run m vol prog o mvs)
+  run_few [] n l (ran r) h e = omega arith
+  run_few [] n l (refused t p) h e = tt
+  run_few (mv ∷ mvs) n l (ran r) h e =
+      run_few mvs (suc n) l (advance m vol prog (ran r) mv)
       (turn_few n r mv.lane (rank (get_or prog mv.lane []) (pos_at r.state mv.lane))
       (move_turn m vol prog r.state mv) h)
       (omega arith)
-  run-few (mv ∷ mvs) n l (refused t p) h e = run-few mvs (suc n) l (refused t p) tt (omega arith)
+  run_few (mv ∷ mvs) n l (refused t p) h e = run_few mvs (suc n) l (refused t p) tt (omega arith)
 
 -- ## the state
 
@@ -62,22 +62,22 @@ module _ (s : List ℕ) (k : Program) (v : verdict s ≡ accepted k) (m : Machin
   counts : a.done + a.waited ≤ length mvs
   counts = subst (λ (x : Answer). x.done + x.waited ≤ length mvs) (sym is) (go lets refl)
     where
-      of-outcome : (o : Outcome) → Few (length mvs) o
+      of_outcome : (o : Outcome) → Few (length mvs) o
           → (answer_of (program_for m k) k.records (start_of k) o).done
           + (answer_of (program_for m k) k.records (start_of k) o).waited ≤ length mvs
-      of-outcome (ran r) h = h
-      of-outcome (refused t p) h = omega arith
+      of_outcome (ran r) h = h
+      of_outcome (refused t p) h = omega arith
 
       go : (b : Bool) → lets ≡ b → (run_program m k mvs).done + (run_program m k mvs).waited ≤ length mvs
       go true e =
-          rw e (of-outcome (run_on m k mvs)
-          (run-few m (volatile_in k) (program_for m k) mvs 0 (length mvs) (begin (start_of k)) (omega arith)
+          rw e (of_outcome (run_on m k mvs)
+          (run_few m (volatile_in k) (program_for m k) mvs 0 (length mvs) (begin (start_of k)) (omega arith)
           (omega arith)))
       go false e = rw e (omega arith)
 
   -- one that is refused with 10 stays at the start, as the empty schedule does
-  counted-state : (run_by m s (verdict s) (counts_as m k mvs)).state ≡ a.state
-  counted-state =
+  counted_state : (run_by m s (verdict s) (counts_as m k mvs)).state ≡ a.state
+  counted_state =
       ap (λ x. (run_by m s x (counts_as m k mvs)).state) v ∙ go lets refl ∙ sym (ap (λ (x : Answer). x.state) is)
     where
       go : (b : Bool) → lets ≡ b → (run_program m k (counts_as m k mvs)).state ≡ (run_program m k mvs).state
@@ -91,41 +91,41 @@ module _ (s : List ℕ) (k : Program) (v : verdict s ≡ accepted k) (m : Machin
   b = run_by m s (verdict s) (counts_as m k mvs)
 
   shape : Shaped k (view_of b.row b.finished a.state)
-  shape = subst (λ x. Shaped k (view_of b.row b.finished x)) counted-state ((claims s k v).bounds.shaped m mvs)
+  shape = subst (λ x. Shaped k (view_of b.row b.finished x)) counted_state ((claims s k v).bounds.shaped m mvs)
 
-  regs-at : (t : ℕ) → get_or (map (λ (l : Lane). l.regs) a.state.lanes) t [] ≡ (lane_at a.state t).regs
-  regs-at t = get_or-map (λ (l : Lane). l.regs) a.state.lanes t idle
+  regs_at : (t : ℕ) → get_or (map (λ (l : Lane). l.regs) a.state.lanes) t [] ≡ (lane_at a.state t).regs
+  regs_at t = get_or-map (λ (l : Lane). l.regs) a.state.lanes t idle
 
   pending_at : (t : ℕ) → get_or (map (λ (l : Lane). l.pending) a.state.lanes) t [] ≡ (lane_at a.state t).pending
   pending_at t = get_or-map (λ (l : Lane). l.pending) a.state.lanes t idle
 
-  pub lanes-many : length a.state.lanes ≡ length k.lanes
-  lanes-many = sym (length-map a.state.lanes (λ (l : Lane). l.pending)) ∙ shape.lanes.1
+  pub lanes_many : length a.state.lanes ≡ length k.lanes
+  lanes_many = sym (length-map a.state.lanes (λ (l : Lane). l.pending)) ∙ shape.lanes.1
 
-  pub locations-many : length a.state.memory ≡ k.locations
-  locations-many = shape.memory_count
+  pub locations_many : length a.state.memory ≡ k.locations
+  locations_many = shape.memory_count
 
-  pub locks-many : length a.state.locks ≡ k.locks
-  locks-many = shape.locks_count
+  pub locks_many : length a.state.locks ≡ k.locks
+  locks_many = shape.locks_count
 
-  pub eight-registers : (t : ℕ) → t < length k.lanes → length (lane_at a.state t).regs ≡ 8
-  eight-registers t h = sym (ap length (regs-at t)) ∙ shape.regs_count t h
+  pub eight_registers : (t : ℕ) → t < length k.lanes → length (lane_at a.state t).regs ≡ 8
+  eight_registers t h = sym (ap length (regs_at t)) ∙ shape.regs_count t h
 
   pub answer_fits : length mvs < 2 ^ 32 → Fits a
   answer_fits few = record {
-    lanes = omega (arith, lanes-many, law.few_lanes);
-    locations = omega (arith, locations-many, law.few_locations);
-    locks = omega (arith, locks-many, law.few_locks);
+    lanes = omega (arith, lanes_many, law.few_lanes);
+    locations = omega (arith, locations_many, law.few_locations);
+    locks = omega (arith, locks_many, law.few_locks);
     done = omega (arith, counts);
     waited = omega (arith, counts);
     memory = shape.memory_small;
     position = λ t.
         omega (
           arith,
-          subst (Within (program_for m k)) counted-state ((claims s k v).bounds.within m mvs) t,
-          program-short k law t m,
+          subst (Within (program_for m k)) counted_state ((claims s k v).bounds.within m mvs) t,
+          program_short k law t m,
         );
     pending = λ t. omega (arith, shape.pending_few t, ap length (pending_at t));
-    registers = λ t r. subst (λ l. get_or l r 0 < 2 ^ 32) (regs-at t) (shape.regs_small t r);
+    registers = λ t r. subst (λ l. get_or l r 0 < 2 ^ 32) (regs_at t) (shape.regs_small t r);
     entries = (shaped_small {s = a.state} law shape).entries;
   }

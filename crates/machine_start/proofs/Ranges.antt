@@ -15,12 +15,12 @@ use Rattle.barrier_placement.specs.Layout.{start}
 use Rattle.sheet_format.specs.Layout.{Instr, op, barrier, aim, sheet}
 use Rattle.sheet_format.specs.Levels.{placed, placed_lanes, volatile_in}
 use Rattle.sheet_format.proofs.Laws.Aim.{aim_cases}
-use Rattle.sheet_format.proofs.Laws.Cells.{Each, each_at, cells-each, lane_length}
+use Rattle.sheet_format.proofs.Laws.Cells.{Each, each_at, cells_each, lane_length_lem}
 use Rattle.machine_spec.specs.declared.Machine.{Machine}
 use Rattle.machine_spec.specs.State.{idle}
 use Rattle.machine_spec.specs.Run.{program_for, level_of}
 use Rattle.machine_spec.proofs.Levels.{program_lanes, program_narrow}
-use Rattle.claims.proofs.KernelLanes.{lane-placed}
+use Rattle.claims.proofs.KernelLanes.{lane_placed}
 use Rattle.machine_state.specs.Ready.{Asks}
 
 -- an idle lane has what the instruction asks: its operand has a cell
@@ -28,14 +28,14 @@ abbrev pub Ranged : Instr → Type 0
 Ranged i = Asks i idle
 
 module _ (ls ks n p : ℕ) (wl : ls ≤ 16) (wk : ks ≤ 4) where
-  ranged-op : (o : Op) → Bounded ls ks n p o → Ranged (op o)
-  ranged-op (Set a c) h = tt
-  ranged-op (Add a b) h = tt
-  ranged-op (Load a x) h = omega (arith, h.1)
-  ranged-op (Store a x) h = (omega (arith, h.1), omega arith)
-  ranged-op (Lock l) h = tt
-  ranged-op (Unlock l) h = (omega arith, omega arith)
-  ranged-op (Skip a t) h = tt
+  ranged_op : (o : Op) → Bounded ls ks n p o → Ranged (op o)
+  ranged_op (Set a c) h = tt
+  ranged_op (Add a b) h = tt
+  ranged_op (Load a x) h = omega (arith, h.1)
+  ranged_op (Store a x) h = (omega (arith, h.1), omega arith)
+  ranged_op (Lock l) h = tt
+  ranged_op (Unlock l) h = (omega arith, omega arith)
+  ranged_op (Skip a t) h = tt
 
 -- wherever a SKIP is aimed
 ranged_aim : (r : ℕ → ℕ) (o : Op) → Ranged (op o) → Ranged (op (aim r o))
@@ -54,42 +54,42 @@ module _ (k : Program) (w : Lawful k) (t : ℕ) where
   abbrev os : List Op
   os = get_or k.lanes t []
 
-  program-is : (m : Machine) → get_or (program_for m k) t [] ≡ sheet (placed (level_of m) (volatile_in k) os)
-  program-is m =
+  program_is : (m : Machine) → get_or (program_for m k) t [] ≡ sheet (placed (level_of m) (volatile_in k) os)
+  program_is m =
       ap (λ x. get_or x t []) (program_lanes k w m) ∙ get_or-map sheet (placed_lanes (level_of m) k) t []
-      ∙ ap sheet (lane-placed k (level_of m) t)
+      ∙ ap sheet (lane_placed k (level_of m) t)
 
   -- what holds of each operation, wherever a SKIP is aimed, and of each barrier
   module _ (P : Instr → Type 0) (bars : (b : Barrier) → P (barrier b))
       (aims : (r : ℕ → ℕ) (o : Op) → P (op o) → P (op (aim r o)))
       (ops : (i : ℕ) (o : Op) → get_elem? os i ≡ some o → P (op o)) where
-    program-each : (m : Machine) (p : ℕ) (i : Instr) → get_elem? (get_or (program_for m k) t []) p ≡ some i → P i
-    program-each m =
+    program_each : (m : Machine) (p : ℕ) (i : Instr) → get_elem? (get_or (program_for m k) t []) p ≡ some i → P i
+    program_each m =
         let at = start (placed (level_of m) (volatile_in k) os) in
         each_at P (get_or (program_for m k) t [])
-        (subst (Each P) (sym (program-is m))
-        (cells-each (level_of m) (steps (volatile_in k) os) at P bars os 0 (λ i o e. aims at o (ops i o e))))
+        (subst (Each P) (sym (program_is m))
+        (cells_each (level_of m) (steps (volatile_in k) os) at P bars os 0 (λ i o e. aims at o (ops i o e))))
 
   -- each instruction's operand has a cell
-  pub program-ranged : (m : Machine) (p : ℕ) (i : Instr) → get_elem? (get_or (program_for m k) t []) p ≡ some i → Ranged i
-  program-ranged =
-      program-each Ranged (λ b. tt) ranged_aim
-      (λ i o e. ranged-op k.locations k.locks (length os) i w.few_locations w.few_locks o
+  pub program_ranged : (m : Machine) (p : ℕ) (i : Instr) → get_elem? (get_or (program_for m k) t []) p ≡ some i → Ranged i
+  program_ranged =
+      program_each Ranged (λ b. tt) ranged_aim
+      (λ i o e. ranged_op k.locations k.locks (length os) i w.few_locations w.few_locks o
       ((w.lane t).bounded i o e))
 
   -- each LOAD names one of eight registers
-  pub program-loads : (m : Machine) (p a x : ℕ) → get_elem? (get_or (program_for m k) t []) p ≡ some (op (Load a x)) → a < 8
-  program-loads m p a x e =
-      program-each Loads (λ b a x q. let z : ◌≡◌ {A = ℕ} 0 1 = cc in absurd (omega arith))
+  pub program_loads : (m : Machine) (p a x : ℕ) → get_elem? (get_or (program_for m k) t []) p ≡ some (op (Load a x)) → a < 8
+  program_loads m p a x e =
+      program_each Loads (λ b a x q. let z : ◌≡◌ {A = ℕ} 0 1 = cc in absurd (omega arith))
       (λ r o h a x q. let aimed : aim r o ≡ Load a x = cc in h a x (ap op (load_aimed r o a x aimed)))
       (λ i o at a x q. let same : o ≡ Load a x = cc in ((w.lane t).bounded i (Load a x) (at ∙ ap some same)).0)
       m p (op (Load a x)) e a x refl
 
-  pub program-short : (m : Machine) → length (get_or (program_for m k) t []) < 65536
-  program-short m =
+  pub program_short : (m : Machine) → length (get_or (program_for m k) t []) < 65536
+  program_short m =
       omega (
         arith,
-        ap length (program-is m),
-        lane_length (level_of m) (volatile_in k) os (w.lane t).short,
+        ap length (program_is m),
+        lane_length_lem (level_of m) (volatile_in k) os (w.lane t).short,
         program_narrow m,
       )

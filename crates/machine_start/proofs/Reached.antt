@@ -27,9 +27,9 @@ use Rattle.claims.proofs.Laws.Lanes.{set_lane_same}
 use Rattle.machine_state.specs.Ready.{Asks, LaneReady}
 use Rattle.machine_run.specs.Runs.{ProgramAt, RunnableBy}
 use Rattle.machine_state.specs.States.{Blocks, count_of, state_in}
-use Rattle.machine_start.proofs.Named.{legal-named, legal-take}
-use Rattle.machine_start.proofs.Ranges.{Ranged, program-ranged, program-short}
-use Rattle.machine_start.proofs.Answered.{not-refused, lane_count, pending_few, stands-within}
+use Rattle.machine_start.proofs.Named.{legal_named, legal_take}
+use Rattle.machine_start.proofs.Ranges.{Ranged, program_ranged, program_short}
+use Rattle.machine_start.proofs.Answered.{not_refused, lane_count_lem, pending_few, stands_within}
 
 -- lane t of the run r, to which a legal schedule led
 module _ (s : List ℕ) (k : Program) (e : verdict s ≡ accepted k) (m : Machine) (mvs : List Move)
@@ -48,8 +48,8 @@ module _ (s : List ℕ) (k : Program) (e : verdict s ≡ accepted k) (m : Machin
   abbrev longer : List Move
   longer = mvs ++ (move t 0 ∷ [])
 
-  longer-legal : legal (length k.lanes) (limit m) longer ≡ true
-  longer-legal =
+  longer_legal : legal (length k.lanes) (limit m) longer ≡ true
+  longer_legal =
       legal_append (length k.lanes) (limit m) mvs (move t 0 ∷ []) le
       (rw (lt-ltb t (length k.lanes) lt, le-leb 0 (limit m) (omega arith)))
 
@@ -65,17 +65,17 @@ module _ (s : List ℕ) (k : Program) (e : verdict s ≡ accepted k) (m : Machin
     where
       go : (b : Bool) → holds (suc t) core o ≡ b → length lane.pending < 64
       go false h =
-          absurd (not-refused s k e m longer longer-legal t _ (after (op o) refuses at (rw (may, h) refl)))
+          absurd (not_refused s k e m longer longer_legal t _ (after (op o) refuses at (rw (may, h) refl)))
       go true h =
           let j = goto lane.control (next core o (pos_at r.state t)) in
           let d = core_after m (volatile_in k) (suc t) core o in
           let done = after (op o) (does j d (loads m (volatile_in k) core o)) at (rw (may, h) refl) in
-          let put = set_lane_same r.state t j d (rw (lane_count s k e m mvs le r re) lt) in
+          let put = set_lane_same r.state t j d (rw (lane_count_lem s k e m mvs le r re) lt) in
           let grown : length (lane_at (set_lane r.state t j d) t).pending ≡ length (lane.pending ++ (n ∷ [])) =
           ap (λ (l : Lane). length l.pending) put ∙ rw en refl in
           omega (
             arith,
-            pending_few s k e m longer longer-legal _ done t,
+            pending_few s k e m longer longer_legal _ done t,
             grown,
             length-append lane.pending (n ∷ []),
           )
@@ -90,12 +90,12 @@ module _ (s : List ℕ) (k : Program) (e : verdict s ≡ accepted k) (m : Machin
   asked (op (Skip a u)) at h = tt
   asked (barrier b) at h = tt
 
-  lane-ready : LaneReady prog lane
-  lane-ready =
+  lane_ready : LaneReady prog lane
+  lane_ready =
       let w = accepted_lawful s k e in
       record {
-        position = omega (arith, stands-within s k e m mvs le r re t, program-short k w t m);
-        asked = λ i at. asked i at (program-ranged k w t m (pos_at r.state t) i at);
+        position = omega (arith, stands_within s k e m mvs le r re t, program_short k w t m);
+        asked = λ i at. asked i at (program_ranged k w t m (pos_at r.state t) i at);
       }
 
 pub reached_ready : (s : List ℕ) (k : Program) → verdict s ≡ accepted k → (m : Machine) (mvs : List Move)
@@ -106,8 +106,8 @@ pub reached_ready : (s : List ℕ) (k : Program) → verdict s ≡ accepted k �
 reached_ready s k e m mvs le j mv r at re =
     let n = length k.lanes in
     let c = limit m in
-    lane-ready s k e m (take j mvs) (legal-take n c j mvs le) r re mv.lane
-    (legal-named n c mvs j mv le at).0
+    lane_ready s k e m (take j mvs) (legal_take n c j mvs le) r re mv.lane
+    (legal_named n c mvs j mv le at).0
 
 -- the code can run the schedule from a store that holds the start, on lanes whose programs are rows of the sheet
 pub runs_by : (s : List ℕ) (k : Program) → verdict s ≡ accepted k → (m : Machine) (vol : ℕ → Bool)
@@ -119,6 +119,6 @@ pub runs_by : (s : List ℕ) (k : Program) → verdict s ≡ accepted k → (m :
 runs_by s k e m vol sheet first count mvs h prog ve ne pe he le rows = record {
   lanes = omega (arith, ne, (accepted_lawful s k e).few_lanes);
   programs = λ t l. rows t (rw ne at l);
-  named = λ j mv at. omega (arith, ne, (legal-named (length k.lanes) (limit m) mvs j mv le at).0);
+  named = λ j mv at. omega (arith, ne, (legal_named (length k.lanes) (limit m) mvs j mv le at).0);
   ready = λ j mv r at re. rw pe (reached_ready s k e m mvs le j mv r at (rw (ve, pe, he) at re));
 }

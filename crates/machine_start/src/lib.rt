@@ -1,4 +1,5 @@
 // A machine's program from a kernel file; a legal schedule from its rows to the state record; what such runs reach.
 #![tactic(auto)]
+
 pub mod program;
 pub mod run;

@@ -1,5 +1,6 @@
 // The state of four lanes, lent as one array, and what the machines permit a lane of it.
 #![tactic(auto)]
+
 pub mod held;
 pub mod rules;
 pub mod search;

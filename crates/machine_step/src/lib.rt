@@ -1,5 +1,6 @@
 // One step: a lane and a choice, on the lent state.
 #![tactic(auto)]
+
 mod access;
 pub mod carry;
 pub mod commit;

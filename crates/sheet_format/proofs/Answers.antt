@@ -18,7 +18,7 @@ use Rattle.sheet_format.specs.declared.Level.{Level}
 use Rattle.sheet_format.specs.Levels.{widest}
 use Rattle.sheet_format.specs.Bytes.{sheet_bytes, over, answer_by, lower_by}
 use Rattle.sheet_format.proofs.Laws.Written.{written_all}
-use Rattle.sheet_format.proofs.Sizes.{sheet-small}
+use Rattle.sheet_format.proofs.Sizes.{sheet_small}
 
 -- the number and the record of a refusal, and which of the two an answer is
 abbrev pub number_in : WriteResult → ℕ
@@ -111,11 +111,11 @@ module _
 module _ (l : Level) (s own : List ℕ) (big : 16 + 2048 * widest l ≤ length own) where
   pub refuses-as : {n r : ℕ} {after : List ℕ} → (Refuses n r, after) ≡ lower_by l (verdict s) own
       → verdict s ≡ refused n r
-  refuses-as = refuses-by (sheet_bytes l) (16 + 2048 * widest l) (sheet-small l) s own big
+  refuses-as = refuses-by (sheet_bytes l) (16 + 2048 * widest l) (sheet_small l) s own big
 
   pub wrote_as : {n : ℕ} {after : List ℕ} → (Wrote n, after) ≡ lower_by l (verdict s) own
       → BytesIn (sheet_bytes l) s own after
-  wrote_as = wrote_by (sheet_bytes l) (16 + 2048 * widest l) (sheet-small l) s own big
+  wrote_as = wrote_by (sheet_bytes l) (16 + 2048 * widest l) (sheet_small l) s own big
 
 -- ## the number and the record of a refusal are small
 

@@ -1,5 +1,5 @@
 -- The barriers that stand directly before each operation of a sheet's lane are those that placement puts there and the
--- level keeps: theorem `lane-before`.
+-- level keeps: theorem `lane_before`.
 use Prim.Native.Nat.{ℕ, zero, suc, ◌+◌, ◌≤◌}
 use native.Mathlib.Nat.{zero-add, add-zero}
 use native.Mathlib.Omega.{arith}
@@ -86,12 +86,12 @@ unfolding stands
 stands_none s b p h = ap (λ x. stands_at x (due s b p)) (get_or-eq_default s Other {n = p} h)
 
 module _ (l : Level) (vol : ℕ → Bool) (ops : List Op) (p : ℕ) where
-  pub placed-before : barriers_at (placed l vol ops) p ≡ kept_before l vol ops p
-  placed-before =
+  pub placed_before : barriers_at (placed l vol ops) p ≡ kept_before l vol ops p
+  placed_before =
       from_before l (steps vol ops) ops 0 p
       (λ b i g. ap (stands (steps vol ops) b) (zero-add i)
       ∙ stands_none (steps vol ops) b i (omega (arith, length-map ops (step_of vol))))
       ∙ ap (λ n. chosen (λ b. keeps l (operation_at ops p) b && stands (steps vol ops) b n)) (zero-add p)
 
-  pub lane-before : barriers_before (sheet (placed l vol ops)) p ≡ kept_before l vol ops p
-  lane-before = cells_before (start (placed l vol ops)) (placed l vol ops) p ∙ placed-before
+  pub lane_before : barriers_before (sheet (placed l vol ops)) p ≡ kept_before l vol ops p
+  lane_before = cells_before (start (placed l vol ops)) (placed l vol ops) p ∙ placed_before

@@ -17,7 +17,7 @@ use Rattle.barrier_placement.specs.declared.cookbook.Barrier.TheVariants.{LL, LS
 use Rattle.barrier_placement.specs.Chain.{Chain}
 use Rattle.barrier_placement.specs.Steps.{steps}
 use Rattle.barrier_placement.specs.Place.{stands, chosen}
-use Rattle.barrier_placement.proofs.Laws.Chosen.{chosen-only}
+use Rattle.barrier_placement.proofs.Laws.Chosen.{chosen_only}
 use Rattle.barrier_placement.specs.Layout.{Placed, start}
 use Rattle.sheet_format.specs.Layout.{Instr, op, barrier, aim, cells, sheet}
 use Rattle.sheet_format.specs.declared.Level.{Level}
@@ -29,7 +29,7 @@ use Rattle.sheet_format.specs.Bytes.{sheet_bytes}
 use Rattle.sheet_format.specs.Read.{past_rows, counts}
 use Rattle.sheet_format.specs.Codes.{row_codes, lane_codes, codes_in, BarrierCode, Code}
 use Rattle.sheet_format.proofs.Laws.Cells.{Each}
-use Rattle.sheet_format.proofs.ReadBack.{read_back, rows_back, counts-back}
+use Rattle.sheet_format.proofs.ReadBack.{read_back, rows_back, counts_back}
 use Rattle.sheet_format.proofs.Fitting.{Fits, LaneFits, lanes_fit}
 
 -- the first byte of an instruction
@@ -75,12 +75,12 @@ module _ (l : Level) (k : Program) (w : Lawful k) (rest : List ℕ) where
   same_count : length k.lanes ≡ length lanes
   same_count = sym (length-map (placed_lanes l k) sheet ∙ length-map k.lanes (placed l (volatile_in k)))
 
-  codes-back : codes_in (sheet_bytes l k ++ rest) ≡ map (map (code_of l)) lanes
+  codes_back : codes_in (sheet_bytes l k ++ rest) ≡ map (map (code_of l)) lanes
   unfolding codes_in sheet_bytes
-  codes-back =
+  codes_back =
       ap codes_in split
       ∙ ap (λ ns. lane_codes ns (joined (map (lane_bytes l) lanes) ++ rest)) (sym (ap counts split)
-      ∙ counts-back l (length k.lanes) k.locations k.locks (level_number l) (mask_at l k) lanes rest same_count
+      ∙ counts_back l (length k.lanes) k.locations k.locks (level_number l) (mask_at l k) lanes rest same_count
       (omega (arith, same_count, w.few_lanes)) (lanes_fit l k w))
       ∙ lanes_codes l lanes rest (lanes_fit l k w)
     where
@@ -118,34 +118,34 @@ abbrev Coded : Level → Instr → Type 0
 Coded l i = Code l (code_of l i)
 
 module _ (l : Level) where
-  bars-coded : (bs : List Barrier) (is : List Instr)
+  bars_coded : (bs : List Barrier) (is : List Instr)
       → ((i : ℕ) → i < length bs → BarrierCode l (barrier_code l (get_or bs i LL)))
       → Each (Coded l) is → Each (Coded l) (map barrier bs ++ is)
-  bars-coded [] is h w = w
-  bars-coded (b ∷ bs) is h w = (inr (h 0 (omega arith)), bars-coded bs is (λ i lt. h (suc i) (omega arith)) w)
+  bars_coded [] is h w = w
+  bars_coded (b ∷ bs) is h w = (inr (h 0 (omega arith)), bars_coded bs is (λ i lt. h (suc i) (omega arith)) w)
 
-  cells-coded : (s : Chain) (r : ℕ → ℕ) (os : List Op) (p : ℕ) → Each (Coded l) (cells r (place_from l s p os))
-  cells-coded s r [] p = tt
-  cells-coded s r (o ∷ os) p =
-      bars-coded (chosen before) (op (aim r o) ∷ cells r (place_from l s (suc p) os))
+  cells_coded : (s : Chain) (r : ℕ → ℕ) (os : List Op) (p : ℕ) → Each (Coded l) (cells r (place_from l s p os))
+  cells_coded s r [] p = tt
+  cells_coded s r (o ∷ os) p =
+      bars_coded (chosen before) (op (aim r o) ∷ cells r (place_from l s (suc p) os))
       (λ i lt.
       let b = get_or (chosen before) i LL in
-      kept_code l o b (and_true (keeps l o b) (stands s b p) (chosen-only before i lt)).0)
-      (operation_code l (aim r o), cells-coded s r os (suc p))
+      kept_code l o b (and_true (keeps l o b) (stands s b p) (chosen_only before i lt)).0)
+      (operation_code l (aim r o), cells_coded s r os (suc p))
     where
       before : Barrier → Bool
       before b = keeps l o b && stands s b p
 
-  coded-at : (is : List Instr) → Each (Coded l) is → (p c : ℕ) → get_elem? (map (code_of l) is) p ≡ some c → Code l c
-  coded-at [] h p c e = let z : ◌≡◌ {A = ℕ} 0 1 = cc in absurd (omega arith)
-  coded-at (i ∷ is) h zero c e = let same : code_of l i ≡ c = cc in subst (Code l) same h.0
-  coded-at (i ∷ is) h (suc p) c e = coded-at is h.1 p c e
+  coded_at : (is : List Instr) → Each (Coded l) is → (p c : ℕ) → get_elem? (map (code_of l) is) p ≡ some c → Code l c
+  coded_at [] h p c e = let z : ◌≡◌ {A = ℕ} 0 1 = cc in absurd (omega arith)
+  coded_at (i ∷ is) h zero c e = let same : code_of l i ≡ c = cc in subst (Code l) same h.0
+  coded_at (i ∷ is) h (suc p) c e = coded_at is h.1 p c e
 
 -- row p of lane t
 pub lawful_codes : (l : Level) (k : Program) → Lawful k → (rest : List ℕ) (t p c : ℕ)
     → get_elem? (get_or (codes_in (sheet_bytes l k ++ rest)) t []) p ≡ some c → Code l c
 lawful_codes l k w rest t p c e =
-    coded-at l (sheet ps) (cells-coded l (steps (volatile_in k) os) (start ps) os 0) p c
+    coded_at l (sheet ps) (cells_coded l (steps (volatile_in k) os) (start ps) os 0) p c
     (ap (λ x. get_elem? x p) (sym lane) ∙ e)
   where
     os : List Op
@@ -156,7 +156,7 @@ lawful_codes l k w rest t p c e =
 
     lane : get_or (codes_in (sheet_bytes l k ++ rest)) t [] ≡ map (code_of l) (sheet ps)
     lane =
-        ap (λ x. get_or x t []) (codes-back l k w rest)
+        ap (λ x. get_or x t []) (codes_back l k w rest)
         ∙ get_or-map (map (code_of l)) (sheet_lanes l k) t []
         ∙ ap (map (code_of l)) (get_or-map sheet (placed_lanes l k) t [])
         ∙ ap (λ x. map (code_of l) (sheet x)) (get_or-map (placed l (volatile_in k)) k.lanes t [])

@@ -15,7 +15,7 @@ use Rattle.barrier_placement.specs.Layout.{start}
 use Rattle.sheet_format.specs.Layout.{Instr, op, barrier, aim, sheet}
 use Rattle.sheet_format.specs.declared.Level.{Level}
 use Rattle.sheet_format.specs.Levels.{placed, sheet_lanes, volatile_in}
-use Rattle.sheet_format.proofs.Laws.Cells.{Each, widest_few, cells-each, lane_length, lane-start}
+use Rattle.sheet_format.proofs.Laws.Cells.{Each, widest_few, cells_each, lane_length_lem, lane_start_lem}
 
 -- the registers and operands fit a byte, the constant or position fits four
 abbrev pub Fits : Instr → Type 0
@@ -43,23 +43,23 @@ fits_op r ls ks n p (Unlock l) wl wk h f = omega arith
 fits_op r ls ks n p (Skip a t) wl wk h f = (omega (arith, h.0), f t refl)
 
 module _ (l : Level) (vol : ℕ → Bool) (ls ks : ℕ) (wl : ls ≤ 256) (wk : ks ≤ 256) where
-  lane-fits : (os : List Op) → LawfulLane ls ks os → LaneFits (sheet (placed l vol os))
-  lane-fits os w = (
-    cells-each l (steps vol os) at Fits (λ b. tt) os 0
+  lane_fits : (os : List Op) → LawfulLane ls ks os → LaneFits (sheet (placed l vol os))
+  lane_fits os w = (
+    cells_each l (steps vol os) at Fits (λ b. tt) os 0
         (λ i o e. fits_op at ls ks (length os) i o wl wk (w.bounded i o e) (λ t j. near t)),
-    omega (arith, lane_length l vol os w.short, widest_few l),
+    omega (arith, lane_length_lem l vol os w.short, widest_few l),
   )
     where
       at : ℕ → ℕ
       at = start (placed l vol os)
 
       near : (t : ℕ) → at t < 2 ^ 32
-      near t = omega (arith, lane-start l vol os w.short t, widest_few l)
+      near t = omega (arith, lane_start_lem l vol os w.short t, widest_few l)
 
   each_fits : (lanes : List (List Op)) → ((t : ℕ) → LawfulLane ls ks (get_or lanes t []))
       → Each LaneFits (map sheet (map (placed l vol) lanes))
   each_fits [] w = tt
-  each_fits (os ∷ lanes) w = (lane-fits os (w 0), each_fits lanes (λ t. w (suc t)))
+  each_fits (os ∷ lanes) w = (lane_fits os (w 0), each_fits lanes (λ t. w (suc t)))
 
 pub lanes_fit : (l : Level) (k : Program) → Lawful k → Each LaneFits (sheet_lanes l k)
 lanes_fit l k w =

@@ -1,4 +1,4 @@
--- At level 0 a lane is its operations: theorems `lane0`, of one lane, `lawful_lanes0` and `file-lanes0`, of all.
+-- At level 0 a lane is its operations: theorems `lane0`, of one lane, `lawful_lanes0` and `file_lanes0`, of all.
 use Prim.Native.Nat.{ℕ, zero, suc, ◌≤◌}
 use native.Mathlib.Omega.{arith}
 use mathlib.Core.Path.{◌≡◌, refl, sym, ap, ap₂, subst, ◌∙◌}
@@ -55,16 +55,16 @@ pub lawful_lanes0 : (k : Program) → Lawful k → sheet_lanes Level0 k ≡ map 
 lawful_lanes0 k w = lanes0 (volatile_in k) k.lanes (λ t. targets_within (w.lane t))
 
 module _ (s : List ℕ) where
-  pub ops-within : (h : ℕ) → Within (ops_at s h)
-  ops-within h =
+  pub ops_within : (h : ℕ) → Within (ops_at s h)
+  ops_within h =
       subst (λ n. TargetsWithin n (ops_at s h)) (sym (ops_from_length s 0 (records_at s h)))
       (targets_inside s (records_at s h))
 
-  lane-within : (hs : List ℕ) (t : ℕ) → Within (get_or (map (ops_at s) hs) t [])
-  lane-within [] t = λ p o u e j. let z : ◌≡◌ {A = ℕ} 0 1 = cc in absurd (omega arith)
-  lane-within (h ∷ hs) zero = ops-within h
-  lane-within (h ∷ hs) (suc t) = lane-within hs t
+  lane_within : (hs : List ℕ) (t : ℕ) → Within (get_or (map (ops_at s) hs) t [])
+  lane_within [] t = λ p o u e j. let z : ◌≡◌ {A = ℕ} 0 1 = cc in absurd (omega arith)
+  lane_within (h ∷ hs) zero = ops_within h
+  lane_within (h ∷ hs) (suc t) = lane_within hs t
 
-  pub file-lanes0 : sheet_lanes Level0 (program_of s) ≡ map (map op) (program_of s).lanes
-  file-lanes0 =
-      lanes0 (is_volatile (mask s)) (program_of s).lanes (lane-within (take (lane_count s) (heads s)))
+  pub file_lanes0 : sheet_lanes Level0 (program_of s) ≡ map (map op) (program_of s).lanes
+  file_lanes0 =
+      lanes0 (is_volatile (mask s)) (program_of s).lanes (lane_within (take (lane_count s) (heads s)))

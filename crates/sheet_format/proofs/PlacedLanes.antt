@@ -1,5 +1,5 @@
 -- A lane of a sheet is, as placement sees it, the placed lane that placement's theorems speak of: theorem
--- `items-placed`.
+-- `items_placed`.
 use Prim.Native.Nat.{ℕ, suc}
 use mathlib.Core.Path.{◌≡◌, refl, sym, ap, ap₂, ◌∙◌}
 use mathlib.Core.Bool.{Bool}
@@ -36,16 +36,16 @@ layout_map f b put (x ∷ ps) =
     ∙ ap₂ (λ l m. l ++ f (put x.oper) ∷ m) (map-map f b x.before) (layout_map f b put ps)
 
 module _ (vol : ℕ → Bool) where
-  aim-step : (r : ℕ → ℕ) (o : Op) → step_of vol (aim r o) ≡ aimStep r (step_of vol o)
-  aim-step r (Set a c) = refl
-  aim-step r (Add a b) = refl
-  aim-step r (Load a x) = refl
-  aim-step r (Store a x) = refl
-  aim-step r (Lock l) = refl
-  aim-step r (Unlock l) = refl
-  aim-step r (Skip a t) = refl
+  aim_step : (r : ℕ → ℕ) (o : Op) → step_of vol (aim r o) ≡ aimStep r (step_of vol o)
+  aim_step r (Set a c) = refl
+  aim_step r (Add a b) = refl
+  aim_step r (Load a x) = refl
+  aim_step r (Store a x) = refl
+  aim_step r (Lock l) = refl
+  aim_step r (Unlock l) = refl
+  aim_step r (Skip a t) = refl
 
-  pub items-placed : (ps : List (Placed Op)) → items vol (sheet ps) ≡ items_of (step_of vol) ps
-  items-placed ps =
+  pub items_placed : (ps : List (Placed Op)) → items vol (sheet ps) ≡ items_of (step_of vol) ps
+  items_placed ps =
       layout_map (item_of vol) barrier (λ o. op (aim (start ps) o)) ps
-      ∙ (λ i. layout bar (λ o. stepItem (aim-step (start ps) o i)) ps)
+      ∙ (λ i. layout bar (λ o. stepItem (aim_step (start ps) o i)) ps)

@@ -92,14 +92,14 @@ taken (x ∷ y ∷ z ∷ u ∷ v ∷ xs) few h = absurd (omega arith)
 module _ (l : Level) (t ls ks level mask : ℕ) (xs : List (List Instr)) (rest : List ℕ) (e : t ≡ length xs)
     (few : length xs ≤ 4)
     (h : Each LaneFits xs) where
-  pub counts-back : counts (header_by t ls ks level mask xs ++ joined (map (lane_bytes l) xs) ++ rest) ≡ map length xs
-  counts-back =
+  pub counts_back : counts (header_by t ls ks level mask xs ++ joined (map (lane_bytes l) xs) ++ rest) ≡ map length xs
+  counts_back =
       ap counts (append_assoc (header_by t ls ks level mask xs) (joined (map (lane_bytes l) xs)) rest)
       ∙ ap (λ n. take n (four_counts xs)) e ∙ taken xs few h
 
-  pub header-back : read_sheet (header_by t ls ks level mask xs ++ joined (map (lane_bytes l) xs) ++ rest) ≡ xs
+  pub header_back : read_sheet (header_by t ls ks level mask xs ++ joined (map (lane_bytes l) xs) ++ rest) ≡ xs
   unfolding read_sheet
-  header-back =
+  header_back =
       let body : List ℕ = joined (map (lane_bytes l) xs) in
       ap read_sheet (append_assoc (header_by t ls ks level mask xs) body rest)
       ∙ ap (λ ns. read_lanes ns (body ++ rest)) (ap (λ n. take n (four_counts xs)) e ∙ taken xs few h)
@@ -111,7 +111,7 @@ unfolding sheet_bytes
 sheet_back l k rest few h =
     let same : length k.lanes ≡ length (sheet_lanes l k) =
     sym (length-map (placed_lanes l k) sheet ∙ length-map k.lanes (placed l (volatile_in k))) in
-    header-back l (length k.lanes) k.locations k.locks (level_number l) (mask_at l k) (sheet_lanes l k) rest same
+    header_back l (length k.lanes) k.locations k.locks (level_number l) (mask_at l k) (sheet_lanes l k) rest same
     (omega arith) h
 
 pub lawful_back : (l : Level) (k : Program) (rest : List ℕ) → Lawful k

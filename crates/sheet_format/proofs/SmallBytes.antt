@@ -90,14 +90,14 @@ level_small Level3 = omega arith
 
 header_small : (l : Level) (k : Program) (xs : List (List Instr)) → Lawful k → Small (header l k xs)
 header_small l k xs w =
-    lanes_small ▸ locations-small ▸ locks_small ▸ level_small l
-    ▸ small_append (word_small (mask_at l k)) (zero_small ▸ zero_small ▸ counts-small)
+    lanes_small ▸ locations_small ▸ locks_small ▸ level_small l
+    ▸ small_append (word_small (mask_at l k)) (zero_small ▸ zero_small ▸ counts_small)
   where
     lanes_small : length k.lanes < 256
     lanes_small = omega (arith, w.few_lanes)
 
-    locations-small : k.locations < 256
-    locations-small = omega (arith, w.few_locations)
+    locations_small : k.locations < 256
+    locations_small = omega (arith, w.few_locations)
 
     locks_small : k.locks < 256
     locks_small = omega (arith, w.few_locks)
@@ -105,8 +105,8 @@ header_small l k xs w =
     count_small : (t : ℕ) → Unit {0} → Small (count_bytes xs t)
     count_small t h = word_small (length (get_or xs t []))
 
-    counts-small : Small (joined (map (count_bytes xs) (0 ∷ 1 ∷ 2 ∷ 3 ∷ [])))
-    counts-small =
+    counts_small : Small (joined (map (count_bytes xs) (0 ∷ 1 ∷ 2 ∷ 3 ∷ [])))
+    counts_small =
         joined_small (count_bytes xs) (λ t. Unit {0}) count_small (0 ∷ 1 ∷ 2 ∷ 3 ∷ []) (tt, (tt, (tt, (tt, tt))))
 
 pub all_small : (l : Level) (k : Program) → Lawful k → Small (sheet_bytes l k)

@@ -37,8 +37,8 @@ front_pages = front_by page_text
 module _
     (text : Program → List ℕ) (size : ℕ) (line : 37 ≤ size) (few : (k : Program) → Lawful k → length (text k) ≤ size)
     (s : List ℕ) where
-  printed-few : length (printed_by text (verdict s)) ≤ size
-  printed-few = go (eqb number 0) refl
+  printed_few : length (printed_by text (verdict s)) ≤ size
+  printed_few = go (eqb number 0) refl
     where
       number : ℕ
       number = number_of (refusal_of s)
@@ -53,10 +53,10 @@ module _
           omega (arith, refusal_small number named (omega (arith, (number_small s).0)) (omega (arith, record_named s)))
 
 pub printed_small : (s : List ℕ) → length (printed s) ≤ 65536
-printed_small = printed-few listing 65536 (omega arith) (λ k w. omega (arith, listing_small k w))
+printed_small = printed_few listing 65536 (omega arith) (λ k w. omega (arith, listing_small k w))
 
 pub pages_small : (s : List ℕ) → length (printed_pages s) ≤ 17226
-pages_small = printed-few page_text 17226 (omega arith) (λ k w. (lawful_pages k w).small)
+pages_small = printed_few page_text 17226 (omega arith) (λ k w. (lawful_pages k w).small)
 
 -- so the answer on such a buffer is never 9
 pub prints : (s out : List ℕ) → 65536 ≤ length out

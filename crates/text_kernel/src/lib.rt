@@ -1,5 +1,6 @@
 // The texts that are printed of a kernel file of whatever bytes: its level 2 listing or its pages, or its refusal.
 #![tactic(auto)]
+
 ghost use Rattle.std.specs.Prelude.{◌≡◌};
 ghost use Rattle.sheet_format.specs.Bytes.{write_into};
 ghost use Rattle.text_listing.specs.Listing.{printed};

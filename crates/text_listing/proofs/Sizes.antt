@@ -15,7 +15,7 @@ use Rattle.sheet_format.specs.Read.{instr_by}
 use Rattle.sheet_format.proofs.Laws.Cells.{Each}
 use Rattle.sheet_format.proofs.Laws.Rows.{total}
 use Rattle.sheet_format.proofs.Fitting.{Fits, LaneFits, lanes_fit}
-use Rattle.sheet_format.proofs.Sizes.{sheet_size, sheet-small}
+use Rattle.sheet_format.proofs.Sizes.{sheet_size, sheet_small}
 use Rattle.text_listing.specs.Line.{line_of, first_line, refusal_line}
 use Rattle.text_listing.specs.Ones.{ones}
 use Rattle.text_listing.specs.Listing.{lane_lines, sheet_lines, listing}
@@ -96,5 +96,5 @@ listing_small k w =
           (omega (arith, ones_small k.mask)) (omega arith),
       lanes_small 0 xs (omega arith) (lanes_fit Level2 k w),
       sheet_size Level2 k,
-      sheet-small Level2 k w,
+      sheet_small Level2 k w,
     )

@@ -1,5 +1,6 @@
 // The listing of a sheet, line by line, and the line of a refusal.
 #![tactic(auto)]
+
 pub mod line;
 pub mod refusal;
 mod title;

@@ -18,8 +18,8 @@ use Rattle.barrier_placement.specs.Layout.{start}
 use Rattle.sheet_format.specs.Layout.{Instr, op, aim, sheet}
 use Rattle.sheet_format.specs.declared.Level.TheVariants.{Level2}
 use Rattle.sheet_format.specs.Levels.{placed, placed_lanes, sheet_lanes, volatile_in}
-use Rattle.sheet_format.proofs.Laws.Cells.{Each, each_at, cells-each, lane-start}
-use Rattle.sheet_format.proofs.Sizes.{lane-few}
+use Rattle.sheet_format.proofs.Laws.Cells.{Each, each_at, cells_each, lane_start_lem}
+use Rattle.sheet_format.proofs.Sizes.{lane_few}
 use Rattle.text_put.specs.Decimal.{decimal}
 use Rattle.text_put.proofs.Laws.Decimal.{decimal_within, decimal_few}
 use Rattle.text_page.specs.Columns.{Apart, Fitting}
@@ -54,29 +54,29 @@ abbrev Narrow : ℕ → Instr → Type 0
 Narrow r i = Fitting (drop 3 columns) (field_texts i r)
 
 module _ (r : ℕ) (small : r ≤ 256) where
-  record-few : length (decimal r) ≤ 3
-  record-few = decimal_within 2 r (omega arith)
+  record_few : length (decimal r) ≤ 3
+  record_few = decimal_within 2 r (omega arith)
 
-  op-narrow : (at : ℕ → ℕ) (ls ks n p : ℕ) (o : Op) → ls ≤ 16 → ks ≤ 4 → Bounded ls ks n p o
+  op_narrow : (at : ℕ → ℕ) (ls ks n p : ℕ) (o : Op) → ls ≤ 16 → ks ≤ 4 → Bounded ls ks n p o
       → ((t : ℕ) → at t ≤ 128) → Narrow r (op (aim at o))
-  op-narrow at ls ks n p (Set a c) wl wk h near =
-      (one_digit a h.0, (omega arith, (decimal_few c h.1, (record-few, tt))))
-  op-narrow at ls ks n p (Add a b) wl wk h near =
-      (one_digit a h.0, (two_digits b (omega (arith, h.1)), (omega arith, (record-few, tt))))
-  op-narrow at ls ks n p (Load a x) wl wk h near =
-      (one_digit a h.0, (two_digits x (omega (arith, h.1)), (omega arith, (record-few, tt))))
-  op-narrow at ls ks n p (Store a x) wl wk h near =
-      (one_digit a h.0, (two_digits x (omega (arith, h.1)), (omega arith, (record-few, tt))))
-  op-narrow at ls ks n p (Lock l) wl wk h near =
-      (omega arith, (two_digits l (omega arith), (omega arith, (record-few, tt))))
-  op-narrow at ls ks n p (Unlock l) wl wk h near =
-      (omega arith, (two_digits l (omega arith), (omega arith, (record-few, tt))))
-  op-narrow at ls ks n p (Skip a t) wl wk h near =
-      (one_digit a h.0, (omega arith, (decimal_few (at t) (omega (arith, near t)), (record-few, tt))))
+  op_narrow at ls ks n p (Set a c) wl wk h near =
+      (one_digit a h.0, (omega arith, (decimal_few c h.1, (record_few, tt))))
+  op_narrow at ls ks n p (Add a b) wl wk h near =
+      (one_digit a h.0, (two_digits b (omega (arith, h.1)), (omega arith, (record_few, tt))))
+  op_narrow at ls ks n p (Load a x) wl wk h near =
+      (one_digit a h.0, (two_digits x (omega (arith, h.1)), (omega arith, (record_few, tt))))
+  op_narrow at ls ks n p (Store a x) wl wk h near =
+      (one_digit a h.0, (two_digits x (omega (arith, h.1)), (omega arith, (record_few, tt))))
+  op_narrow at ls ks n p (Lock l) wl wk h near =
+      (omega arith, (two_digits l (omega arith), (omega arith, (record_few, tt))))
+  op_narrow at ls ks n p (Unlock l) wl wk h near =
+      (omega arith, (two_digits l (omega arith), (omega arith, (record_few, tt))))
+  op_narrow at ls ks n p (Skip a t) wl wk h near =
+      (one_digit a h.0, (omega arith, (decimal_few (at t) (omega (arith, near t)), (record_few, tt))))
 
   lane_narrow : (k : Program) → Lawful k → (t : ℕ) → Each (Narrow r) (get_or (sheet_lanes Level2 k) t [])
   lane_narrow k w t =
-      subst (Each (Narrow r)) (sym lane) (cells-each Level2 (steps vol os) at (Narrow r) (λ b. tt) os 0 narrow)
+      subst (Each (Narrow r)) (sym lane) (cells_each Level2 (steps vol os) at (Narrow r) (λ b. tt) os 0 narrow)
     where
       vol : ℕ → Bool
       vol = volatile_in k
@@ -89,8 +89,8 @@ module _ (r : ℕ) (small : r ≤ 256) where
 
       narrow : (i : ℕ) (o : Op) → get_elem? os i ≡ some o → Narrow r (op (aim at o))
       narrow i o e =
-          op-narrow at k.locations k.locks (length os) i o w.few_locations w.few_locks
-          ((w.lane t).bounded i o e) (lane-start Level2 vol os (w.lane t).short)
+          op_narrow at k.locations k.locks (length os) i o w.few_locations w.few_locks
+          ((w.lane t).bounded i o e) (lane_start_lem Level2 vol os (w.lane t).short)
 
       lane : get_or (sheet_lanes Level2 k) t [] ≡ sheet (placed Level2 vol os)
       lane =
@@ -114,6 +114,6 @@ line_fits k w t p i r e small =
     let is : List Instr = get_or (sheet_lanes Level2 k) t [] in
     let here : p < length is = (some_at is p i i e).0 in
     let lane : t < 4 = lane_below k w t (omega arith) in
-    let position : p < 1000 = omega (arith, lane-few Level2 k w t) in
+    let position : p < 1000 = omega (arith, lane_few Level2 k w t) in
     let fields = each_at (Narrow r) is (lane_narrow r small k w t) p i e in
     (one_digit t (omega arith), (decimal_within 2 p position, (name_few i, fields)))

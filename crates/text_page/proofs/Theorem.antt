@@ -50,43 +50,43 @@ all_total xs = before_total xs (length xs) ∙ ap total (take_all (length xs) xs
 
 module _ (k : Program) (w : Lawful k) where
   -- the lanes read are those of the sheet
-  lanes-read : lanes_of k ≡ sheet_lanes Level2 k
-  lanes-read = bytes_back Level2 k w
+  lanes_read : lanes_of k ≡ sheet_lanes Level2 k
+  lanes_read = bytes_back Level2 k w
 
   -- a line for each instruction
-  count-lines : instruction_count k ≡ length (page_lines k)
-  count-lines = all_total (lanes_of k) ∙ ap total lanes-read ∙ sym (lines_length k)
+  count_lines : instruction_count k ≡ length (page_lines k)
+  count_lines = all_total (lanes_of k) ∙ ap total lanes_read ∙ sym (lines_length k)
 
-  lines-whole : Whole (page_lines k)
-  lines-whole = lines_each (λ l. length l ≡ 33) instruction_length k
+  lines_whole : Whole (page_lines k)
+  lines_whole = lines_each (λ l. length l ≡ 33) instruction_length k
 
-  text-length : length (page_text k) ≡ 33 * (instruction_count k + page_count (instruction_count k))
+  text_length : length (page_text k) ≡ 33 * (instruction_count k + page_count (instruction_count k))
   unfolding page_text
-  text-length = pages_length (page_lines k) lines-whole ∙ ap (λ n. 33 * (n + page_count n)) (sym count-lines)
+  text_length = pages_length (page_lines k) lines_whole ∙ ap (λ n. 33 * (n + page_count n)) (sym count_lines)
 
-  text-small : length (page_text k) ≤ 17226
-  text-small = omega (arith, text-length, pages_few (instruction_count k) (omega (arith, count-lines, lines_few k w)))
+  text_small : length (page_text k) ≤ 17226
+  text_small = omega (arith, text_length, pages_few (instruction_count k) (omega (arith, count_lines, lines_few k w)))
 
-  headings-have : (j : ℕ) → j < page_count (instruction_count k)
+  headings_have : (j : ℕ) → j < page_count (instruction_count k)
       → LineHas heading_columns (page_word ∷ decimal (j + 1) ∷ []) (line_at (page_text k) (56 * j))
   unfolding line_at page_text heading_line
-  headings-have j h =
+  headings_have j h =
       let n : ℕ = length (page_lines k) in
-      let begun : j < page_count n = subst (λ m. j < page_count m) count-lines h in
+      let begun : j < page_count n = subst (λ m. j < page_count m) count_lines h in
       let number : j + 1 < 1000 = omega (arith, page_count_lem n, lines_few k w) in
       let place : 1848 * j ≡ 33 * (56 * j) = omega arith in
       let xs : List (List ℕ) = page_word ∷ decimal (j + 1) ∷ [] in
       let found : heading_line (j + 1) ≡ line_at (page_text k) (56 * j) =
-      sym (heading_stands (page_lines k) lines-whole j begun)
+      sym (heading_stands (page_lines k) lines_whole j begun)
       ∙ ap (λ m. take 33 (drop m (pages_of (page_lines k)))) place in
       subst (LineHas heading_columns xs) found (line_has heading_columns xs heading_apart (heading_fits (j + 1) number))
 
-  instructions-have : (t p : ℕ) (i : Instr) → get_elem? (get_or (lanes_of k) t []) p ≡ some i
+  instructions_have : (t p : ℕ) (i : Instr) → get_elem? (get_or (lanes_of k) t []) p ≡ some i
       → LineHas columns (decimal t ∷ decimal p ∷ instr_name i ∷ field_texts i (record_of k t p))
       (line_at (page_text k) (line_of_instruction (instructions_before (lanes_of k) t + p)))
   unfolding line_at page_text instruction_line
-  instructions-have t p i =
-      rw lanes-read (λ e.
+  instructions_have t p i =
+      rw lanes_read (λ e.
       let lanes : List (List Instr) = sheet_lanes Level2 k in
       let r : ℕ = get_or (get_or k.records t []) (rank (get_or lanes t []) p) 0 in
       let n : ℕ = instructions_before lanes t + p in
@@ -94,17 +94,17 @@ module _ (k : Program) (w : Lawful k) where
       (ap (λ m. get_elem? (page_lines k) (m + p)) (before_total lanes t) ∙ line_of k t p i e) in
       let xs : List (List ℕ) = decimal t ∷ decimal p ∷ instr_name i ∷ field_texts i r in
       let found : instruction_line t p i r ≡ line_at (page_text k) (line_of_instruction n) =
-      sym (line_stands (page_lines k) lines-whole n here.0 ∙ here.1) in
+      sym (line_stands (page_lines k) lines_whole n here.0 ∙ here.1) in
       subst (LineHas columns xs) found
       (line_has columns xs columns_apart (line_fits k w t p i r e (w.records_small t (rank (get_or lanes t []) p)))))
 
 pub lawful_pages : (k : Program) → Lawful k → PageClaims k
 lawful_pages k w = record {
   pages = page_count_lem (instruction_count k);
-  size = text-length k w;
-  small = text-small k w;
-  headings = headings-have k w;
-  instructions = instructions-have k w;
+  size = text_length k w;
+  small = text_small k w;
+  headings = headings_have k w;
+  instructions = instructions_have k w;
 }
 
 pub page_claims : (s : List ℕ) (k : Program) → verdict s ≡ accepted k → PageClaims k

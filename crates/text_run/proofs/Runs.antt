@@ -1,4 +1,4 @@
--- What is told of the runs of an accepted kernel file, on each machine: theorems `line-told` and `end-told`.
+-- What is told of the runs of an accepted kernel file, on each machine: theorems `line_told` and `end_told`.
 use Prim.Native.Nat.{ℕ, ◌+◌, ◌*◌, ◌^◌, ◌<◌}
 use mathlib.Core.Path.{◌≡◌, refl, sym, ap, subst₂, ◌∙◌}
 use mathlib.Core.Bool.{Bool, true}
@@ -27,9 +27,9 @@ use Rattle.machine_spec.specs.Run.{Answer, answer_of, start_of, program_for, run
 use Rattle.machine_state.specs.States.{Blocks}
 use Rattle.sheet_rows.proofs.Laws.Read.{row_from}
 use Rattle.machine_record.specs.Record.{state_bytes}
-use Rattle.machine_start.proofs.Answered.{not-refused}
-use Rattle.machine_start.proofs.Ranges.{program-loads}
-use Rattle.machine_start.proofs.Fitting.{lanes-many, locations-many, locks-many, eight-registers, answer_fits}
+use Rattle.machine_start.proofs.Answered.{not_refused}
+use Rattle.machine_start.proofs.Ranges.{program_loads}
+use Rattle.machine_start.proofs.Fitting.{lanes_many, locations_many, locks_many, eight_registers, answer_fits}
 use Rattle.machine_course.specs.declared.course.Course.{Course}
 use Rattle.machine_course.specs.Stands.{answer_by, Stands}
 use Rattle.machine_course.proofs.Laws.Legal.{allowed, legal_snoc}
@@ -37,7 +37,7 @@ use Rattle.text_run.specs.States.{state_text, answer_text}
 use Rattle.text_run.specs.Moves.{move_line}
 use Rattle.text_run.specs.Turns.{move_told, RowsOf}
 use Rattle.text_run.proofs.Told.{state_told}
-use Rattle.text_run.proofs.ToldMoves.{Tells, move-told}
+use Rattle.text_run.proofs.ToldMoves.{Tells, move_told_lem}
 
 module _ (s : List ℕ) (k : Program) (v : verdict s ≡ accepted k) (m : Machine) where
   abbrev prog : List (List Instr)
@@ -51,7 +51,7 @@ module _ (s : List ℕ) (k : Program) (v : verdict s ≡ accepted k) (m : Machin
   pub rows_told : {mvs : List Move} {rows : List ℕ} {x : Course} {h : Blocks} → Stands s m mvs rows x h → (t : ℕ)
       → t < length k.lanes → RowsOf rows prog t
   rows_told {rows = rows} {x = x} so t there =
-      record { row = row; register = program-loads k law t m }
+      record { row = row; register = program_loads k law t m }
     where
       row : (p : ℕ) (i : Instr) → get_elem? (get_or prog t []) p ≡ some i
           → read_instr (drop (get_or (parts_in rows).from t 0 + 8 * p) rows) ≡ i
@@ -68,14 +68,14 @@ module _ (s : List ℕ) (k : Program) (v : verdict s ≡ accepted k) (m : Machin
 
   -- ## the end of every schedule, also of one that is refused with 10
 
-  pub end-told : (mvs : List Move) → length mvs < 2 ^ 32
+  pub end_told : (mvs : List Move) → length mvs < 2 ^ 32
       → state_text (state_bytes (answer_by m s mvs)) (length k.lanes) k.locations k.locks
       ≡ answer_text (answer_by m s mvs)
-  end-told mvs few =
+  end_told mvs few =
       let a : Answer = answer_by m s mvs in
-      let lanes = sym (lanes-many s k v m mvs) in
-      let locations = sym (locations-many s k v m mvs) in
-      let locks = sym (locks-many s k v m mvs) in
+      let lanes = sym (lanes_many s k v m mvs) in
+      let locations = sym (locations_many s k v m mvs) in
+      let locks = sym (locks_many s k v m mvs) in
       (λ i. state_text (state_bytes a) (lanes i) (locations i) (locks i)) ∙ state_told a (answer_fits s k v m mvs few)
 
   -- ## a move of a legal schedule
@@ -89,17 +89,17 @@ module _ (s : List ℕ) (k : Program) (v : verdict s ≡ accepted k) (m : Machin
       where
         go : (o : Outcome) → run_on m k mvs ≡ o → (r : Run) × (run_on m k mvs ≡ ran r)
         go (ran r) e = (r, e)
-        go (refused t p) e = absurd (not-refused s k v m mvs le t p e)
+        go (refused t p) e = absurd (not_refused s k v m mvs le t p e)
 
     answered : answer_by m s mvs ≡ answer_of prog k.records (start_of k) (ran came.0)
     answered = ap (λ x. run_by m s x mvs) v ∙ rw (le, came.1) refl
 
-  pub line-told : (mvs : List Move) (mv : Move) → lets (mvs ++ (mv ∷ [])) ≡ true → length mvs + 1 < 2 ^ 32
+  pub line_told : (mvs : List Move) (mv : Move) → lets (mvs ++ (mv ∷ [])) ≡ true → length mvs + 1 < 2 ^ 32
       → (rows : List ℕ) → RowsOf rows prog mv.lane → (n : ℕ)
       → move_line m rows (state_bytes (answer_by m s mvs)) (state_bytes (answer_by m s (mvs ++ (mv ∷ [])))) n mv.lane
       mv.choice
       ≡ move_told m (volatile_in k) prog (answer_by m s mvs).state n mv
-  line-told mvs mv le few rows own n =
+  line_told mvs mv le few rows own n =
       let after = mvs ++ (mv ∷ []) in
       let both = and_true (lets mvs) (allowed (length k.lanes) (limit m) mv)
       (sym (legal_snoc (length k.lanes) (limit m) mvs mv) ∙ le) in
@@ -110,13 +110,13 @@ module _ (s : List ℕ) (k : Program) (v : verdict s ≡ accepted k) (m : Machin
       let tells : Tells rows prog mv.lane (answer_by m s mvs) (answer_by m s after) = record {
         fits_before = answer_fits s k v m mvs (omega arith);
         fits_after = answer_fits s k v m after (omega (arith, length-append mvs (mv ∷ [])));
-        there = omega (arith, lanes-many s k v m mvs);
-        registers = eight-registers s k v m mvs mv.lane there;
+        there = omega (arith, lanes_many s k v m mvs);
+        registers = eight_registers s k v m mvs mv.lane there;
         rows_of = own;
       } in
       let moved : advance m (volatile_in k) prog (ran (came mvs both.0).0) mv ≡ ran (came after le).0 =
       sym (rw (foldl-append, (came mvs both.0).1) refl) ∙ (came after le).1 in
       (λ i. move_line m rows (state_bytes (before i)) (state_bytes (then i)) n mv.lane mv.choice)
-      ∙ move-told m (volatile_in k) prog k.records (start_of k) rows n mv (came mvs both.0).0 (came after le).0
+      ∙ move_told_lem m (volatile_in k) prog k.records (start_of k) rows n mv (came mvs both.0).0 (came after le).0
       (subst₂ (Tells rows prog mv.lane) before then tells) moved
       ∙ sym (ap (λ (a : Answer). move_told m (volatile_in k) prog a.state n mv) before)

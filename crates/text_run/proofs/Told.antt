@@ -27,9 +27,9 @@ numbers_same w f g n h =
 
 -- the same text wherever a record has room
 module _ {f g : Fields} (same : Same f g) where
-  lane-same : (t : ℕ) → t < 4 → lane_text f t ≡ lane_text g t
+  lane_same : (t : ℕ) → t < 4 → lane_text f t ≡ lane_text g t
   unfolding lane_text
-  lane-same t h =
+  lane_same t h =
       ap₂ (λ x y. x ++ y)
       (ap₂ (λ p x. named lane_start t ++ named position_word p ++ x) (same.position t h)
       (numbers_same registers_word (f.register t) (g.register t) 8 (λ r l. same.register t r h l)))
@@ -49,7 +49,7 @@ module _ {f g : Fields} (same : Same f g) where
       (ap (λ b. cond b finished_yes finished_no ++ newline ∷ []) same.finished))
       (numbers_same memory_word f.memory g.memory ls (λ x l. same.memory x (omega arith))))
       (numbers_same locks_word f.lock g.lock ks (λ x l. same.lock x (omega arith))))
-      (turn_same (lane_text f) (lane_text g) n (λ t l. lane-same t (omega arith)))
+      (turn_same (lane_text f) (lane_text g) n (λ t l. lane_same t (omega arith)))
 
 pub state_told : (a : Answer) → Fits a
     → state_text (state_bytes a) (length a.state.lanes) (length a.state.memory) (length a.state.locks)

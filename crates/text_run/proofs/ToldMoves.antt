@@ -1,4 +1,4 @@
--- What is told of a move from the state records before and after it is what the machine does: theorem `move-told`.
+-- What is told of a move from the state records before and after it is what the machine does: theorem `move_told_lem`.
 use Prim.Native.Nat.{ℕ, zero, suc, ◌+◌, ◌*◌, ◌-◌, ◌≤◌, ◌<◌}
 use mathlib.Core.Path.{◌≡◌, refl, sym, ap, ◌∙◌}
 use mathlib.Core.Bool.{Bool, true, false, cond}
@@ -106,16 +106,16 @@ module _ (m : Machine) (vol : ℕ → Bool) (prog : List (List Instr)) (rows : L
       ∙ h.rows_of.row lane.control.pos i e
 
   -- an operation that did not wait and was not refused is done
-  carried-by : (o : Op) (y : Turn) → execute m vol (suc t) lane.control core (some (op o)) ≡ y → 2 ≤ kind y
+  carried_by : (o : Op) (y : Turn) → execute m vol (suc t) lane.control core (some (op o)) ≡ y → 2 ≤ kind y
       → does (goto lane.control (next core o lane.control.pos)) (core_after m vol (suc t) core o)
       (loads m vol core o) ≡ y
-  carried-by o y e did =
+  carried_by o y e did =
       passed (holds (suc t) core o) refuses (passed (permits m vol core o) waits e (λ z. omega arith))
       (λ z. omega arith)
 
   module _ (k : Control) (c : Core) (moved : a.state ≡ set_lane b.state t k c) where
-    register-after : (r : ℕ) → r < 8 → g.register t r ≡ get_or c.regs r 0
-    register-after r l =
+    register_after : (r : ℕ) → r < 8 → g.register t r ≡ get_or c.regs r 0
+    register_after r l =
         (read_back a h.fits_after).register t r few l
         ∙ ap (λ (s : State). get_or (lane_at s t).regs r 0) moved
         ∙ ap (λ (y : Lane). get_or y.regs r 0) (get_or-set_same b.state.lanes t (lane_of k c) idle h.there)
@@ -126,53 +126,53 @@ module _ (m : Machine) (vol : ℕ → Bool) (prog : List (List Instr)) (rows : L
         → (r x : ℕ) → o ≡ Load r x → g.register t r ≡ value_of m vol core x
     took o e at r x i =
         let small : r < 8 = h.rows_of.register lane.control.pos r x (at ∙ ap (λ y. some (op y)) i) in
-        register-after r small
+        register_after r small
         ∙ ap (λ (y : Core). get_or y.regs r 0) (e ∙ ap (core_after m vol (suc t) core) i)
         ∙ get_or-set_same lane.regs r (value_of m vol core x) 0 (omega (arith, h.registers))
 
-    done-instr : (v : Option ℕ) (i : Option Instr) → get_elem? (get_or prog t []) lane.control.pos ≡ i
+    done_instr : (v : Option ℕ) (i : Option Instr) → get_elem? (get_or prog t []) lane.control.pos ≡ i
         → execute m vol (suc t) lane.control core i ≡ does k c v
         → carried_text m (next_instr rows f t) g t ≡ carried m i ++ taken v
-    done-instr v none at e = absurd (let z = ap kind e in omega arith)
-    done-instr v (some (op o)) at e =
-        let did = carried-by o (does k c v) e (omega arith) in
+    done_instr v none at e = absurd (let z = ap kind e in omega arith)
+    done_instr v (some (op o)) at e =
+        let did = carried_by o (does k c v) e (omega arith) in
         let end : c ≡ core_after m vol (suc t) core o = cc in
         let value : loads m vol core o ≡ v = cc in
         ap (λ i. carried_text m i g t) (stood (op o) at)
         ∙ ap (λ y. instr_on m (op o) ++ y) (loaded m vol core g t o (took o end at) ∙ ap taken value)
-    done-instr v (some (barrier d)) at e =
+    done_instr v (some (barrier d)) at e =
         absurd (let z = ap kind (passed (may_pass m d core.pending) waits e (λ z. omega arith)) in omega arith)
 
-  pass-instr : (k : Control) (c : Core) (i : Option Instr) → get_elem? (get_or prog t []) lane.control.pos ≡ i
+  pass_instr : (k : Control) (c : Core) (i : Option Instr) → get_elem? (get_or prog t []) lane.control.pos ≡ i
       → execute m vol (suc t) lane.control core i ≡ passes k c
       → carried_text m (next_instr rows f t) g t ≡ carried m i
-  pass-instr k c none at e = absurd (let z = ap kind e in omega arith)
-  pass-instr k c (some (op o)) at e =
-      absurd (let z = ap kind (carried-by o (passes k c) e (omega arith)) in omega arith)
-  pass-instr k c (some (barrier d)) at e =
+  pass_instr k c none at e = absurd (let z = ap kind e in omega arith)
+  pass_instr k c (some (op o)) at e =
+      absurd (let z = ap kind (carried_by o (passes k c) e (omega arith)) in omega arith)
+  pass_instr k c (some (barrier d)) at e =
       ap (λ i. carried_text m i g t) (stood (barrier d) at) ∙ append-nil (instr_on m (barrier d))
 
-  pass-entry : (j : ℕ) (k : Control) (c : Core) (e : Option Entry)
+  pass_entry : (j : ℕ) (k : Control) (c : Core) (e : Option Entry)
       → commit m vol lane.control core j e ≡ passes k c → ⊥
-  pass-entry j k c none e = let z = ap kind e in omega arith
-  pass-entry j k c (some y) e =
+  pass_entry j k c none e = let z = ap kind e in omega arith
+  pass_entry j k c (some y) e =
       let may = may_commit m vol lane.control.marks (take j lane.pending) y in
       let z = ap kind (passed may waits e (λ z. omega arith)) in
       omega arith
 
-  done-entry : (j : ℕ) (k : Control) (c : Core) (v : Option ℕ) (e : Option Entry) → get_elem? lane.pending j ≡ e
+  done_entry : (j : ℕ) (k : Control) (c : Core) (v : Option ℕ) (e : Option Entry) → get_elem? lane.pending j ≡ e
       → commit m vol lane.control core j e ≡ does k c v
       → commits_word ++ entry_text (f.entry t j) ≡ committed e ++ taken v
-  done-entry j k c v none at e = absurd (let z = ap kind e in omega arith)
-  done-entry j k c v (some y) at e =
+  done_entry j k c v none at e = absurd (let z = ap kind e in omega arith)
+  done_entry j k c v (some y) at e =
       let did = passed (may_commit m vol lane.control.marks (take j lane.pending) y) waits e (λ z. omega arith) in
       let value : none ≡ v = cc in
       let found = some_at lane.pending j y no_entry at in
       ap (λ x. commits_word ++ entry_text x) (same.entry t j few found.0 ∙ found.1)
       ∙ sym (append-nil (commits_word ++ entry_text y)) ∙ ap (λ x. commits_word ++ entry_text y ++ taken x) value
 
-  done-differs : a.done ≡ suc b.done → has_waited f g ≡ false
-  done-differs e =
+  done_differs : a.done ≡ suc b.done → has_waited f g ≡ false
+  done_differs e =
       ne_eqb f.done g.done
       (λ q. omega (arith, same.done, (read_back a h.fits_after).done, e, q))
 
@@ -184,20 +184,20 @@ module _ (m : Machine) (vol : ℕ → Bool) (prog : List (List Instr)) (rows : L
       eq-eqb f.done g.done (same.done ∙ sym came ∙ sym (read_back a h.fits_after).done) in
       ap (λ u. cond u waited_word (done_text m (next_instr rows f t) f g t c)) equal
   outcome zero (passes k c) e came =
-      ap (λ u. cond u waited_word (done_text m (next_instr rows f t) f g t 0)) (done-differs came.0)
-      ∙ ap (λ x. done_word ++ x) (pass-instr k c _ refl e)
+      ap (λ u. cond u waited_word (done_text m (next_instr rows f t) f g t 0)) (done_differs came.0)
+      ∙ ap (λ x. done_word ++ x) (pass_instr k c _ refl e)
   outcome zero (does k c v) e came =
-      ap (λ u. cond u waited_word (done_text m (next_instr rows f t) f g t 0)) (done-differs came.0)
-      ∙ ap (λ x. done_word ++ x) (done-instr k c came.1 v _ refl e)
-  outcome (suc j) (passes k c) e came = absurd (pass-entry j k c (get_elem? lane.pending j) e)
+      ap (λ u. cond u waited_word (done_text m (next_instr rows f t) f g t 0)) (done_differs came.0)
+      ∙ ap (λ x. done_word ++ x) (done_instr k c came.1 v _ refl e)
+  outcome (suc j) (passes k c) e came = absurd (pass_entry j k c (get_elem? lane.pending j) e)
   outcome (suc j) (does k c v) e came =
       let older : suc j - 1 ≡ j = omega arith in
       let later : eqb (suc j) 0 ≡ false = ne_eqb (suc j) 0 (λ q. omega arith) in
-      ap (λ u. cond u waited_word (done_text m (next_instr rows f t) f g t (suc j))) (done-differs came.0)
+      ap (λ u. cond u waited_word (done_text m (next_instr rows f t) f g t (suc j))) (done_differs came.0)
       ∙ ap (λ u. done_word
       ++ cond u (carried_text m (next_instr rows f t) g t) (commits_word ++ entry_text (f.entry t (suc j - 1)))) later
       ∙ ap (λ i. done_word ++ (commits_word ++ entry_text (f.entry t i))) older
-      ∙ ap (λ x. done_word ++ x) (done-entry j k c v _ refl e)
+      ∙ ap (λ x. done_word ++ x) (done_entry j k c v _ refl e)
 
 -- ## a move of a run
 
@@ -217,12 +217,12 @@ module _ (m : Machine) (vol : ℕ → Bool) (prog : List (List Instr)) (records 
       let q : done_more r (set_lane r.state t k c) (r.row ++ load_row t p v) ≡ r' = cc in
       (sym (ap (λ (y : Run). y.done) q), sym (ap (λ (y : Run). y.state) q))
 
-  pub move-told : (rows : List ℕ) (n : ℕ) (mv : Move) (r r' : Run)
+  pub move_told_lem : (rows : List ℕ) (n : ℕ) (mv : Move) (r r' : Run)
       → Tells rows prog mv.lane (answer r) (answer r') → advance m vol prog (ran r) mv ≡ ran r'
       → move_line m rows (state_bytes (answer r)) (state_bytes (answer r')) n mv.lane mv.choice
       ≡ move_told m vol prog r.state n mv
   unfolding line_by
-  move-told rows n mv r r' h e =
+  move_told_lem rows n mv r r' h e =
       let what = move_turn m vol prog r.state mv in
       ap (λ x. decimal n ++ named lane_word mv.lane ++ named choice_word mv.choice ++ x ++ newline ∷ [])
       (outcome m vol prog rows mv.lane (answer r) (answer r') h mv.choice what refl

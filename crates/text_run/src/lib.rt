@@ -1,5 +1,6 @@
 // The text of a move and of a state record, and of a run on a kernel file.
 #![tactic(auto)]
+
 pub mod entry;
 mod lane;
 pub mod moves;

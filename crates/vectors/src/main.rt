@@ -1,6 +1,7 @@
 // Lowers the kernel files that the arguments name, and runs the schedule that follows each on the three machines. The
 // words come in pairs, a kernel and a schedule; `-` stands for no schedule.
 #![tactic(auto)]
+
 mod kernels;
 mod schedules;
 

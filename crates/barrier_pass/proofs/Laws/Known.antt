@@ -41,26 +41,26 @@ module _ (vol : ℕ → Bool) where
   entry k u = get_or known_table (k + 8 * bool_byte u) 0
 
   -- the entry of an operation's code and location
-  pub known-entry : (o : Op) → entry ((fields_of o).code % 8) (vol (fields_of o).b) ≡ known_of (step_of vol o)
-  known-entry (Set a c) = by_test (λ u. entry 1 u ≡ idle_number) refl refl (vol 0)
-  known-entry (Add a b) = by_test (λ u. entry 2 u ≡ idle_number) refl refl (vol b)
-  known-entry (Load a x) = by_test (λ u. entry 3 u ≡ access_number (cond u VL PL)) refl refl (vol x)
-  known-entry (Store a x) = by_test (λ u. entry 4 u ≡ access_number (cond u VS PS)) refl refl (vol x)
-  known-entry (Lock l) = by_test (λ u. entry 5 u ≡ access_number VL) refl refl (vol l)
-  known-entry (Unlock l) = by_test (λ u. entry 6 u ≡ access_number VS) refl refl (vol l)
-  known-entry (SkipOp a t) = by_test (λ u. entry 7 u ≡ idle_number) refl refl (vol 0)
+  pub known_entry : (o : Op) → entry ((fields_of o).code % 8) (vol (fields_of o).b) ≡ known_of (step_of vol o)
+  known_entry (Set a c) = by_test (λ u. entry 1 u ≡ idle_number) refl refl (vol 0)
+  known_entry (Add a b) = by_test (λ u. entry 2 u ≡ idle_number) refl refl (vol b)
+  known_entry (Load a x) = by_test (λ u. entry 3 u ≡ access_number (cond u VL PL)) refl refl (vol x)
+  known_entry (Store a x) = by_test (λ u. entry 4 u ≡ access_number (cond u VS PS)) refl refl (vol x)
+  known_entry (Lock l) = by_test (λ u. entry 5 u ≡ access_number VL) refl refl (vol l)
+  known_entry (Unlock l) = by_test (λ u. entry 6 u ≡ access_number VS) refl refl (vol l)
+  known_entry (SkipOp a t) = by_test (λ u. entry 7 u ≡ idle_number) refl refl (vol 0)
 
   -- only a SKIP lands elsewhere than at 0
-  pub landing-by : (o : Op)
+  pub landing_by : (o : Op)
       → landing (step_of vol o)
       ≡ cond (eqb (fields_of o).code 7) (cond (leb (fields_of o).word 64) (fields_of o).word 0) 0
-  landing-by (Set a c) = refl
-  landing-by (Add a b) = refl
-  landing-by (Load a x) = refl
-  landing-by (Store a x) = refl
-  landing-by (Lock l) = refl
-  landing-by (Unlock l) = refl
-  landing-by (SkipOp a t) = refl
+  landing_by (Set a c) = refl
+  landing_by (Add a b) = refl
+  landing_by (Load a x) = refl
+  landing_by (Store a x) = refl
+  landing_by (Lock l) = refl
+  landing_by (Unlock l) = refl
+  landing_by (SkipOp a t) = refl
 
 -- where the barriers due before an access stand in what is due
 known_shift : (c : Class) → access_number c % 32 ≡ 4 * number_of c

@@ -15,9 +15,9 @@ use Rattle.sheet_format.specs.declared.Level.{Level}
 use Rattle.sheet_format.specs.declared.Level.TheVariants.{Level0, Level1, Level2, Level3}
 use Rattle.sheet_format.specs.Levels.{keeps, placed}
 use Rattle.sheet_format.specs.Items.{operation_at}
-use Rattle.sheet_format.proofs.Laws.Cells.{widest_few, lane-start}
+use Rattle.sheet_format.proofs.Laws.Cells.{widest_few, lane_start_lem}
 use Rattle.barrier_pass.specs.Plan.{set_by, plan_set, kept_in, plan_number, begin_in}
-use Rattle.barrier_pass.proofs.Laws.Plan.{next-begins}
+use Rattle.barrier_pass.proofs.Laws.Plan.{next_begins}
 use Rattle.barrier_pass.proofs.Laws.Sets.{set_small, bit_set, plan_set_small, plan_set_kept, kept_lowest}
 
 pub begin_small : (l : Level) (x p : ℕ) → p ≤ 64 → begin_in l x p < 256
@@ -46,20 +46,20 @@ module _ (vol : ℕ → Bool) (ops : List Op) where
   -- ## where a position begins
 
   -- at level 0 the operations stand one behind the other
-  level0-begins : (p : ℕ) → p ≤ length ops → start (placed Level0 vol ops) p ≡ p
-  level0-begins zero h = start_zero (placed Level0 vol ops)
-  level0-begins (suc p) h = omega (arith, next-begins Level0 vol ops p h, level0-begins p (omega arith))
+  level0_begins : (p : ℕ) → p ≤ length ops → start (placed Level0 vol ops) p ≡ p
+  level0_begins zero h = start_zero (placed Level0 vol ops)
+  level0_begins (suc p) h = omega (arith, next_begins Level0 vol ops p h, level0_begins p (omega arith))
 
   low : (p : ℕ) → plan_set (operation_at ops p) (set_by (λ b. stands (steps vol ops) b p)) < 32
   low p = plan_set_small (operation_at ops p) _ (set_small (λ b. stands (steps vol ops) b p))
 
   module _ (short : length ops ≤ 64) where
-    begins-few : (l : Level) (p : ℕ) → start (placed l vol ops) p < 256
-    begins-few l p = omega (arith, lane-start l vol ops short p, widest_few l)
+    begins_few : (l : Level) (p : ℕ) → start (placed l vol ops) p < 256
+    begins_few l p = omega (arith, lane_start_lem l vol ops short p, widest_few l)
 
-    pub plan-begins : (l : Level) (p : ℕ) → p ≤ length ops
+    pub plan_begins : (l : Level) (p : ℕ) → p ≤ length ops
         → begin_in l (plan_number vol ops p) p ≡ start (placed l vol ops) p
-    plan-begins Level0 p h = sym (level0-begins p h)
-    plan-begins Level1 p h = omega (arith, low p, begins-few Level1 p)
-    plan-begins Level2 p h = omega (arith, low p, begins-few Level1 p, begins-few Level2 p)
-    plan-begins Level3 p h = omega (arith, low p, begins-few Level1 p, begins-few Level2 p, begins-few Level3 p)
+    plan_begins Level0 p h = sym (level0_begins p h)
+    plan_begins Level1 p h = omega (arith, low p, begins_few Level1 p)
+    plan_begins Level2 p h = omega (arith, low p, begins_few Level1 p, begins_few Level2 p)
+    plan_begins Level3 p h = omega (arith, low p, begins_few Level1 p, begins_few Level2 p, begins_few Level3 p)

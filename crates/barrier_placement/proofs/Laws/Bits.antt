@@ -17,8 +17,8 @@ module _ (op : ℕ → ℕ → ℕ) (test : Bool → Bool → Bool)
     (low : (a b k : ℕ) → op a b % 2 ^ k ≡ op (a % 2 ^ k) (b % 2 ^ k))
     (none : eqb (op 0 0) 1 ≡ test false false) (second : eqb (op 0 1) 1 ≡ test false true)
     (first : eqb (op 1 0) 1 ≡ test true false) (both : eqb (op 1 1) 1 ≡ test true true) where
-  bit-by : (a b j : ℕ) → bit (op a b) j ≡ test (bit a j) (bit b j)
-  bit-by a b j =
+  bit_by : (a b j : ℕ) → bit (op a b) j ≡ test (bit a j) (bit b j)
+  bit_by a b j =
       ap (λ (x : ℕ). eqb (x % 2) 1) (shr a b j)
       ∙ ap (λ (x : ℕ). eqb x 1) (low (a / 2 ^ j) (b / 2 ^ j) 1)
       ∙ table_at (λ u v. eqb (op u v) 1) (λ u v. test (eqb u 1) (eqb v 1)) 2 2
@@ -26,16 +26,16 @@ module _ (op : ℕ → ℕ → ℕ) (test : Bool → Bool → Bool)
       (a / 2 ^ j % 2) (b / 2 ^ j % 2) (mod-lt (a / 2 ^ j) (omega arith)) (mod-lt (b / 2 ^ j) (omega arith))
 
 pub bit_or_lem : (a b j : ℕ) → bit (bit_or a b) j ≡ (bit a j || bit b j)
-bit_or_lem = bit-by bit_or ◌||◌ or_shr or_mod refl refl refl refl
+bit_or_lem = bit_by bit_or ◌||◌ or_shr or_mod refl refl refl refl
 
 pub bit_and_lem : (a b j : ℕ) → bit (bit_and a b) j ≡ (bit a j && bit b j)
-bit_and_lem = bit-by bit_and ◌&&◌ and_shr and_mod refl refl refl refl
+bit_and_lem = bit_by bit_and ◌&&◌ and_shr and_mod refl refl refl refl
 
 abbrev pub differ : Bool → Bool → Bool
 differ a b = cond a (not b) b
 
 pub bit_xor_lem : (a b j : ℕ) → bit (bit_xor a b) j ≡ differ (bit a j) (bit b j)
-bit_xor_lem = bit-by bit_xor differ xor_shr xor_mod refl refl refl refl
+bit_xor_lem = bit_by bit_xor differ xor_shr xor_mod refl refl refl refl
 
 -- the low bits of a number are its own
 pub bit_low : (n j k : ℕ) → bit (n % 2 ^ (j + 1 + k)) k ≡ bit n k

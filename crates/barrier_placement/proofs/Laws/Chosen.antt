@@ -62,40 +62,40 @@ nil_once o o' h = absurd (not-suc-le-zero h)
 
 module _ (f : Barrier → Bool) where
   -- the chosen ones from each barrier on
-  abbrev fromSL : List Barrier
-  fromSL = keep (f SL) SL []
+  abbrev from_sl : List Barrier
+  from_sl = keep (f SL) SL []
 
-  abbrev fromSS : List Barrier
-  fromSS = keep (f SS) SS fromSL
+  abbrev from_ss : List Barrier
+  from_ss = keep (f SS) SS from_sl
 
-  abbrev fromLS : List Barrier
-  fromLS = keep (f LS) LS fromSS
+  abbrev from_ls : List Barrier
+  from_ls = keep (f LS) LS from_ss
 
-  pub chosen-has : (b : Barrier) → f b ≡ true → Holds (chosen f) b
-  chosen-has LL h = keep_here (f LL) LL fromLS h
-  chosen-has LS h = keep_there (f LL) LL LS fromLS (keep_here (f LS) LS fromSS h)
-  chosen-has SS h = keep_there (f LL) LL SS fromLS (keep_there (f LS) LS SS fromSS (keep_here (f SS) SS fromSL h))
-  chosen-has SL h =
-      keep_there (f LL) LL SL fromLS
-      (keep_there (f LS) LS SL fromSS (keep_there (f SS) SS SL fromSL (keep_here (f SL) SL [] h)))
+  pub chosen_has : (b : Barrier) → f b ≡ true → Holds (chosen f) b
+  chosen_has LL h = keep_here (f LL) LL from_ls h
+  chosen_has LS h = keep_there (f LL) LL LS from_ls (keep_here (f LS) LS from_ss h)
+  chosen_has SS h = keep_there (f LL) LL SS from_ls (keep_there (f LS) LS SS from_ss (keep_here (f SS) SS from_sl h))
+  chosen_has SL h =
+      keep_there (f LL) LL SL from_ls
+      (keep_there (f LS) LS SL from_ss (keep_there (f SS) SS SL from_sl (keep_here (f SL) SL [] h)))
 
   -- a property of each chosen one, from each barrier on
-  eachSL : (P : Barrier → Type 0) → (f SL ≡ true → P SL) → Each P fromSL
-  eachSL P p = keep_each P (f SL) SL [] p (nil_each P)
+  each_sl : (P : Barrier → Type 0) → (f SL ≡ true → P SL) → Each P from_sl
+  each_sl P p = keep_each P (f SL) SL [] p (nil_each P)
 
-  eachSS : (P : Barrier → Type 0) → (f SS ≡ true → P SS) → (f SL ≡ true → P SL) → Each P fromSS
-  eachSS P q p = keep_each P (f SS) SS fromSL q (eachSL P p)
+  each_ss : (P : Barrier → Type 0) → (f SS ≡ true → P SS) → (f SL ≡ true → P SL) → Each P from_ss
+  each_ss P q p = keep_each P (f SS) SS from_sl q (each_sl P p)
 
-  eachLS : (P : Barrier → Type 0) → (f LS ≡ true → P LS) → (f SS ≡ true → P SS) → (f SL ≡ true → P SL) → Each P fromLS
-  eachLS P r q p = keep_each P (f LS) LS fromSS r (eachSS P q p)
+  each_ls : (P : Barrier → Type 0) → (f LS ≡ true → P LS) → (f SS ≡ true → P SS) → (f SL ≡ true → P SL) → Each P from_ls
+  each_ls P r q p = keep_each P (f LS) LS from_ss r (each_ss P q p)
 
-  pub chosen-only : (o : ℕ) → o < length (chosen f) → f (get_or (chosen f) o LL) ≡ true
-  chosen-only =
-      keep_each (λ b. f b ≡ true) (f LL) LL fromLS (λ h. h) (eachLS (λ b. f b ≡ true) (λ h. h) (λ h. h) (λ h. h))
+  pub chosen_only : (o : ℕ) → o < length (chosen f) → f (get_or (chosen f) o LL) ≡ true
+  chosen_only =
+      keep_each (λ b. f b ≡ true) (f LL) LL from_ls (λ h. h) (each_ls (λ b. f b ≡ true) (λ h. h) (λ h. h) (λ h. h))
 
-  pub chosen-once : Once (chosen f)
-  chosen-once =
-      keep_once (f LL) LL fromLS (eachLS (Later LL) (λ h. omega arith) (λ h. omega arith) (λ h. omega arith))
-      (keep_once (f LS) LS fromSS (eachSS (Later LS) (λ h. omega arith) (λ h. omega arith))
-      (keep_once (f SS) SS fromSL (eachSL (Later SS) (λ h. omega arith))
+  pub chosen_once : Once (chosen f)
+  chosen_once =
+      keep_once (f LL) LL from_ls (each_ls (Later LL) (λ h. omega arith) (λ h. omega arith) (λ h. omega arith))
+      (keep_once (f LS) LS from_ss (each_ss (Later LS) (λ h. omega arith) (λ h. omega arith))
+      (keep_once (f SS) SS from_sl (each_sl (Later SS) (λ h. omega arith))
       (keep_once (f SL) SL [] (nil_each (Later SL)) nil_once)))

@@ -12,7 +12,7 @@ use Rattle.barrier_placement.specs.Cookbook.{Class, Barrier, LL}
 use Rattle.barrier_placement.specs.Chain.{Step, Access, Skip, Other, Chain, at, Next}
 use Rattle.barrier_placement.specs.Layout.{Placed, operations, barriers_at, start, op_at}
 use Rattle.barrier_placement.specs.Sheet.{Item, bar, op, item, NextItem, aim, items_of}
-use Rattle.barrier_placement.proofs.Laws.Layout.{start_suc, place_within, at-barrier, at_op}
+use Rattle.barrier_placement.proofs.Laws.Layout.{start_suc, place_within, at_barrier, at_op}
 
 module _ {A : Type 0} (step : A → Step) (ps : List (Placed A)) where
   abbrev s : Chain
@@ -27,12 +27,12 @@ module _ {A : Type 0} (step : A → Step) (ps : List (Placed A)) where
   pub chain_length : length s ≡ length ps
   chain_length = length-map (operations ps) step ∙ length-map ps (λ x. x.oper)
 
-  pub item-bar : (k o : ℕ) → o < length (barriers_at ps k)
+  pub item_bar : (k o : ℕ) → o < length (barriers_at ps k)
       → item t (start ps k + o) ≡ bar (get_or (barriers_at ps k) o LL)
-  item-bar k o h = (some_at t (start ps k + o) _ (op Other) (at-barrier bar put ps k o h)).1
+  item_bar k o h = (some_at t (start ps k + o) _ (op Other) (at_barrier bar put ps k o h)).1
 
-  pub item-op : (k : ℕ) → k < length ps → item t (op_at ps k) ≡ op (aim (start ps) (at s k))
-  item-op k h =
+  pub item_op : (k : ℕ) → k < length ps → item t (op_at ps k) ≡ op (aim (start ps) (at s k))
+  item_op k h =
       let aimed : Step → Item = λ x. op (aim (start ps) x) in
       let there = at_op bar put ps k ∙ ap (λ l. get_elem? l k) (sym (map-map aimed step (operations ps)))
       ∙ at_some (map aimed s) k (op Other) (omega (arith, length-map s aimed, chain_length)) in
@@ -45,26 +45,26 @@ module _ {A : Type 0} (step : A → Step) (ps : List (Placed A)) where
   aimed Other m h = let z : ◌≡◌ {A = ℕ} 0 1 = cc in absurd (omega arith)
 
   -- from a step of the chain the lane goes on to the first barrier of a next one
-  pub from-op : (k m : ℕ) → k < length ps → NextItem t (op_at ps k) m → (k' : ℕ) × Next s k k' × (m ≡ start ps k')
-  from-op k m h e = go e.1
+  pub from_op : (k m : ℕ) → k < length ps → NextItem t (op_at ps k) m → (k' : ℕ) × Next s k k' × (m ≡ start ps k')
+  from_op k m h e = go e.1
     where
       inside : k < length s
       inside = omega (arith, chain_length)
 
       go : (m ≡ suc (op_at ps k)) ⊎ (item t (op_at ps k) ≡ op (Skip m)) → (k' : ℕ) × Next s k k' × (m ≡ start ps k')
       go (inl w) = (suc k, (inside, inl refl), w ∙ sym (start_suc ps k h))
-      go (inr w) = let r = aimed (at s k) m (sym (item-op k h) ∙ w) in (r.0, (inside, inr r.1), sym r.2)
+      go (inr w) = let r = aimed (at s k) m (sym (item_op k h) ∙ w) in (r.0, (inside, inr r.1), sym r.2)
 
   -- and from a barrier to what stands after it
-  pub from-bar : (k o m : ℕ) → o < length (barriers_at ps k) → NextItem t (start ps k + o) m → m ≡ start ps k + suc o
-  from-bar k o m l e = go e.1
+  pub from_bar : (k o m : ℕ) → o < length (barriers_at ps k) → NextItem t (start ps k + o) m → m ≡ start ps k + suc o
+  from_bar k o m l e = go e.1
     where
       go : (m ≡ suc (start ps k + o)) ⊎ (item t (start ps k + o) ≡ op (Skip m)) → m ≡ start ps k + suc o
       go (inl w) = omega arith
-      go (inr w) = let z : ◌≡◌ {A = ℕ} 0 1 = cc (item-bar k o l) in absurd (omega arith)
+      go (inr w) = let z : ◌≡◌ {A = ℕ} 0 1 = cc (item_bar k o l) in absurd (omega arith)
 
-  pub to-next : (k k' m : ℕ) → Next s k k' → m ≡ start ps k' → NextItem t (op_at ps k) m
-  to-next k k' m e h =
+  pub to_next : (k k' m : ℕ) → Next s k k' → m ≡ start ps k' → NextItem t (op_at ps k) m
+  to_next k k' m e h =
       (omega (arith, start_suc ps k inside, place_within bar put ps (suc k) 0 (omega arith)), go e.1)
     where
       inside : k < length ps
@@ -73,12 +73,12 @@ module _ {A : Type 0} (step : A → Step) (ps : List (Placed A)) where
       go : (k' ≡ suc k) ⊎ (at s k ≡ Skip k') → (m ≡ suc (op_at ps k)) ⊎ (item t (op_at ps k) ≡ op (Skip m))
       go (inl w) = inl (h ∙ ap (start ps) w ∙ start_suc ps k inside)
       go (inr w) =
-          inr (item-op k inside ∙ ap (λ (x : Step). op (aim (start ps) x)) w ∙ ap (λ (x : ℕ). op (Skip x)) (sym h))
+          inr (item_op k inside ∙ ap (λ (x : Step). op (aim (start ps) x)) w ∙ ap (λ (x : ℕ). op (Skip x)) (sym h))
 
   -- an item of the lane, by its operation and its place before it
-  pub access-at : (k o : ℕ) (c : Class) → k < length ps → o ≤ length (barriers_at ps k)
+  pub access_at : (k o : ℕ) (c : Class) → k < length ps → o ≤ length (barriers_at ps k)
       → item t (start ps k + o) ≡ op (Access c) → (o ≡ length (barriers_at ps k)) × (at s k ≡ Access c)
-  access-at k o c h l e = go (eq-or-lt_of_le l)
+  access_at k o c h l e = go (eq-or-lt_of_le l)
     where
       same : (x : Step) → op (aim (start ps) x) ≡ op (Access c) → x ≡ Access c
       same (Access d) w = cc
@@ -89,23 +89,23 @@ module _ {A : Type 0} (step : A → Step) (ps : List (Placed A)) where
           → (o ≡ length (barriers_at ps k)) × (at s k ≡ Access c)
       go (inl w) =
           let here = ap (λ (x : ℕ). item t (start ps k + x)) (sym w) in
-          (w, same (at s k) (sym (item-op k h) ∙ here ∙ e))
-      go (inr w) = let z : ◌≡◌ {A = ℕ} 0 1 = cc (item-bar k o w) in absurd (omega arith)
+          (w, same (at s k) (sym (item_op k h) ∙ here ∙ e))
+      go (inr w) = let z : ◌≡◌ {A = ℕ} 0 1 = cc (item_bar k o w) in absurd (omega arith)
 
-  pub bar-at : (k o : ℕ) (b : Barrier) → k < length ps → o ≤ length (barriers_at ps k)
+  pub bar_at : (k o : ℕ) (b : Barrier) → k < length ps → o ≤ length (barriers_at ps k)
       → item t (start ps k + o) ≡ bar b → (o < length (barriers_at ps k)) × (get_or (barriers_at ps k) o LL ≡ b)
-  bar-at k o b h l e = go (eq-or-lt_of_le l)
+  bar_at k o b h l e = go (eq-or-lt_of_le l)
     where
       go : (o ≡ length (barriers_at ps k)) ⊎ (o < length (barriers_at ps k))
           → (o < length (barriers_at ps k)) × (get_or (barriers_at ps k) o LL ≡ b)
       go (inl w) =
           let here = ap (λ (x : ℕ). item t (start ps k + x)) w in
-          let z : ◌≡◌ {A = ℕ} 0 1 = cc (item-op k h, here) in absurd (omega arith)
-      go (inr w) = (w, cc (item-bar k o w))
+          let z : ◌≡◌ {A = ℕ} 0 1 = cc (item_op k h, here) in absurd (omega arith)
+      go (inr w) = (w, cc (item_bar k o w))
 
   -- an access or a barrier stands inside the lane
-  pub inside-lane : (m : ℕ) → ¬ (item t m ≡ op Other) → m < length t
-  inside-lane m h = elim (lt_or_le m (length t)) [
+  pub inside_lane : (m : ℕ) → ¬ (item t m ≡ op Other) → m < length t
+  inside_lane m h = elim (lt_or_le m (length t)) [
     | inl l ↦ l
     | inr l ↦ absurd (h (get_or-eq_default t (op Other) l))
   ]

@@ -36,33 +36,33 @@ after_kind b x f d ih h = elim (or_true (not (stands_at x f) && f d) (raises b x
 ]
 
 module _ (s : Chain) (b : Barrier) where
-  due-kind-below : (n p : ℕ) (d : Class) → p < n → due s b p d ≡ true → before_load b ≡ is_load d
+  due_kind_below : (n p : ℕ) (d : Class) → p < n → due s b p d ≡ true → before_load b ≡ is_load d
   unfolding due
-  due-kind-below zero p d h t = absurd (not-suc-le-zero h)
-  due-kind-below (suc n) p d h t =
+  due_kind_below zero p d h t = absurd (not-suc-le-zero h)
+  due_kind_below (suc n) p d h t =
       let f = arrives_from s (due_after s b p) p p d t in
-      after_kind b (at s f.0) (due s b f.0) d (due-kind-below n f.0 d (omega (arith, f.1)))
+      after_kind b (at s f.0) (due s b f.0) d (due_kind_below n f.0 d (omega (arith, f.1)))
       (sym (due_after_has s b p f.0 d f.1) ∙ f.3)
 
   -- what is due before an access has its kind
-  pub due-kind : (p : ℕ) (d : Class) → due s b p d ≡ true → before_load b ≡ is_load d
-  due-kind p d = due-kind-below (suc p) p d (omega arith)
+  pub due_kind : (p : ℕ) (d : Class) → due s b p d ≡ true → before_load b ≡ is_load d
+  due_kind p d = due_kind_below (suc p) p d (omega arith)
 
   -- and so has what stands there
-  pub stands-kind : (p : ℕ) (c : Class) → at s p ≡ Access c → stands s b p ≡ true → before_load b ≡ is_load c
+  pub stands_kind : (p : ℕ) (c : Class) → at s p ≡ Access c → stands s b p ≡ true → before_load b ≡ is_load c
   unfolding stands
-  stands-kind p c a h = due-kind p c (subst (λ (x : Step). stands_at x (due s b p) ≡ true) a h)
+  stands_kind p c a h = due_kind p c (subst (λ (x : Step). stands_at x (due s b p) ≡ true) a h)
 
 module _ (s : Chain) (p : ℕ) where
-  stand-alike : (a b : Barrier) → stands s a p ≡ true → stands s b p ≡ true → before_load a ≡ before_load b
+  stand_alike : (a b : Barrier) → stands s a p ≡ true → stands s b p ≡ true → before_load a ≡ before_load b
   unfolding stands
-  stand-alike a b h k =
+  stand_alike a b h k =
       let c = stands_class (at s p) (due s a p) h in
-      stands-kind s a p c.0 c.1 h ∙ sym (stands-kind s b p c.0 c.1 k)
+      stands_kind s a p c.0 c.1 h ∙ sym (stands_kind s b p c.0 c.1 k)
 
   -- of two barriers of different kinds at most one stands
-  kinds-apart : (a b : Barrier) → ¬ before_load a ≡ before_load b → (stands s a p && stands s b p) ≡ false
-  kinds-apart a b e = go (stands s a p) (stands s b p) (stand-alike a b)
+  kinds_apart : (a b : Barrier) → ¬ before_load a ≡ before_load b → (stands s a p && stands s b p) ≡ false
+  kinds_apart a b e = go (stands s a p) (stands s b p) (stand_alike a b)
     where
       go : (t u : Bool) → (t ≡ true → u ≡ true → before_load a ≡ before_load b) → (t && u) ≡ false
       go true true w = absurd (e (w refl refl))
@@ -70,17 +70,17 @@ module _ (s : Chain) (p : ℕ) where
       go false u w = refl
 
   -- of the two barriers with the first letter L at most one stands, and of the two with S
-  pub load-once : (stands s LL p && stands s LS p) ≡ false
-  load-once = kinds-apart LL LS true≢false
+  pub load_once : (stands s LL p && stands s LS p) ≡ false
+  load_once = kinds_apart LL LS true≢false
 
-  pub store-once : (stands s SS p && stands s SL p) ≡ false
-  store-once = kinds-apart SS SL false≢true
+  pub store_once : (stands s SS p && stands s SL p) ≡ false
+  store_once = kinds_apart SS SL false≢true
 
-  pub before-few : length (before s p) ≤ 2
-  before-few =
+  pub before_few : length (before s p) ≤ 2
+  before_few =
       let stores : List Barrier = keep (stands s SS p) SS (keep (stands s SL p) SL []) in
       omega (
         arith,
-        keep_one (stands s LL p) (stands s LS p) LL LS stores load-once,
-        keep_one (stands s SS p) (stands s SL p) SS SL [] store-once,
+        keep_one (stands s LL p) (stands s LS p) LL LS stores load_once,
+        keep_one (stands s SS p) (stands s SL p) SS SL [] store_once,
       )

@@ -7,7 +7,7 @@ use mathlib.Core.List.{List, [], ◌∷◌, ◌++◌, map}
 use mathlib.Core.Logic.{inl, inr}
 use mathlib.Core.Option.{none, some}
 use lib.ListN.{length, get_or, get_elem?, length-append, length-map, get_or-map}
-use Rattle.laws.proofs.Lists.{getElem?-seam, getElem?-left}
+use Rattle.laws.proofs.Lists.{get_elem?_seam, get_elem?_left}
 use Rattle.laws.proofs.Numbers.{lt_or_le}
 use Rattle.barrier_placement.specs.Cookbook.{Barrier, LL}
 use Rattle.barrier_placement.specs.Layout.{Placed, operations, barriers_at, start, op_at, layout}
@@ -48,23 +48,23 @@ abbrev pub Located : {A : Type 0} → List (Placed A) → ℕ → Type 0
 Located ps m = (p : ℕ) × (j : ℕ) × (p < length ps) × (j ≤ length (barriers_at ps p)) × (m ≡ start ps p + j)
 
 module _ {I : Type 0} (bar : Barrier → I) where
-  pub fetch-over : (bs : List Barrier) (i : I) (is : List I) (n : ℕ)
+  pub fetch_over : (bs : List Barrier) (i : I) (is : List I) (n : ℕ)
       → get_elem? (map bar bs ++ i ∷ is) (length bs + suc n) ≡ get_elem? is n
-  fetch-over [] i is n = rw zero-add
-  fetch-over (b ∷ bs) i is n = rw suc-add (fetch-over bs i is n)
+  fetch_over [] i is n = rw zero-add
+  fetch_over (b ∷ bs) i is n = rw suc-add (fetch_over bs i is n)
 
   seam : (bs : List Barrier) (i : I) (is : List I) → get_elem? (map bar bs ++ i ∷ is) (length bs) ≡ some i
-  seam bs i is = rw (← length-map bs bar) (getElem?-seam (map bar bs) i is)
+  seam bs i is = rw (← length-map bs bar) (get_elem?_seam (map bar bs) i is)
 
   left : (bs : List Barrier) (is : List I) (j : ℕ) → j < length bs
       → get_elem? (map bar bs ++ is) j ≡ some (bar (get_or bs j LL))
   left bs is j h =
-      getElem?-left (map bar bs) is (bar LL) j (omega (arith, length-map bs bar)) ∙ ap some (get_or-map bar bs j LL)
+      get_elem?_left (map bar bs) is (bar LL) j (omega (arith, length-map bs bar)) ∙ ap some (get_or-map bar bs j LL)
 
 module _ {A I : Type 0} (bar : Barrier → I) (put : A → I) where
-  layout-length : (x : Placed A) (ps : List (Placed A))
+  layout_length : (x : Placed A) (ps : List (Placed A))
       → length (layout bar put (x ∷ ps)) ≡ length x.before + suc (length (layout bar put ps))
-  layout-length x ps =
+  layout_length x ps =
       omega (
         arith,
         length-append (map bar x.before) (put x.oper ∷ layout bar put ps),
@@ -72,23 +72,23 @@ module _ {A I : Type 0} (bar : Barrier → I) (put : A → I) where
       )
 
   -- a lane ends where an operation behind its last one would begin
-  pub layout-end : (ps : List (Placed A)) → length (layout bar put ps) ≡ start ps (length ps)
-  layout-end [] = refl
-  layout-end (x ∷ ps) = omega (arith, layout-length x ps, layout-end ps)
+  pub layout_end : (ps : List (Placed A)) → length (layout bar put ps) ≡ start ps (length ps)
+  layout_end [] = refl
+  layout_end (x ∷ ps) = omega (arith, layout_length x ps, layout_end ps)
 
   -- the place of an operation, past some of its barriers, lies in the lane or at its end
   pub place_within : (ps : List (Placed A)) (p j : ℕ) → j ≤ length (barriers_at ps p)
       → start ps p + j ≤ length (layout bar put ps)
   place_within [] p j h = omega arith
-  place_within (x ∷ ps) zero j h = omega (arith, layout-length x ps)
-  place_within (x ∷ ps) (suc p) j h = omega (arith, layout-length x ps, place_within ps p j h)
+  place_within (x ∷ ps) zero j h = omega (arith, layout_length x ps)
+  place_within (x ∷ ps) (suc p) j h = omega (arith, layout_length x ps, place_within ps p j h)
 
   -- and in the lane only where there is such an operation
-  pub inside-chain : (ps : List (Placed A)) (p j : ℕ) → start ps p + j < length (layout bar put ps) → p < length ps
-  inside-chain [] p j h = absurd (not-suc-le-zero h)
-  inside-chain (x ∷ ps) zero j h = omega arith
-  inside-chain (x ∷ ps) (suc p) j h =
-      let rest = inside-chain ps p j (omega (arith, layout-length x ps)) in
+  pub inside_chain : (ps : List (Placed A)) (p j : ℕ) → start ps p + j < length (layout bar put ps) → p < length ps
+  inside_chain [] p j h = absurd (not-suc-le-zero h)
+  inside_chain (x ∷ ps) zero j h = omega arith
+  inside_chain (x ∷ ps) (suc p) j h =
+      let rest = inside_chain ps p j (omega (arith, layout_length x ps)) in
       omega arith
 
   -- each position of the lane is of this kind
@@ -96,17 +96,17 @@ module _ {A I : Type 0} (bar : Barrier → I) (put : A → I) where
   locate [] m h = absurd (not-suc-le-zero h)
   locate (x ∷ ps) m h = elim (lt_or_le (length x.before) m) [
     | inl l ↦
-        let r = locate ps (m - suc (length x.before)) (omega (arith, layout-length x ps)) in
+        let r = locate ps (m - suc (length x.before)) (omega (arith, layout_length x ps)) in
         (suc r.0, r.1, omega (arith, r.2), r.3, omega (arith, r.4))
     | inr l ↦ (0, m, omega arith, l, omega arith)
   ]
 
-  pub at-barrier : (ps : List (Placed A)) (p j : ℕ) → j < length (barriers_at ps p)
+  pub at_barrier : (ps : List (Placed A)) (p j : ℕ) → j < length (barriers_at ps p)
       → get_elem? (layout bar put ps) (start ps p + j) ≡ some (bar (get_or (barriers_at ps p) j LL))
-  at-barrier [] p j h = absurd (not-suc-le-zero h)
-  at-barrier (x ∷ ps) zero j h = rw zero-add (left bar x.before _ j h)
-  at-barrier (x ∷ ps) (suc p) j h =
-      rw (regroup (length x.before) (start ps p) j) (fetch-over bar x.before _ _ _ ∙ at-barrier ps p j h)
+  at_barrier [] p j h = absurd (not-suc-le-zero h)
+  at_barrier (x ∷ ps) zero j h = rw zero-add (left bar x.before _ j h)
+  at_barrier (x ∷ ps) (suc p) j h =
+      rw (regroup (length x.before) (start ps p) j) (fetch_over bar x.before _ _ _ ∙ at_barrier ps p j h)
 
   pub at_op : (ps : List (Placed A)) (p : ℕ)
       → get_elem? (layout bar put ps) (op_at ps p) ≡ get_elem? (map put (operations ps)) p
@@ -114,11 +114,11 @@ module _ {A I : Type 0} (bar : Barrier → I) (put : A → I) where
   at_op (x ∷ ps) zero = rw zero-add (seam bar x.before _ _)
   at_op (x ∷ ps) (suc p) =
       rw (regroup (length x.before) (start ps p) (length (barriers_at ps p)))
-      (fetch-over bar x.before _ _ _ ∙ at_op ps p)
+      (fetch_over bar x.before _ _ _ ∙ at_op ps p)
 
   pub at_end : (ps : List (Placed A)) (p j : ℕ) → get_elem? ps p ≡ none
       → get_elem? (layout bar put ps) (start ps p + j) ≡ none
   at_end [] p j e = refl
   at_end (x ∷ ps) zero j e = cc
   at_end (x ∷ ps) (suc p) j e =
-      rw (regroup (length x.before) (start ps p) j) (fetch-over bar x.before _ _ _ ∙ at_end ps p j e)
+      rw (regroup (length x.before) (start ps p) j) (fetch_over bar x.before _ _ _ ∙ at_end ps p j e)

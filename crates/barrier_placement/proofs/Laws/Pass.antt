@@ -49,21 +49,21 @@ module _ (s : Chain) (b : Barrier) where
   jumped (suc q) x d = (jumps (at s q) x && left q d) || jumped q x d
 
   -- from below the position before p only jumps lead to p
-  arrives-jumped : (p k : ℕ) (d : Class) → k < p → arrives s (due_after s b p) k p d ≡ jumped k p d
-  arrives-jumped p zero d h = refl
-  arrives-jumped p (suc q) d h =
+  arrives_jumped : (p k : ℕ) (d : Class) → k < p → arrives s (due_after s b p) k p d ≡ jumped k p d
+  arrives_jumped p zero d h = refl
+  arrives_jumped p (suc q) d h =
       let far : eqb p (suc q) ≡ false = ne_eqb p (suc q) (λ e. absurd (omega arith)) in
       ap₂ (λ (t u : Bool). ((t || jumps (at s q) p) && has (get_or (due_after s b p) q no_classes) d) || u)
-      far (arrives-jumped p q d (omega arith))
+      far (arrives_jumped p q d (omega arith))
       ∙ ap (λ (r : Bool). (jumps (at s q) p && r) || jumped q p d) (due_after_has s b p q d (omega arith))
 
   -- what is due at p comes from the position before it, or was brought by jumps
-  due-by : (p : ℕ) (d : Class) → due s b p d ≡ (passed p d || jumped p p d)
+  due_by : (p : ℕ) (d : Class) → due s b p d ≡ (passed p d || jumped p p d)
   unfolding due
-  due-by zero d = refl
-  due-by (suc q) d =
+  due_by zero d = refl
+  due_by (suc q) d =
       ap₂ (λ (t u : Bool). ((t || jumps (at s q) (suc q)) && has (get_or (due_after s b (suc q)) q no_classes) d) || u)
-      (eq-eqb (suc q) (suc q) refl) (arrives-jumped (suc q) q d (omega arith))
+      (eq-eqb (suc q) (suc q) refl) (arrives_jumped (suc q) q d (omega arith))
       ∙ ap (λ (r : Bool). r || jumped q (suc q) d) (due_after_has s b (suc q) q d (omega arith))
       ∙ or_absorbs (left q d) (jumped q (suc q) d) (jumps (at s q) (suc q))
 
@@ -81,23 +81,23 @@ module _ (s : Chain) (b : Barrier) where
   }
 
   -- one position more, at a step that does not jump to x, or does
-  jumped-by : (p x : ℕ) (u : Bool) (d : Class) → p < x → x ≤ 64 → eqb (landing (at s p)) x ≡ u
+  jumped_by : (p x : ℕ) (u : Bool) (d : Class) → p < x → x ≤ 64 → eqb (landing (at s p)) x ≡ u
       → jumped (p + 1) x d ≡ ((u && left p d) || jumped p x d)
-  jumped-by p x u d h k e =
+  jumped_by p x u d h k e =
       let j : jumps (at s p) x ≡ u = landing_jumps (at s p) x (omega arith) k ∙ e in
       ap (λ (q : ℕ). jumped q x d) (add-one p) ∙ ap (λ (t : Bool). (t && left p d) || jumped p x d) j
 
-  gathered-on : {l : List ℕ} {p : ℕ} → Gathered l p → landing (at s p) ≤ p → Gathered l (p + 1)
-  gathered-on {l} {p} g h = record {
+  gathered_on : {l : List ℕ} {p : ℕ} → Gathered l p → landing (at s p) ≤ p → Gathered l (p + 1)
+  gathered_on {l} {p} g h = record {
     long = g.long;
     ahead = λ x i k d.
         let past = ne_eqb (landing (at s p)) x (λ e. omega arith) in
-        g.ahead x (omega arith) k d ∙ sym (jumped-by p x false d (omega arith) k past);
+        g.ahead x (omega arith) k d ∙ sym (jumped_by p x false d (omega arith) k past);
   }
 
-  gathered-push : {l : List ℕ} {p t : ℕ} (new : ℕ) → Gathered l p → landing (at s p) ≡ t → p < t
+  gathered_push : {l : List ℕ} {p t : ℕ} (new : ℕ) → Gathered l p → landing (at s p) ≡ t → p < t
       → ((d : Class) → due_in new b d ≡ (left p d || due_in (get_or l t 0) b d)) → Gathered (set l t new) (p + 1)
-  gathered-push {l} {p} {t} new g e h v = record {
+  gathered_push {l} {p} {t} new g e h v = record {
     long = length-set l t new ∙ g.long;
     ahead = λ x i k. go x (omega arith) k (eqb t x) refl;
   }
@@ -115,32 +115,32 @@ module _ (s : Chain) (b : Barrier) where
           (ap (λ (n : ℕ). due_in n b d) (get_or-set_same l t new 0 (omega (arith, t≤64, g.long)))
           ∙ v d
           ∙ ap (λ (u : Bool). left p d || u) (g.ahead t (omega arith) t≤64 d)
-          ∙ sym (jumped-by p t true d h t≤64 (there t true (eq-eqb t t refl))))
+          ∙ sym (jumped_by p t true d h t≤64 (there t true (eq-eqb t t refl))))
       go x i k false w d =
           ap (λ (n : ℕ). due_in n b d) (get_or-set_other l t x new 0 (λ y. eqb-false t x w (sym y)))
           ∙ g.ahead x (omega arith) k d
-          ∙ sym (jumped-by p x false d i k (there x false w))
+          ∙ sym (jumped_by p x false d i k (there x false w))
 
   -- what is known before position p: what is due, and what jumps have brought
   pub record Reached (d : ℕ) (l : List ℕ) (p : ℕ) : Type 0 where
-    pub due-here : (c : Class) → due_in d b c ≡ passed p c
+    pub due_here : (c : Class) → due_in d b c ≡ passed p c
     pub gathered : Gathered l p
 
-  pub reached-none : Reached 0 (replicate 65 0) 0
-  reached-none = record { due-here = λ c. bit_zero (4 * number_of c + bit_of b); gathered = gathered_none }
+  pub reached_none : Reached 0 (replicate 65 0) 0
+  reached_none = record { due_here = λ c. bit_zero (4 * number_of c + bit_of b); gathered = gathered_none }
 
   module _ {d here p : ℕ} {l : List ℕ} (r : Reached d l p) (h : p < 64) (eh : here ≡ bit_or d (get_or l p 0)) where
-    here-is : (c : Class) → due_in here b c ≡ due s b p c
-    here-is c =
+    here_is : (c : Class) → due_in here b c ≡ due s b p c
+    here_is c =
         ap (λ (n : ℕ). due_in n b c) eh
         ∙ bit_or_lem d (get_or l p 0) (4 * number_of c + bit_of b)
         ∙ ap₂ (λ (t u : Bool). t || u) (r.due-here c) (r.gathered.ahead p (omega arith) (omega arith) c)
-        ∙ sym (due-by p c)
+        ∙ sym (due_by p c)
 
     -- what stands at p, of what is due there
     pub stands_here : stands_at (at s p) (due_in here b) ≡ stands s b p
     unfolding stands
-    stands_here = ap (stands_at (at s p)) (fun_ext here-is)
+    stands_here = ap (stands_at (at s p)) (fun_ext here_is)
 
     -- a turn of the pass, at a step that lands at t; l' is the list of what jumps bring after it
     pub turn : {next t : ℕ} {l' : List ℕ} {stood : Bool} (new : ℕ)
@@ -152,16 +152,16 @@ module _ (s : Chain) (b : Barrier) where
         → Reached next l' (p + 1)
     unfolding stands
     turn {next} {t} {l'} {stood} new es en el et w = record {
-      due-here = λ c. next-is c ∙ ap (λ (k : ℕ). passed k c) (sym (add-one p));
+      due_here = λ c. next_is c ∙ ap (λ (k : ℕ). passed k c) (sym (add-one p));
       gathered = go w;
     }
       where
-        next-is : (c : Class) → due_in next b c ≡ left p c
-        next-is c = el c ∙ (λ i. (not (es i) && here-is c i) || en c i)
+        next_is : (c : Class) → due_in next b c ≡ left p c
+        next_is c = el c ∙ (λ i. (not (es i) && here_is c i) || en c i)
 
         go : ((p < t) × (l' ≡ set l t (bit_or next (get_or l t 0)))) ⊎ ((t ≤ p) × (l' ≡ l)) → Gathered l' (p + 1)
         go (inl (k, f)) =
-            rw f (gathered-push (bit_or next (get_or l t 0)) r.gathered (sym et) k (λ c.
+            rw f (gathered_push (bit_or next (get_or l t 0)) r.gathered (sym et) k (λ c.
             bit_or_lem next (get_or l t 0) (4 * number_of c + bit_of b)
-            ∙ ap (λ (u : Bool). u || due_in (get_or l t 0) b c) (next-is c)))
-        go (inr (k, f)) = rw f (gathered-on r.gathered (omega (arith, et)))
+            ∙ ap (λ (u : Bool). u || due_in (get_or l t 0) b c) (next_is c)))
+        go (inr (k, f)) = rw f (gathered_on r.gathered (omega (arith, et)))

@@ -10,8 +10,8 @@ use Rattle.barrier_placement.specs.Chain.{Step, Chain, Next, Path, edge, more, B
 use Rattle.barrier_placement.specs.Sentence.{Along}
 use Rattle.barrier_placement.specs.Layout.{Placed, operations, barriers_at, start, op_at}
 use Rattle.barrier_placement.specs.Sheet.{Item, bar, op, NextItem, aim, items_of}
-use Rattle.barrier_placement.proofs.Laws.Layout.{place_within, inside-chain}
-use Rattle.barrier_placement.proofs.Laws.Items.{from-op, from-bar, to-next}
+use Rattle.barrier_placement.proofs.Laws.Layout.{place_within, inside_chain}
+use Rattle.barrier_placement.proofs.Laws.Items.{from_op, from_bar, to_next}
 
 module _ {A : Type 0} (step : A → Step) (ps : List (Placed A)) where
   abbrev s : Chain
@@ -43,7 +43,7 @@ module _ {A : Type 0} (step : A → Step) (ps : List (Placed A)) where
   onward i {q} {m} π e r = go (eq-or-lt_of_le r.inside)
     where
       k<n : r.reached < length ps
-      k<n = inside-chain bar put ps r.reached r.offset (omega (arith, e.0, r.place))
+      k<n = inside_chain bar put ps r.reached r.offset (omega (arith, e.0, r.place))
 
       from : (o : ℕ) → r.offset ≡ o → NextItem t (start ps r.reached + o) m
       from o w =
@@ -59,7 +59,7 @@ module _ {A : Type 0} (step : A → Step) (ps : List (Placed A)) where
       go : (r.offset ≡ length (barriers_at ps r.reached)) ⊎ (r.offset < length (barriers_at ps r.reached))
           → Trace i (more π e)
       go (inl w) =
-          let f = from-op step ps r.reached m k<n (from (length (barriers_at ps r.reached)) w) in
+          let f = from_op step ps r.reached m k<n (from (length (barriers_at ps r.reached)) w) in
           record {
             reached = f.0;
             offset = 0;
@@ -76,7 +76,7 @@ module _ {A : Type 0} (step : A → Step) (ps : List (Placed A)) where
       go (inr w) = record {
         reached = r.reached;
         offset = suc r.offset;
-        place = from-bar step ps r.reached r.offset m w (from r.offset refl);
+        place = from_bar step ps r.reached r.offset m w (from r.offset refl);
         inside = w;
         path = r.path;
         passed = λ k v o l. inl (r.passed k v o l);
@@ -85,7 +85,7 @@ module _ {A : Type 0} (step : A → Step) (ps : List (Placed A)) where
 
   pub trace : (i : ℕ) {m : ℕ} (π : Path (NextItem t) (op_at ps i) m) → i < length ps → Trace i π
   trace i {m} (edge e) h =
-      let r = from-op step ps i m h e in
+      let r = from_op step ps i m h e in
       record {
         reached = r.0;
         offset = 0;
@@ -127,14 +127,14 @@ module _ {A : Type 0} (step : A → Step) (ps : List (Placed A)) where
 
   pub follow : {i k : ℕ} (ρ : Path (Next s) i k) (m : ℕ) → m ≡ start ps k → Followed ρ 0 m
   follow {i} {k} (edge e) m h = record {
-    path = edge (to-next step ps i k m e h);
+    path = edge (to_next step ps i k m e h);
     along = λ m' w. absurd w;
     here = λ o l. absurd (not-suc-le-zero l);
   }
   follow {i} {k} (more {q = q} ρ e) m h =
       let f = pass ρ (follow ρ (start ps q) refl) in
       record {
-        path = more f.path (to-next step ps q k m e h);
+        path = more f.path (to_next step ps q k m e h);
         along = λ m' w. elim w [
           | inl v ↦ let r = f.along m' v in (r.0, r.1, inl r.2, r.3, r.4)
           | inr v ↦ (q, length (barriers_at ps q), inl (inr refl), le_refl (length (barriers_at ps q)), v)

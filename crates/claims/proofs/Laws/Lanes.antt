@@ -7,7 +7,7 @@ use native.Mathlib.Decide.{dec_lt}
 use native.Mathlib.Omega.{arith}
 use lib.ListN.{length, get_or, set, length-set, replicate, get_or-eq_default}
 use lib.Seq.{get_or-set_same, set-get_or}
-use Rattle.laws.proofs.Lists.{set-each, pointwise-set, getD-replicate-all}
+use Rattle.laws.proofs.Lists.{set-each, pointwise_set, getD-replicate-all}
 use Rattle.machine_spec.specs.Step.{Control, Core}
 use Rattle.machine_spec.specs.State.{Lane, State, at_start, start_state, idle, lane_at, core_of, lane_of, set_lane}
 
@@ -32,7 +32,7 @@ pub set_lane_both : (R : ℕ → Lane → Lane → Type 0) (a b : State) → len
     → ((u : ℕ) → R u (lane_at a u) (lane_at b u)) → (t : ℕ) (i k : Control) (c d : Core) → R t (lane_of i c) (lane_of k d)
     → (u : ℕ) → R u (lane_at (set_lane a t i c) u) (lane_at (set_lane b t k d) u)
 set_lane_both R a b e h t i k c d =
-    pointwise-set R idle idle a.lanes b.lanes e h t (lane_of i c) (lane_of k d)
+    pointwise_set R idle idle a.lanes b.lanes e h t (lane_of i c) (lane_of k d)
 
 -- what holds of a lane at its start and of an idle one holds of each lane of a start state
 pub start_each : (P : Lane → Type 0) (n : ℕ) (m : List ℕ) (k : ℕ)

@@ -15,7 +15,7 @@ use Rattle.barrier_placement.specs.declared.cookbook.Barrier.{Barrier}
 use Rattle.barrier_placement.specs.declared.cookbook.Barrier.TheVariants.{LL}
 use Rattle.barrier_placement.specs.Cookbook.{same}
 use Rattle.barrier_placement.specs.Layout.{Placed, operations, before_of, barriers_at, start, op_at}
-use Rattle.barrier_placement.proofs.Laws.Layout.{start_suc, regroup, Located, locate, fetch-over, at-barrier, at_op}
+use Rattle.barrier_placement.proofs.Laws.Layout.{start_suc, regroup, Located, locate, fetch_over, at_barrier, at_op}
 use Rattle.barrier_placement.proofs.Laws.Layout.{at_end}
 use Rattle.sheet_format.specs.Layout.{Instr, op, barrier, aim, cells, sheet, rank, has}
 use Rattle.sheet_format.specs.Items.{operation_at}
@@ -56,25 +56,25 @@ fetch_within (b ∷ bs) o is (suc j) h = fetch_within bs o is j (omega arith)
 
 module _ (r : ℕ → ℕ) where
   -- positions with barriers not counted
-  pub rank-cells : (ps : List (Placed Op)) (p j : ℕ) → j ≤ length (barriers_at ps p)
+  pub rank_cells : (ps : List (Placed Op)) (p j : ℕ) → j ≤ length (barriers_at ps p)
       → rank (cells r ps) (start ps p + j) ≡ rank (map op (operations ps)) p
-  rank-cells [] p j h = refl
-  rank-cells (s ∷ ss) zero j h = rw zero-add (rank_within s.before _ _ j h)
-  rank-cells (s ∷ ss) (suc p) j h =
-      rw (regroup (length s.before) (start ss p) j) (rank_over s.before _ _ _ ∙ ap suc (rank-cells ss p j h))
+  rank_cells [] p j h = refl
+  rank_cells (s ∷ ss) zero j h = rw zero-add (rank_within s.before _ _ j h)
+  rank_cells (s ∷ ss) (suc p) j h =
+      rw (regroup (length s.before) (start ss p) j) (rank_over s.before _ _ _ ∙ ap suc (rank_cells ss p j h))
 
-  pub rank-op : (ps : List (Placed Op)) (p : ℕ) → p < length ps → rank (cells r ps) (op_at ps p) ≡ p
-  rank-op ps p h =
-      rank-cells ps p (length (barriers_at ps p)) (le_refl _)
+  pub rank_op : (ps : List (Placed Op)) (p : ℕ) → p < length ps → rank (cells r ps) (op_at ps p) ≡ p
+  rank_op ps p h =
+      rank_cells ps p (length (barriers_at ps p)) (le_refl _)
       ∙ rank_chain (operations ps) p (omega (arith, length-map ps (λ (x : Placed Op). x.oper)))
 
-  pub ended-cells : (ps : List (Placed Op)) (p j : ℕ) → j ≤ length (barriers_at ps p)
+  pub ended_cells : (ps : List (Placed Op)) (p j : ℕ) → j ≤ length (barriers_at ps p)
       → is_none (get_elem? (cells r ps) (start ps p + j)) ≡ is_none (get_elem? (map op (operations ps)) p)
-  ended-cells [] p j h = refl
-  ended-cells (s ∷ ss) zero j h = rw zero-add (fetch_within s.before _ _ j h)
-  ended-cells (s ∷ ss) (suc p) j h =
+  ended_cells [] p j h = refl
+  ended_cells (s ∷ ss) zero j h = rw zero-add (fetch_within s.before _ _ j h)
+  ended_cells (s ∷ ss) (suc p) j h =
       rw (regroup (length s.before) (start ss p) j)
-      (ap is_none (fetch-over barrier s.before _ _ _) ∙ ended-cells ss p j h)
+      (ap is_none (fetch_over barrier s.before _ _ _) ∙ ended_cells ss p j h)
 
 -- an operation in the sheet of ps
 abbrev put : List (Placed Op) → Op → Instr
@@ -82,45 +82,45 @@ put ps o = op (aim (start ps) o)
 
 -- the p-th operation and the barriers before it
 module _ (ps : List (Placed Op)) (p : ℕ) (s : Placed Op) (e : get_elem? ps p ≡ some s) where
-  pub oper-at : get_elem? (operations ps) p ≡ some s.oper
-  oper-at = map-some (λ x. x.oper) ps p s e
+  pub oper_at : get_elem? (operations ps) p ≡ some s.oper
+  oper_at = map-some (λ x. x.oper) ps p s e
 
-  pub chain-at : get_elem? (map op (operations ps)) p ≡ some (op s.oper)
-  chain-at = map-some op (operations ps) p s.oper oper-at
+  pub chain_at_lem : get_elem? (map op (operations ps)) p ≡ some (op s.oper)
+  chain_at_lem = map-some op (operations ps) p s.oper oper_at
 
   pub barrier_at : (j : ℕ) → j < length s.before
       → get_elem? (sheet ps) (start ps p + j) ≡ some (barrier (get_or s.before j LL))
   barrier_at j h =
-      at-barrier barrier (put ps) ps p j (rw e h) ∙ ap (λ x. some (barrier (get_or (before_of x) j LL))) e
+      at_barrier barrier (put ps) ps p j (rw e h) ∙ ap (λ x. some (barrier (get_or (before_of x) j LL))) e
 
-  pub op-at : get_elem? (sheet ps) (start ps p + length s.before) ≡ some (op (aim (start ps) s.oper))
-  op-at =
+  pub op_at_lem : get_elem? (sheet ps) (start ps p + length s.before) ≡ some (op (aim (start ps) s.oper))
+  op_at_lem =
       ap (λ x. get_elem? (sheet ps) (start ps p + length (before_of x))) (sym e)
-      ∙ at_op barrier (put ps) ps p ∙ map-some (put ps) (operations ps) p s.oper oper-at
+      ∙ at_op barrier (put ps) ps p ∙ map-some (put ps) (operations ps) p s.oper oper_at
 
-  pub next-begins : start ps (suc p) ≡ suc (start ps p + length s.before)
-  next-begins = start_suc ps p (some_at ps p s s e).0 ∙ ap (λ x. suc (start ps p + length (before_of x))) e
+  pub next_begins : start ps (suc p) ≡ suc (start ps p + length s.before)
+  next_begins = start_suc ps p (some_at ps p s s e).0 ∙ ap (λ x. suc (start ps p + length (before_of x))) e
 
 module _ (ps : List (Placed Op)) where
   -- the p-th operation, by its place alone
-  pub op-fetched : (p : ℕ) → p < length ps
+  pub op_fetched : (p : ℕ) → p < length ps
       → get_elem? (sheet ps) (op_at ps p) ≡ some (op (aim (start ps) (operation_at (operations ps) p)))
-  op-fetched p h =
+  op_fetched p h =
       at_op barrier (put ps) ps p
       ∙ map-some (put ps) (operations ps) p (operation_at (operations ps) p)
       (at_some (operations ps) p (Set 0 0) (omega (arith, length-map ps (λ (x : Placed Op). x.oper))))
 
   -- each operation of the sheet stands at such a place
-  pub op-located : (x : ℕ) (o : Op) → get_elem? (sheet ps) x ≡ some (op o)
+  pub op_located : (x : ℕ) (o : Op) → get_elem? (sheet ps) x ≡ some (op o)
       → (p : ℕ) × (p < length ps) × (x ≡ op_at ps p)
-  op-located x o e = go (dec_lt f.1 (length (barriers_at ps f.0)))
+  op_located x o e = go (dec_lt f.1 (length (barriers_at ps f.0)))
     where
       f : Located ps x
       f = locate barrier (put ps) ps x (some_at (sheet ps) x (op o) (op o) e).0
 
       go : Dec (f.1 < length (barriers_at ps f.0)) → (p : ℕ) × (p < length ps) × (x ≡ op_at ps p)
       go (yes h) =
-          let b = at-barrier barrier (put ps) ps f.0 f.1 h in
+          let b = at_barrier barrier (put ps) ps f.0 f.1 h in
           let z : ◌≡◌ {A = ℕ} 0 1 = cc f.4 in
           absurd (omega arith)
       go (no h) = (f.0, f.2, omega (arith, f.3, f.4))
@@ -147,4 +147,4 @@ here ps p j le = go (get_elem? ps p) refl
         reach (yes h) = rw (barrier_at ps p s k j h) ahead
         reach (no h) =
             let all : j ≡ length s.before = omega (arith, subst (λ o. j ≤ length (before_of o)) k le) in
-            rw (all, op-at ps p s k, oper-at ps p s k) meet
+            rw (all, op_at_lem ps p s k, oper_at ps p s k) meet

@@ -89,8 +89,8 @@ module _ (s : List ℕ) (rest : Refusal) where
       pub past4 : bad_record s ≡ 0 → rest ≡ fields_then s rest
       past4 z = passes (bad_record s) BadRecord rest z ∙ past3
 
-  pub fields-then : Fielded s → fields_then s rest ≡ rest
-  fields-then f =
+  pub fields_then_lem : Fielded s → fields_then s rest ≡ rest
+  fields_then_lem f =
       let sized = f.sized in
       sym (past4 (omega arith) (ap not f.header) (ap not (eq-eqb _ _ sized)) f.records)
 
@@ -106,36 +106,36 @@ module _ (s : List ℕ) where
   Refuses =
       (0 < number_of (fields_then s Accepted)) × ((rest : Refusal) → fields_then s rest ≡ fields_then s Accepted)
 
-  refuses-by : {r : Refusal} → 0 < number_of r → ((rest : Refusal) → r ≡ fields_then s rest) → Fielded s ⊎ Refuses
-  refuses-by some is = inr (omega (arith, ap number_of (is Accepted)), λ rest. sym (is rest) ∙ is Accepted)
+  refuses_by : {r : Refusal} → 0 < number_of r → ((rest : Refusal) → r ≡ fields_then s rest) → Fielded s ⊎ Refuses
+  refuses_by some is = inr (omega (arith, ap number_of (is Accepted)), λ rest. sym (is rest) ∙ is Accepted)
 
-  by-fields : Fielded s ⊎ Refuses
-  by-fields =
+  by_fields : Fielded s ⊎ Refuses
+  by_fields =
       go (dec_lt (length s) 16) (not (header_rule s)) refl (not (eqb (length s) (16 + 12 * record_count s))) refl
       (ℕ_discrete (bad_record s) 0)
     where
       go : Dec (length s < 16) → (b : Bool) → not (header_rule s) ≡ b
           → (d : Bool) → not (eqb (length s) (16 + 12 * record_count s)) ≡ d → Dec (bad_record s ≡ 0)
           → Fielded s ⊎ Refuses
-      go (yes h) b h2 d h3 e = refuses-by (omega arith) (λ rest. refuses1 s rest h)
-      go (no h) true h2 d h3 e = refuses-by (omega arith) (λ rest. refuses2 s rest (omega arith) h2)
-      go (no h) false h2 true h3 e = refuses-by (omega arith) (λ rest. refuses3 s rest (omega arith) h2 h3)
+      go (yes h) b h2 d h3 e = refuses_by (omega arith) (λ rest. refuses1 s rest h)
+      go (no h) true h2 d h3 e = refuses_by (omega arith) (λ rest. refuses2 s rest (omega arith) h2)
+      go (no h) false h2 true h3 e = refuses_by (omega arith) (λ rest. refuses3 s rest (omega arith) h2 h3)
       go (no h) false h2 false h3 (no e) =
-          refuses-by (omega arith) (λ rest. refuses4 s rest (omega arith) h2 h3 refl e)
+          refuses_by (omega arith) (λ rest. refuses4 s rest (omega arith) h2 h3 refl e)
       go (no h) false h2 false h3 (yes e) =
           inl (record { header = not-false _ h2; sized = eqb-true _ _ (not-false _ h3); records = e })
 
-  pub fields-passed : number_of (fields_then s Accepted) ≡ 0 → Fielded s
-  fields-passed z = ⊎_elim (λ f. f) (λ r. absurd (omega arith)) by-fields
+  pub fields_passed : number_of (fields_then s Accepted) ≡ 0 → Fielded s
+  fields_passed z = ⊎_elim (λ f. f) (λ r. absurd (omega arith)) by_fields
 
-  pub fields-kept : Fielded s → refusal_of s ≡ linked_refusal s
-  fields-kept f = refusal_is ∙ fields-then s (linked_refusal s) f
+  pub fields_kept : Fielded s → refusal_of s ≡ linked_refusal s
+  fields_kept f = refusal_is ∙ fields_then_lem s (linked_refusal s) f
 
-  pub fields-refused : ¬ number_of (fields_then s Accepted) ≡ 0 → refusal_of s ≡ fields_then s Accepted
-  fields-refused some =
-      ⊎_elim (λ f. absurd (some (ap number_of (fields-then s Accepted f)))) (λ r. refusal_is ∙ r.1 (linked_refusal s))
-      by-fields
+  pub fields_refused : ¬ number_of (fields_then s Accepted) ≡ 0 → refusal_of s ≡ fields_then s Accepted
+  fields_refused some =
+      ⊎_elim (λ f. absurd (some (ap number_of (fields_then_lem s Accepted f)))) (λ r. refusal_is ∙ r.1 (linked_refusal s))
+      by_fields
 
   -- a refused file is not accepted
-  pub not-accepted : {r : Refusal} → r ≡ refusal_of s → 0 < number_of r → ¬ verdict s ≡ accepted (program_of s)
-  not-accepted e h v = omega (arith, ap number_of (e ∙ (accepted_as s (program_of s) v).0))
+  pub not_accepted : {r : Refusal} → r ≡ refusal_of s → 0 < number_of r → ¬ verdict s ≡ accepted (program_of s)
+  not_accepted e h v = omega (arith, ap number_of (e ∙ (accepted_as s (program_of s) v).0))

@@ -11,11 +11,11 @@ use Rattle.file_wellformed.proofs.Lawful.{accepted_lawful}
 use Rattle.sheet_format.specs.declared.WriteResult.TheVariants.{Wrote, Refuses}
 use Rattle.sheet_format.specs.declared.Level.TheVariants.{Level0}
 use Rattle.sheet_format.specs.Bytes.{over, sheet_bytes, lower_by}
-use Rattle.sheet_format.proofs.Laws.Loaded.{header-by, answered-by}
-use Rattle.sheet_format.proofs.Laws.Written.{written_all, short-untouched}
-use Rattle.sheet_format.proofs.Sizes.{sheet-small}
-use Rattle.file_rows.proofs.Laws.Holds.{part-from, part_count}
-use Rattle.file_rows.proofs.Laws.Whole.{chains-size}
+use Rattle.sheet_format.proofs.Laws.Loaded.{header_by_lem, answered_by}
+use Rattle.sheet_format.proofs.Laws.Written.{written_all, short_untouched}
+use Rattle.sheet_format.proofs.Sizes.{sheet_small}
+use Rattle.file_rows.proofs.Laws.Holds.{part_from, part_count}
+use Rattle.file_rows.proofs.Laws.Whole.{chains_size}
 use Rattle.file_accept.specs.Size.{size_in}
 
 -- rows that begin with an accepted file's chains
@@ -27,13 +27,13 @@ module _
     size_is =
         omega (
           arith,
-          part-from s (header-by s ok) rows own front 3 (omega arith),
-          part_count s (header-by s ok) rows own front 3 (omega arith),
-          chains-size s (header-by s ok) refl refl refl refl,
+          part_from s (header_by_lem s ok) rows own front 3 (omega arith),
+          part_count s (header_by_lem s ok) rows own front 3 (omega arith),
+          chains_size s (header_by_lem s ok) refl refl refl refl,
         )
 
     pub size_small : size_in rows ≤ 2064
-    size_small = omega (arith, size_is, sheet-small Level0 (program_of s) (accepted_lawful s (program_of s) ok))
+    size_small = omega (arith, size_is, sheet_small Level0 (program_of s) (accepted_lawful s (program_of s) ok))
 
     -- the rows have their own length
     pub rows_room : length own ≡ 2064 → length rows ≡ 2064
@@ -49,19 +49,19 @@ module _
         )
 
     module _ {size : ℕ} (e : size ≡ size_in rows) where
-      pub part-counted : length own ≡ 2064 → size ≡ length (take size rows)
-      part-counted h = sym (length-take-le size rows (omega (arith, rows_room h, size_small)))
+      pub part_counted : length own ≡ 2064 → size ≡ length (take size rows)
+      part_counted h = sym (length-take-le size rows (omega (arith, rows_room h, size_small)))
 
-      pub answer-short : (buffer : List ℕ) → length buffer < size
+      pub answer_short : (buffer : List ℕ) → length buffer < size
           → (Refuses 9 0, buffer) ≡ lower_by Level0 (verdict s) buffer
-      answer-short buffer h =
-          sym (short-untouched (sheet_bytes Level0 (program_of s)) buffer (omega (arith, size_is)))
-          ∙ answered-by s ok (sheet_bytes Level0) buffer
+      answer_short buffer h =
+          sym (short_untouched (sheet_bytes Level0 (program_of s)) buffer (omega (arith, size_is)))
+          ∙ answered_by s ok (sheet_bytes Level0) buffer
 
-      pub answer-copied : (buffer : List ℕ) {after : List ℕ} → size ≤ length buffer
+      pub answer_copied : (buffer : List ℕ) {after : List ℕ} → size ≤ length buffer
           → after ≡ take (length (take size rows)) (take size rows) ++ drop (length (take size rows)) buffer
           → (Wrote size, after) ≡ lower_by Level0 (verdict s) buffer
-      answer-copied buffer {after} room copied =
+      answer_copied buffer {after} room copied =
           let bytes = sheet_bytes Level0 (program_of s) in
           let whole : size ≡ length bytes = e ∙ size_is in
           let part : take size rows ≡ bytes =
@@ -71,4 +71,4 @@ module _
           ∙ ap (λ x. x ++ drop (length bytes) buffer) (take_all (length bytes) bytes (omega arith)) in
           (λ i. (Wrote (whole i), same i))
           ∙ sym (written_all bytes buffer (omega arith))
-          ∙ answered-by s ok (sheet_bytes Level0) buffer
+          ∙ answered_by s ok (sheet_bytes Level0) buffer

@@ -9,37 +9,37 @@ use Rattle.file_format.specs.Fields.{record_count}
 use Rattle.file_format.specs.Structured.{Structured}
 use Rattle.file_format.specs.Accepted.{program_of}
 use Rattle.file_format.proofs.Laws.Lanes.{lane_records as own_lane}
-use Rattle.file_format.proofs.Laws.Rules.{four_lanes}
+use Rattle.file_format.proofs.Laws.Rules.{four_lanes_lem}
 use Rattle.file_format.proofs.Laws.Stored.{lane_count_lem, lanes_paired}
 use Rattle.file_chains.specs.Ordered.{begin_of, count_of, records_in, Ordered}
 use Rattle.file_chains.proofs.Laws.Places.{lane_records}
 use Rattle.sheet_format.specs.Bytes.{joined}
 use Rattle.sheet_format.specs.Put.{in_turn}
-use Rattle.sheet_format.proofs.Laws.Turn.{turn_same, turn-all}
+use Rattle.sheet_format.proofs.Laws.Turn.{turn_same, turn_all}
 use Rattle.file_accept.specs.Order.{lane_order}
 
 module _ {s order place ends : List ℕ} (st : Structured s) (o : Ordered s order place ends) where
   -- what stands before lane t
-  front-in-turn : (t : ℕ) → t ≤ 4 → take (begin_of ends t) order ≡ in_turn (records_in order ends) t
+  front_in_turn : (t : ℕ) → t ≤ 4 → take (begin_of ends t) order ≡ in_turn (records_in order ends) t
   unfolding in_turn
-  front-in-turn zero h = refl
-  front-in-turn (suc t) h =
+  front_in_turn zero h = refl
+  front_in_turn (suc t) h =
       let end : get_or ends t 0 ≡ begin_of ends t + count_of ends t = omega (arith, o.rising t (omega arith)) in
       ap (λ n. take n order) end
       ∙ take-add (begin_of ends t) (count_of ends t) order
-      ∙ ap (λ x. x ++ records_in order ends t) (front-in-turn t (omega arith))
+      ∙ ap (λ x. x ++ records_in order ends t) (front_in_turn t (omega arith))
 
   few : length (program_of s).records ≤ 4
   few =
-      let four = four_lanes s st.fields.header in
+      let four = four_lanes_lem s st.fields.header in
       omega (arith, lane_count_lem s four, lanes_paired s)
 
-  pub front-is-lane-order : take (record_count s) order ≡ lane_order (program_of s)
-  front-is-lane-order =
+  pub front_is_lane_order : take (record_count s) order ≡ lane_order (program_of s)
+  front_is_lane_order =
       let lanes = (program_of s).records in
       ap (λ n. take n order) (sym o.all)
-      ∙ front-in-turn 4 (omega arith)
+      ∙ front_in_turn 4 (omega arith)
       ∙ turn_same (records_in order ends) (λ t. get_or lanes t []) 4
       (λ t h. lane_records o st.chains t h ∙ sym (own_lane s st.fields.header t h))
-      ∙ turn-all (λ x. x) [] refl lanes 4 few
+      ∙ turn_all (λ x. x) [] refl lanes 4 few
       ∙ ap joined (map-id lanes)

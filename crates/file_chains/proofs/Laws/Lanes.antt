@@ -12,11 +12,11 @@ use Rattle.laws.proofs.Lists.{getD-replicate-all}
 use Rattle.file_format.specs.Fields.{record_count, head}
 use Rattle.file_format.specs.Search.{lowest}
 use Rattle.file_format.specs.Linkage.{chain, linkage_from, bad_linkage}
-use Rattle.file_format.proofs.Laws.Linkage.{linkage-on, linkage-end}
+use Rattle.file_format.proofs.Laws.Linkage.{linkage_on, linkage_end}
 use Rattle.file_chains.specs.Ordered.{begin_of, records_in, Ordered}
 use Rattle.file_chains.specs.Walks.{met, fronts, Filling, LaneWalked}
-use Rattle.file_chains.proofs.Laws.Tally.{tally_none, up_at, none_down, all_up, met_none, met-given}
-use Rattle.file_chains.proofs.Laws.Walks.{filling-count}
+use Rattle.file_chains.proofs.Laws.Tally.{tally_none, up_at, none_down, all_up, met_none, met_given}
+use Rattle.file_chains.proofs.Laws.Walks.{filling_count}
 
 -- t lanes were walked, and left k records in the order
 pub record Linking (s order place ends : List ℕ) (k t : ℕ) : Type 0 where
@@ -61,11 +61,11 @@ linking_start s order place few room room' blank =
 
 module _ {s order place ends : List ℕ} {k t : ℕ} (l : Linking s order place ends k t) where
   -- lane t was walked
-  pub linking-on : {order' place' : List ℕ} {twice n : ℕ} → t < 4
+  pub linking_on : {order' place' : List ℕ} {twice n : ℕ} → t < 4
       → LaneWalked s (head s t) k order place twice n order' place' → twice ≡ 0
       → Linking s order' place' (set ends t n) n (t + 1)
   unfolding fronts
-  linking-on {order'} {place'} {twice} {n} more w once =
+  linking_on {order'} {place'} {twice} {n} more w once =
       let front : take n order' ≡ fronts s (suc t) =
       w.behind once ∙ ap (λ x. x ++ chain s 257 (head s t)) l.front in
       record {
@@ -75,14 +75,14 @@ module _ {s order place ends : List ℕ} {k t : ℕ} (l : Linking s order place 
         upto = omega arith;
         front = rw add-one front;
         end_at = λ u h. end_on front u (dec_le t u) (omega arith);
-        answer = linkage-on s (met place) t 4 more w.flags once l.answer;
+        answer = linkage_on s (met place) t 4 more w.flags once l.answer;
       }
     where
       end_on : take n order' ≡ fronts s (suc t) → (u : ℕ) → Dec (t ≤ u) → u ≤ t
           → get_or (set ends t n) u 0 ≡ length (fronts s (suc u))
       end_on front u (yes a) b =
           let same : u ≡ t = omega arith in
-          let inside = filling-count s order' place' n w.filling in
+          let inside = filling_count s order' place' n w.filling in
           rw (same, get_or-set_same ends t n 0 (omega (arith, l.four)), ← front)
           (omega (arith, length-take n order', w.filling.order_room, inside, l.few))
       end_on front u (no a) b =
@@ -117,52 +117,52 @@ lane_among s (suc t) u rest h = go (dec_le t u) (lane_among s t u (chain s 257 (
 
 -- all four lanes were walked
 module _ {s order place ends : List ℕ} {k t : ℕ} (l : Linking s order place ends k t) (all : 4 ≤ t) where
-  pub linking-end : lowest (λ i. not (get_or (met place) i false)) 1 (record_count s) ≡ bad_linkage s
-  linking-end = linkage-end s (met place) t 4 all l.answer
+  pub linking_end : lowest (λ i. not (get_or (met place) i false)) 1 (record_count s) ≡ bad_linkage s
+  linking_end = linkage_end s (met place) t 4 all l.answer
 
   -- as many records as the file has
-  pub linking-full : k ≡ record_count s → 0 ≡ bad_linkage s
-  linking-full e = sym (all_up (met place) 1 (record_count s) (l.filling.counted ∙ e)) ∙ linking-end
+  pub linking_full : k ≡ record_count s → 0 ≡ bad_linkage s
+  linking_full e = sym (all_up (met place) 1 (record_count s) (l.filling.counted ∙ e)) ∙ linking_end
 
 -- and no record is left over
 module _ {s order place ends : List ℕ} {k t : ℕ} (l : Linking s order place ends k t) (all : 4 ≤ t)
     (fine : bad_linkage s ≡ 0) where
   none : lowest (λ i. not (get_or (met place) i false)) 1 (record_count s) ≡ 0
-  none = linking-end l all ∙ fine
+  none = linking_end l all ∙ fine
 
-  four-walked : t ≡ 4
-  four-walked = omega (arith, l.upto)
+  four_walked : t ≡ 4
+  four_walked = omega (arith, l.upto)
 
   whole : k ≡ record_count s
   whole = sym l.filling.counted ∙ none_down (met place) (record_count s) none
 
   end_of : (u : ℕ) → u < 4 → get_or ends u 0 ≡ length (fronts s (suc u))
-  end_of u h = l.end_at u (omega (arith, four-walked))
+  end_of u h = l.end_at u (omega (arith, four_walked))
 
-  begin-of : (u : ℕ) → u < 4 → begin_of ends u ≡ length (fronts s u)
+  begin_of_lem : (u : ℕ) → u < 4 → begin_of ends u ≡ length (fronts s u)
   unfolding fronts
-  begin-of zero h = refl
-  begin-of (suc u) h = end_of u (omega arith)
+  begin_of_lem zero h = refl
+  begin_of_lem (suc u) h = end_of u (omega arith)
 
   split : order ≡ fronts s 4 ++ drop k order
   split =
       sym (take-append-drop k order)
-      ∙ ap (λ x. x ++ drop k order) (l.front ∙ ap (fronts s) four-walked)
+      ∙ ap (λ x. x ++ drop k order) (l.front ∙ ap (fronts s) four_walked)
 
   lane_of : (u : ℕ) → u < 4 → records_in order ends u ≡ chain s 257 (head s u)
   lane_of u h =
-      rw (end_of u h, begin-of u h)
+      rw (end_of u h, begin_of_lem u h)
       (ap (part s u) split ∙ lane_among s 4 u (drop k order) h)
 
-  rising-of : (u : ℕ) → u < 4 → begin_of ends u ≤ get_or ends u 0
+  rising_of : (u : ℕ) → u < 4 → begin_of ends u ≤ get_or ends u 0
   unfolding fronts
-  rising-of u h = omega (arith, begin-of u h, end_of u h, length-append (fronts s u) (chain s 257 (head s u)))
+  rising_of u h = omega (arith, begin_of_lem u h, end_of u h, length-append (fronts s u) (chain s 257 (head s u)))
 
   every_of : (i : ℕ) → 1 ≤ i → i ≤ record_count s
       → (1 ≤ get_or place i 0) × (get_or place i 0 ≤ record_count s) × (get_or order (get_or place i 0 - 1) 0 ≡ i)
   every_of i lo hi =
       let up : 1 ≤ get_or place i 0 =
-      met-given place i (omega (arith, l.few)) (up_at (met place) (record_count s) none i lo (omega arith)) in
+      met_given place i (omega (arith, l.few)) (up_at (met place) (record_count s) none i lo (omega arith)) in
       let at = l.filling.every i up in
       (up, omega (arith, at.0, whole), at.1)
 
@@ -172,8 +172,8 @@ module _ {s order place ends : List ℕ} {k t : ℕ} (l : Linking s order place 
         order_room = l.filling.order_room;
         place_room = l.filling.place_room;
         four = l.four;
-        rising = rising-of;
-        all = end_of 3 (omega arith) ∙ sym (ap length (l.front ∙ ap (fronts s) four-walked))
+        rising = rising_of;
+        all = end_of 3 (omega arith) ∙ sym (ap length (l.front ∙ ap (fronts s) four_walked))
             ∙ length-take k order ∙ sizes;
         lanes = lane_of;
         named = λ j h. l.filling.named j (omega (arith, whole));

@@ -13,7 +13,7 @@ use Rattle.file_format.specs.Targets.{member, unreachable_target}
 use Rattle.file_format.proofs.Laws.Targets.{member_position, at_member}
 use Rattle.file_chains.specs.Ordered.{begin_of, count_of, records_in, Ordered}
 use Rattle.file_chains.specs.Reach.{end_of, reached}
-use Rattle.file_chains.proofs.Laws.Places.{behind, behind-length, behind-at, lane_at_lem, lane-behind, found-place}
+use Rattle.file_chains.proofs.Laws.Places.{behind, behind_length, behind_at, lane_at_lem, lane_behind, found_place}
 
 module _ {s order place ends : List ℕ} (o : Ordered s order place ends) where
   -- the lane of place j
@@ -47,20 +47,20 @@ module _ {s order place ends : List ℕ} (o : Ordered s order place ends) where
           lane_at_lem o t below p inside ∙ ap (λ n. get_or order n 0) back ∙ (o.every i lo hi).2
 
       rest : behind order ends t p ≡ chain s 64 (next s i)
-      rest = lane-behind o short t below p inside ∙ ap (λ r. chain s 64 (next s r)) here
+      rest = lane_behind o short t below p inside ∙ ap (λ r. chain s 64 (next s r)) here
 
       -- a place of the lane behind record i has a record that is behind it
-      behind-by : get_or place i 0 < get_or place x 0 → get_or place x 0 ≤ get_or ends t 0
+      behind_by : get_or place i 0 < get_or place x 0 → get_or place x 0 ≤ get_or ends t 0
           → member x (behind order ends t p) ≡ true
-      behind-by more less =
+      behind_by more less =
           at_member x (behind order ends t p) q inside'
-          (behind-at o short t below p inside q inside' ∙ ap (λ n. get_or order n 0) back ∙ (o.every x lo' hi').2)
+          (behind_at o short t below p inside q inside' ∙ ap (λ n. get_or order n 0) back ∙ (o.every x lo' hi').2)
         where
           q : ℕ
           q = get_or place x 0 - 1 - begin_of ends t - (p + 1)
 
           inside' : q < length (behind order ends t p)
-          inside' = omega (arith, behind-length o short t below p inside)
+          inside' = omega (arith, behind_length o short t below p inside)
 
           back : begin_of ends t + (p + 1 + q) ≡ get_or place x 0 - 1
           back = omega arith
@@ -68,34 +68,34 @@ module _ {s order place ends : List ℕ} (o : Ordered s order place ends) where
       reached_by : (b : Bool) → member x (behind order ends t p) ≡ b → Dec (get_or place x 0 ≤ get_or place i 0)
           → Dec (get_or place x 0 ≤ get_or ends t 0) → reached ends (get_or place i 0) (get_or place x 0) ≡ b
       reached_by true e d d' =
-          let at = found-place o short t below p inside x (member_position x (behind order ends t p) e) in
+          let at = found_place o short t below p inside x (member_position x (behind order ends t p) e) in
           let first = member_position x (behind order ends t p) e in
           rw (lt-leb (get_or place x 0) (get_or place i 0) (omega arith), end)
-          (le-leb (get_or place x 0) (get_or ends t 0) (omega (arith, behind-length o short t below p inside)))
+          (le-leb (get_or place x 0) (get_or ends t 0) (omega (arith, behind_length o short t below p inside)))
       reached_by false e (yes l) d' = rw (le-leb (get_or place x 0) (get_or place i 0) l) refl
       reached_by false e (no l) (no l') =
           rw (lt-leb (get_or place x 0) (get_or place i 0) (omega arith), end)
           (lt-leb (get_or place x 0) (get_or ends t 0) (omega arith))
-      reached_by false e (no l) (yes l') = absurd (false≢true (sym e ∙ behind-by (omega arith) l'))
+      reached_by false e (no l) (yes l') = absurd (false≢true (sym e ∙ behind_by (omega arith) l'))
 
-      reached-in : reached ends (get_or place i 0) (get_or place x 0) ≡ member x (chain s 64 (next s i))
-      reached-in =
+      reached_in : reached ends (get_or place i 0) (get_or place x 0) ≡ member x (chain s 64 (next s i))
+      reached_in =
           reached_by (member x (behind order ends t p)) refl (dec_le (get_or place x 0) (get_or place i 0))
           (dec_le (get_or place x 0) (get_or ends t 0))
           ∙ ap (member x) rest
 
-    reached-as : reached ends (get_or place i 0) (get_or place x 0) ≡ member x (chain s 64 (next s i))
-    reached-as =
+    reached_as : reached ends (get_or place i 0) (get_or place x 0) ≡ member x (chain s 64 (next s i))
+    reached_as =
         let at = o.every i lo hi in
         let lane = in_lane (get_or place i 0) at.0 at.1 in
-        reached-in lane.0 (get_or place i 0 - 1 - begin_of ends lane.0) lane.1
+        reached_in lane.0 (get_or place i 0 - 1 - begin_of ends lane.0) lane.1
         (omega (arith, lane.2, lane.3)) (omega (arith, lane.2)) lane.4
 
   -- the test of a target that is not zero
-  pub strays-as : chain_too_long s ≡ 0 → (i : ℕ) → 1 ≤ i → i ≤ record_count s → (target s i ≡ 0 → ⊥)
+  pub strays_as : chain_too_long s ≡ 0 → (i : ℕ) → 1 ≤ i → i ≤ record_count s → (target s i ≡ 0 → ⊥)
       → target s i ≤ record_count s
       → not (reached ends (get_or place i 0) (get_or place (target s i) 0)) ≡ unreachable_target s i
   unfolding unreachable_target
-  strays-as short i lo hi some hi' =
+  strays_as short i lo hi some hi' =
       rw (ne_eqb (target s i) 0 some)
-      (ap not (reached-as short i (target s i) lo hi (omega arith) hi'))
+      (ap not (reached_as short i (target s i) lo hi (omega arith) hi'))

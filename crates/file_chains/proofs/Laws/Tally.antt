@@ -66,18 +66,18 @@ all_up flags i (suc k) e = go (get_or flags i false) refl (tally_le flags (suc i
 
 -- one flag more
 module _ (flags : List Bool) (r : ℕ) (room : r < length flags) (down : get_or flags r false ≡ false) where
-  tally-past : (i k : ℕ) → r < i → tally (set flags r true) i k ≡ tally flags i k
+  tally_past : (i k : ℕ) → r < i → tally (set flags r true) i k ≡ tally flags i k
   unfolding tally
-  tally-past i zero h = refl
-  tally-past i (suc k) h =
+  tally_past i zero h = refl
+  tally_past i (suc k) h =
       let same : bit (get_or (set flags r true) i false) ≡ bit (get_or flags i false) =
       ap bit (get_or-set_other flags r i true false (λ e. omega arith)) in
-      omega (arith, tally-past (suc i) k (omega arith))
+      omega (arith, tally_past (suc i) k (omega arith))
 
-  pub tally-up : (i k : ℕ) → i ≤ r → r < i + k → tally (set flags r true) i k ≡ suc (tally flags i k)
+  pub tally_up : (i k : ℕ) → i ≤ r → r < i + k → tally (set flags r true) i k ≡ suc (tally flags i k)
   unfolding tally
-  tally-up i zero lo hi = absurd (omega arith)
-  tally-up i (suc k) lo hi = go (dec_le r i) (tally-up (suc i) k)
+  tally_up i zero lo hi = absurd (omega arith)
+  tally_up i (suc k) lo hi = go (dec_le r i) (tally_up (suc i) k)
     where
       go : Dec (r ≤ i)
           → (suc i ≤ r → r < suc i + k → tally (set flags r true) (suc i) k ≡ suc (tally flags (suc i) k))
@@ -89,7 +89,7 @@ module _ (flags : List Bool) (r : ℕ) (room : r < length flags) (down : get_or 
           let is : bit (get_or (set flags r true) i false) ≡ 1 =
           ap (λ j. bit (get_or (set flags r true) j false)) same
           ∙ ap bit (get_or-set_same flags r true false room) in
-          omega (arith, tally-past (suc i) k (omega arith))
+          omega (arith, tally_past (suc i) k (omega arith))
       go (no l) ih =
           let same : bit (get_or (set flags r true) i false) ≡ bit (get_or flags i false) =
           ap bit (get_or-set_other flags r i true false (λ e. omega arith)) in
@@ -121,14 +121,14 @@ module _ (place : List ℕ) (i : ℕ) (below : i < 257) where
       get_or-map given (padded place) i 0
       ∙ ap given (get_or-take 257 (place ++ replicate 257 0) i 0 below ∙ padded_at place 257 i)
 
-  pub met-up : (get_or place i 0 ≡ 0 → ⊥) → get_or (met place) i false ≡ true
-  met-up h = met_at ∙ ap not (ne_eqb (get_or place i 0) 0 h)
+  pub met_up : (get_or place i 0 ≡ 0 → ⊥) → get_or (met place) i false ≡ true
+  met_up h = met_at ∙ ap not (ne_eqb (get_or place i 0) 0 h)
 
-  pub met-down : get_or place i 0 ≡ 0 → get_or (met place) i false ≡ false
-  met-down h = met_at ∙ ap not (eq-eqb (get_or place i 0) 0 h)
+  pub met_down : get_or place i 0 ≡ 0 → get_or (met place) i false ≡ false
+  met_down h = met_at ∙ ap not (eq-eqb (get_or place i 0) 0 h)
 
-  pub met-given : get_or (met place) i false ≡ true → 1 ≤ get_or place i 0
-  met-given h = go (dec_le 1 (get_or place i 0))
+  pub met_given : get_or (met place) i false ≡ true → 1 ≤ get_or place i 0
+  met_given h = go (dec_le 1 (get_or place i 0))
     where
       go : Dec (1 ≤ get_or place i 0) → 1 ≤ get_or place i 0
       go (yes l) = l
@@ -137,9 +137,9 @@ module _ (place : List ℕ) (i : ℕ) (below : i < 257) where
           absurd (eqb-false (get_or place i 0) 0 some (omega arith))
 
   -- one record more
-  pub met-set : (v : ℕ) → i < length place → 1 ≤ v → met (set place i v) ≡ set (met place) i true
+  pub met_set : (v : ℕ) → i < length place → 1 ≤ v → met (set place i v) ≡ set (met place) i true
   unfolding met
-  met-set v room h =
+  met_set v room h =
       ap (λ l. map given (take 257 l)) (sym (set-append_left place (replicate 257 0) i v room))
       ∙ ap (map given) (take-set-lt 257 (place ++ replicate 257 0) i v below)
       ∙ map_set given (padded place) i v
@@ -150,4 +150,4 @@ pub met_none : (place : List ℕ) → ((i : ℕ) → get_or place i 0 ≡ 0) →
 met_none place none =
     ext_get_or false (met place) (replicate 257 false) (met_length place ∙ sym (length-replicate {A = Bool} 257 false))
     (λ i h. let below : i < 257 = omega (arith, met_length place) in
-    met-down place i below (none i) ∙ sym (get_or-replicate {A = Bool} 257 i false false below))
+    met_down place i below (none i) ∙ sym (get_or-replicate {A = Bool} 257 i false false below))

@@ -11,36 +11,36 @@ use Rattle.file_format.specs.Fields.{record_count, next}
 use Rattle.file_format.specs.Rules.{bad_record}
 use Rattle.file_format.specs.Linkage.{chain, walk_of}
 use Rattle.file_format.proofs.Laws.Rules.{next_small}
-use Rattle.file_format.proofs.Laws.Linkage.{walk_of_here, walk_of_on, walk-stop, walk-on}
+use Rattle.file_format.proofs.Laws.Linkage.{walk_of_here, walk_of_on, walk_stop, walk_on}
 use Rattle.file_chains.specs.Walks.{met, tally, Filling, LaneWalked}
-use Rattle.file_chains.proofs.Laws.Tally.{tally_le, tally-up, met_length, met-up, met-down, met-set}
+use Rattle.file_chains.proofs.Laws.Tally.{tally_le, tally_up, met_length, met_up, met_down, met_set}
 
 module _ (s order place : List ℕ) (n : ℕ) (f : Filling s order place n) where
   -- the order has at most the file's records
-  pub filling-count : n ≤ record_count s
-  filling-count = omega (arith, f.counted, tally_le (met place) 1 (record_count s))
+  pub filling_count : n ≤ record_count s
+  filling_count = omega (arith, f.counted, tally_le (met place) 1 (record_count s))
 
   -- a record r that has no place yet
   module _ (r : ℕ) (few : record_count s ≤ 256) (lo : 1 ≤ r) (hi : r ≤ record_count s) (none : get_or place r 0 ≡ 0) where
-    counted-on : tally (met (set place r (n + 1))) 1 (record_count s) ≡ n + 1
-    counted-on =
+    counted_on : tally (met (set place r (n + 1))) 1 (record_count s) ≡ n + 1
+    counted_on =
         let below : r < 257 = omega arith in
-        ap (λ l. tally l 1 (record_count s)) (met-set place r below (n + 1) (omega (arith, f.place_room)) (omega arith))
-        ∙ tally-up (met place) r (omega (arith, met_length place)) (met-down place r below none)
+        ap (λ l. tally l 1 (record_count s)) (met_set place r below (n + 1) (omega (arith, f.place_room)) (omega arith))
+        ∙ tally_up (met place) r (omega (arith, met_length place)) (met_down place r below none)
         1 (record_count s) lo (omega arith)
         ∙ ap suc f.counted ∙ sym (add-one n)
 
-    pub filling-less : n < record_count s
-    filling-less = omega (arith, counted-on, tally_le (met (set place r (n + 1))) 1 (record_count s))
+    pub filling_less : n < record_count s
+    filling_less = omega (arith, counted_on, tally_le (met (set place r (n + 1))) 1 (record_count s))
 
     put : get_or (set order n r) n 0 ≡ r
-    put = get_or-set_same order n r 0 (omega (arith, f.order_room, filling-less))
+    put = get_or-set_same order n r 0 (omega (arith, f.order_room, filling_less))
 
     kept : (j : ℕ) → j < n → get_or (set order n r) j 0 ≡ get_or order j 0
     kept j h = get_or-set_other order n j r 0 (λ e. omega arith)
 
-    named-on : (j : ℕ) → j < n + 1 → (1 ≤ get_or (set order n r) j 0) × (get_or (set order n r) j 0 ≤ record_count s)
-    named-on j h = go (dec_le n j)
+    named_on : (j : ℕ) → j < n + 1 → (1 ≤ get_or (set order n r) j 0) × (get_or (set order n r) j 0 ≤ record_count s)
+    named_on j h = go (dec_le n j)
       where
         go : Dec (n ≤ j) → (1 ≤ get_or (set order n r) j 0) × (get_or (set order n r) j 0 ≤ record_count s)
         go (yes l) =
@@ -60,10 +60,10 @@ module _ (s order place : List ℕ) (n : ℕ) (f : Filling s order place n) wher
             let apart : get_or order j 0 ≡ r → ⊥ = λ e. omega (arith, was, ap (λ x. get_or place x 0) e) in
             rw (kept j (omega arith)) (get_or-set_other place r (get_or order j 0) (n + 1) 0 apart ∙ was)
 
-    every-on : (i : ℕ) → 1 ≤ get_or (set place r (n + 1)) i 0
+    every_on : (i : ℕ) → 1 ≤ get_or (set place r (n + 1)) i 0
         → (get_or (set place r (n + 1)) i 0 ≤ n + 1)
         × (get_or (set order n r) (get_or (set place r (n + 1)) i 0 - 1) 0 ≡ i)
-    every-on i up = go (ℕ_discrete i r)
+    every_on i up = go (ℕ_discrete i r)
       where
         go : Dec (i ≡ r) → (get_or (set place r (n + 1)) i 0 ≤ n + 1)
             × (get_or (set order n r) (get_or (set place r (n + 1)) i 0 - 1) 0 ≡ i)
@@ -75,15 +75,15 @@ module _ (s order place : List ℕ) (n : ℕ) (f : Filling s order place n) wher
             let old = f.every i (omega arith) in
             rw was (omega (arith, old.0), kept (get_or place i 0 - 1) (omega (arith, old.0)) ∙ old.1)
 
-    pub filling-on : Filling s (set order n r) (set place r (n + 1)) (n + 1)
-    filling-on =
+    pub filling_on : Filling s (set order n r) (set place r (n + 1)) (n + 1)
+    filling_on =
         record {
           order_room = omega (arith, length-set order n r, f.order_room);
           place_room = omega (arith, length-set place r (n + 1), f.place_room);
-          counted = counted-on;
-          named = named-on;
+          counted = counted_on;
+          named = named_on;
           placed = placed_on;
-          every = every-on;
+          every = every_on;
         }
 
 -- The walk from record h on, which found k records in the order, is at record r and has n there: the rest of the walk
@@ -117,61 +117,61 @@ walking_start s h k order place hi few keeps f =
 
 module _ {s : List ℕ} {h k : ℕ} {order₀ place₀ order place : List ℕ} {r n : ℕ}
     (w : Walking s h k order₀ place₀ order place r n) where
-  pub walking-count : n ≤ 256
-  walking-count = omega (arith, w.few, filling-count s order place n w.filling)
+  pub walking_count : n ≤ 256
+  walking_count = omega (arith, w.few, filling_count s order place n w.filling)
 
-  pub walking-stop : r ≡ 0 → LaneWalked s h k order₀ place₀ 0 n order place
+  pub walking_stop : r ≡ 0 → LaneWalked s h k order₀ place₀ 0 n order place
   unfolding walk_of
-  walking-stop z =
+  walking_stop z =
       record {
-        flags = walk-stop (walk_of (met place)) s (257 - (n - k)) r z w.rest;
+        flags = walk_stop (walk_of (met place)) s (257 - (n - k)) r z w.rest;
         filling = w.filling;
         behind = λ e. sym (append-nil (take n order))
-            ∙ walk-stop (λ l. take n order ++ l) s (257 - (n - k)) r z w.records;
+            ∙ walk_stop (λ l. take n order ++ l) s (257 - (n - k)) r z w.records;
       }
 
   module _ (some : r ≡ 0 → ⊥) where
-    pub walking-twice : (get_or place r 0 ≡ 0 → ⊥) → LaneWalked s h k order₀ place₀ r n order place
-    walking-twice given =
+    pub walking_twice : (get_or place r 0 ≡ 0 → ⊥) → LaneWalked s h k order₀ place₀ r n order place
+    walking_twice given =
         record {
-          flags = sym (walk_of_here (met place) r _ (met-up place r (omega (arith, w.small, w.few)) given))
-              ∙ walk-on (walk_of (met place)) s (257 - (n - k)) r (omega (arith, walking-count)) some refl w.rest;
+          flags = sym (walk_of_here (met place) r _ (met_up place r (omega (arith, w.small, w.few)) given))
+              ∙ walk_on (walk_of (met place)) s (257 - (n - k)) r (omega (arith, walking_count)) some refl w.rest;
           filling = w.filling;
           behind = λ e. absurd (some e);
         }
 
     module _ (none : get_or place r 0 ≡ 0) where
-      pub walking-room : n < record_count s
-      walking-room = filling-less s order place n w.filling r w.few (omega arith) w.small none
+      pub walking_room : n < record_count s
+      walking_room = filling_less s order place n w.filling r w.few (omega arith) w.small none
 
       pub walking_on : {r' : ℕ} → r' ≡ next s r
           → Walking s h k order₀ place₀ (set order n r) (set place r (n + 1)) r' (n + 1)
       walking_on {r'} e =
-          let fuel : 0 < 257 - (n - k) = omega (arith, walking-count) in
-          let less : 257 - (n + 1 - k) ≡ 257 - (n - k) - 1 = omega (arith, w.more, walking-count) in
+          let fuel : 0 < 257 - (n - k) = omega (arith, walking_count) in
+          let less : 257 - (n + 1 - k) ≡ 257 - (n - k) - 1 = omega (arith, w.more, walking_count) in
           let lo : 1 ≤ r = omega arith in
           let below : r < 257 = omega (arith, w.small, w.few) in
-          let flag = met-set place r below (n + 1) (omega (arith, w.filling.place_room, w.small)) (omega arith) in
+          let flag = met_set place r below (n + 1) (omega (arith, w.filling.place_room, w.small)) (omega arith) in
           let one : n + 1 ≡ suc n = omega arith in
           let longer : take (n + 1) (set order n r) ≡ take n order ++ (r ∷ []) =
           ap (λ m. take m (set order n r)) one
-          ∙ take-suc-set order n r (omega (arith, w.filling.order_room, walking-room)) in
+          ∙ take-suc-set order n r (omega (arith, w.filling.order_room, walking_room)) in
           record {
             small = omega (arith, e, next_small s w.keeps r lo w.small);
             few = w.few;
             keeps = w.keeps;
-            filling = filling-on s order place n w.filling r w.few lo w.small none;
+            filling = filling_on s order place n w.filling r w.few lo w.small none;
             order_kept = length-set order n r ∙ w.order_kept;
             place_kept = length-set place r (n + 1) ∙ w.place_kept;
             more = omega (arith, w.more);
             rest = ap (λ m. walk_of (met (set place r (n + 1))) (chain s m r')) less
                 ∙ ap (λ l. walk_of l (chain s (257 - (n - k) - 1) r')) flag
-                ∙ sym (walk_of_on (met place) r _ (met-down place r below none))
-                ∙ walk-on (walk_of (met place)) s (257 - (n - k)) r fuel some e w.rest;
+                ∙ sym (walk_of_on (met place) r _ (met_down place r below none))
+                ∙ walk_on (walk_of (met place)) s (257 - (n - k)) r fuel some e w.rest;
             records = ap (λ m. take (n + 1) (set order n r) ++ chain s m r') less
                 ∙ ap (λ l. l ++ chain s (257 - (n - k) - 1) r') longer
                 ∙ append_snoc (take n order) r (chain s (257 - (n - k) - 1) r')
-                ∙ walk-on (λ l. take n order ++ l) s (257 - (n - k)) r fuel some e w.records;
+                ∙ walk_on (λ l. take n order ++ l) s (257 - (n - k)) r fuel some e w.records;
           }
 
 -- the same walk, from a record that is h

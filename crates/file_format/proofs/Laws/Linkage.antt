@@ -77,11 +77,11 @@ chain_behind s (suc k) r p h = go (dec_le 1 r) p h (chain_behind s k (next s r))
 -- A loop that walks a chain holds, at record r with k records ahead: F (chain s k r) is the answer. It ends at record
 -- 0, and else goes on from r to the record r' that follows it.
 module _ {ℓ} {B : Type ℓ} (F : List ℕ → B) (s : List ℕ) (k r : ℕ) {a : B} where
-  pub walk-stop : r ≡ 0 → F (chain s k r) ≡ a → F [] ≡ a
-  walk-stop h inv = sym (ap F (chain_stop s k r h)) ∙ inv
+  pub walk_stop : r ≡ 0 → F (chain s k r) ≡ a → F [] ≡ a
+  walk_stop h inv = sym (ap F (chain_stop s k r h)) ∙ inv
 
-  pub walk-on : {r' : ℕ} → 0 < k → (r ≡ 0 → ⊥) → r' ≡ next s r → F (chain s k r) ≡ a → F (r ∷ chain s (k - 1) r') ≡ a
-  walk-on h n e inv = ap (λ q. F (r ∷ chain s (k - 1) q)) e ∙ sym (ap F (chain_step s k r h n)) ∙ inv
+  pub walk_on : {r' : ℕ} → 0 < k → (r ≡ 0 → ⊥) → r' ≡ next s r → F (chain s k r) ≡ a → F (r ∷ chain s (k - 1) r') ≡ a
+  walk_on h n e inv = ap (λ q. F (r ∷ chain s (k - 1) q)) e ∙ sym (ap F (chain_step s k r h n)) ∙ inv
 
 pub last_one : (s : List ℕ) (r : ℕ) → r ≡ get_or (chain s 1 r) 0 0
 last_one s zero = sym (ap (λ l. get_or l 0 0) (chain_stop s 1 0 refl))
@@ -111,25 +111,25 @@ linkage_next s met t k h = rw (h, linkage_from)
 
 -- the loop over the lanes holds: linkage_from s met t (e - t) is the answer; lane t was walked, and left these flags
 module _ (s : List ℕ) (met : List Bool) (t e : ℕ) {a : ℕ} where
-  pub linkage-found : {flags : List Bool} {r : ℕ} → t < e → walked flags r ≡ walk_lane s met t → (r ≡ 0 → ⊥)
+  pub linkage_found : {flags : List Bool} {r : ℕ} → t < e → walked flags r ≡ walk_lane s met t → (r ≡ 0 → ⊥)
       → linkage_from s met t (e - t) ≡ a → r ≡ a
-  linkage-found h w p inv =
+  linkage_found h w p inv =
       let q : e - t ≡ suc (e - suc t) = omega arith in
       let v = ap (λ x. x.twice) w in
       v ∙ sym (linkage_here s met t (e - suc t) (ne_eqb _ _ (λ z. p (v ∙ z)))) ∙ (rw q at inv)
 
-  pub linkage-on : {flags : List Bool} {r : ℕ} → t < e → walked flags r ≡ walk_lane s met t → r ≡ 0
+  pub linkage_on : {flags : List Bool} {r : ℕ} → t < e → walked flags r ≡ walk_lane s met t → r ≡ 0
       → linkage_from s met t (e - t) ≡ a → linkage_from s flags (t + 1) (e - (t + 1)) ≡ a
-  linkage-on h w p inv =
+  linkage_on h w p inv =
       let q : e - t ≡ suc (e - suc t) = omega arith in
       let flags-are = ap (λ x. x.met) w in
       rw (add-one, flags-are)
       (sym (linkage_next s met t (e - suc t) (eq-eqb _ _ (sym (ap (λ x. x.twice) w) ∙ p))) ∙ (rw q at inv))
 
-  pub linkage-end : e ≤ t → linkage_from s met t (e - t) ≡ a
+  pub linkage_end : e ≤ t → linkage_from s met t (e - t) ≡ a
       → lowest (λ i. not (get_or met i false)) 1 (record_count s) ≡ a
   unfolding linkage_from
-  linkage-end h inv =
+  linkage_end h inv =
       let q : e - t ≡ 0 = omega arith in
       rw q at inv
 

@@ -26,19 +26,19 @@ pub search_start : (test : ℕ → Bool) (i k : ℕ) → lowest test i (k + i - 
 search_start test i k = ap (lowest test i) (omega arith)
 
 module _ (test : ℕ → Bool) (i e : ℕ) {a : ℕ} where
-  pub search-on : i < e → test i ≡ false → lowest test i (e - i) ≡ a → lowest test (i + 1) (e - (i + 1)) ≡ a
-  search-on h p inv =
+  pub search_on : i < e → test i ≡ false → lowest test i (e - i) ≡ a → lowest test (i + 1) (e - (i + 1)) ≡ a
+  search_on h p inv =
       let q : e - i ≡ suc (e - suc i) = omega arith in
       rw add-one (sym (lowest_on test i (e - suc i) p) ∙ (rw q at inv))
 
-  pub search-found : i < e → test i ≡ true → lowest test i (e - i) ≡ a → i ≡ a
-  search-found h p inv =
+  pub search_found : i < e → test i ≡ true → lowest test i (e - i) ≡ a → i ≡ a
+  search_found h p inv =
       let q : e - i ≡ suc (e - suc i) = omega arith in
       sym (lowest_here test i (e - suc i) p) ∙ (rw q at inv)
 
-  pub search-none : e ≤ i → lowest test i (e - i) ≡ a → 0 ≡ a
+  pub search_none : e ≤ i → lowest test i (e - i) ≡ a → 0 ≡ a
   unfolding lowest
-  search-none h inv =
+  search_none h inv =
       let q : e - i ≡ 0 = omega arith in
       rw q at inv
 
@@ -62,9 +62,9 @@ module _ (f : ℕ → ℕ) (i e : ℕ) {a : ℕ} where
       let q : e - i ≡ suc (e - suc i) = omega arith in
       v ∙ sym (first_of_here f i (e - suc i) (ne_eqb _ _ (λ z. p (v ∙ z)))) ∙ (rw q at inv)
 
-  pub first-none : e ≤ i → first_of f i (e - i) ≡ a → 0 ≡ a
+  pub first_none : e ≤ i → first_of f i (e - i) ≡ a → 0 ≡ a
   unfolding first_of
-  first-none h inv =
+  first_none h inv =
       let q : e - i ≡ 0 = omega arith in
       rw q at inv
 

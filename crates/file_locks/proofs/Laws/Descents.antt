@@ -10,8 +10,8 @@ use lib.ListN.{length}
 use Rattle.file_format.specs.declared.accepted.Op.{Op}
 use Rattle.file_format.specs.Rising.{descent_at, descent_position}
 use Rattle.file_format.specs.Search.{lowest, first_of}
-use Rattle.file_format.proofs.Laws.Search.{search_start, search-on, search-found, search-none}
-use Rattle.file_format.proofs.Laws.Search.{first_on, first_found, first-none}
+use Rattle.file_format.proofs.Laws.Search.{search_start, search_on, search_found, search_none}
+use Rattle.file_format.proofs.Laws.Search.{first_on, first_found, first_none}
 use Rattle.file_locks.specs.Sets.{first}
 
 first_some : (a b : ℕ) → ¬ a ≡ 0 → first a b ≡ a
@@ -42,30 +42,30 @@ module _ (ops : List Op) (n : ℕ) where
   abbrev pub Sought : ℕ → ℕ → Type 0
   Sought p d = first d (lowest descended (p + 1) (n + 1 - (p + 1))) ≡ descent_position ops
 
-  pub sought-start : length ops ≡ n → Sought 0 0
+  pub sought_start : length ops ≡ n → Sought 0 0
   unfolding descent_position
-  sought-start many = rw many (search_start descended 1 n)
+  sought_start many = rw many (search_start descended 1 n)
 
-  pub sought-on : (p d : ℕ) {b : Bool} {v : ℕ} → p < n → descent_at ops (p + 1 - 1) ≡ b
+  pub sought_on : (p d : ℕ) {b : Bool} {v : ℕ} → p < n → descent_at ops (p + 1 - 1) ≡ b
       → v ≡ first d (cond b (p + 1) 0) → Sought p d → Sought (p + 1) v
-  sought-on p d {b} {v} below e ev at = rw ev (first_assoc d (cond b (p + 1) 0) _ ∙ ap (first d) (ahead b e) ∙ at)
+  sought_on p d {b} {v} below e ev at = rw ev (first_assoc d (cond b (p + 1) 0) _ ∙ ap (first d) (ahead b e) ∙ at)
     where
       ahead : (b : Bool) → descent_at ops (p + 1 - 1) ≡ b
           → first (cond b (p + 1) 0) (lowest descended (p + 1 + 1) (n + 1 - (p + 1 + 1)))
           ≡ lowest descended (p + 1) (n + 1 - (p + 1))
       ahead true e =
-          first_some (p + 1) _ (λ z. omega arith) ∙ search-found descended (p + 1) (n + 1) (omega arith) e refl
-      ahead false e = search-on descended (p + 1) (n + 1) (omega arith) e refl
+          first_some (p + 1) _ (λ z. omega arith) ∙ search_found descended (p + 1) (n + 1) (omega arith) e refl
+      ahead false e = search_on descended (p + 1) (n + 1) (omega arith) e refl
 
-  pub sought-end : (p d : ℕ) → n ≤ p → Sought p d → d ≡ descent_position ops
-  sought-end p d last at = first_none_ahead (search-none descended (p + 1) (n + 1) (omega arith) refl) at
+  pub sought_end : (p d : ℕ) → n ≤ p → Sought p d → d ≡ descent_position ops
+  sought_end p d last at = first_none_ahead (search_none descended (p + 1) (n + 1) (omega arith) refl) at
 
 -- ## along the lanes
 
 module _ (f : ℕ → ℕ) (t e d : ℕ) {a : ℕ} where
-  pub named-on : {v : ℕ} → t < e → v ≡ f t → first d (first_of f t (e - t)) ≡ a
+  pub named_on : {v : ℕ} → t < e → v ≡ f t → first d (first_of f t (e - t)) ≡ a
       → first (first d v) (first_of f (t + 1) (e - (t + 1))) ≡ a
-  named-on {v} below ev at = first_assoc d v _ ∙ ap (first d) (ahead (eqb v 0) refl) ∙ at
+  named_on {v} below ev at = first_assoc d v _ ∙ ap (first d) (ahead (eqb v 0) refl) ∙ at
     where
       ahead : (x : Bool) → eqb v 0 ≡ x → first v (first_of f (t + 1) (e - (t + 1))) ≡ first_of f t (e - t)
       ahead true h = rw h (first_on f t e below ev (eqb-true v 0 h) refl)
@@ -74,4 +74,4 @@ module _ (f : ℕ → ℕ) (t e d : ℕ) {a : ℕ} where
           first_some v _ some ∙ first_found f t e below ev some refl
 
   pub named_end : e ≤ t → first d (first_of f t (e - t)) ≡ a → d ≡ a
-  named_end last at = first_none_ahead (first-none f t e last refl) at
+  named_end last at = first_none_ahead (first_none f t e last refl) at

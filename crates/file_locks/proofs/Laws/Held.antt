@@ -19,33 +19,33 @@ use Rattle.file_format.specs.Stored.{no_op}
 use Rattle.file_format.proofs.Laws.Held.{held_next}
 use Rattle.sheet_rows.specs.Rows.{row_in}
 use Rattle.sheet_rows.specs.Lanes.{fields_of}
-use Rattle.sheet_rows.proofs.Laws.Lanes.{held-fields}
+use Rattle.sheet_rows.proofs.Laws.Lanes.{held_fields}
 use Rattle.file_locks.specs.Sets.{jump_or, no_jump, locks_in, meets, ways, lock_bit, barred, descends_at}
 use Rattle.file_locks.specs.Lanes.{Named, LaneIn, Clean, RecordsOf}
 use Rattle.file_locks.proofs.Laws.Locks.{other_wrong, other_next}
-use Rattle.file_locks.proofs.Laws.Locks.{lock-wrong, lock-descends, lock-next, unlock-wrong, unlock-next}
+use Rattle.file_locks.proofs.Laws.Locks.{lock_wrong, lock_descends, lock_next, unlock_wrong, unlock_next}
 
 -- ## the fields of row p
 
 module _ {rows : List ℕ} {n : ℕ} {ops : List Op} (lane : LaneIn rows n ops) (p : ℕ) (below : p < n) where
   fields : row_in (drop (8 * p) rows) ≡ fields_of (get_or ops p no_op)
-  fields = held-fields lane.held p below
+  fields = held_fields lane.held p below
 
   byte_at : (i : ℕ) → get_or rows (8 * p + i) 0 ≡ get_or (drop (8 * p) rows) i 0
   byte_at i = sym (get_or-drop (8 * p) rows i 0)
 
-  pub row-code : get_or rows (8 * p) 0 ≡ (fields_of (get_or ops p no_op)).code
-  row-code =
+  pub row_code : get_or rows (8 * p) 0 ≡ (fields_of (get_or ops p no_op)).code
+  row_code =
       let e : 8 * p ≡ 8 * p + 0 = omega arith in
       ap (λ i. get_or rows i 0) e ∙ byte_at 0 ∙ ap (λ r. r.code) fields
 
-  pub row-b : get_or rows (8 * p + 2) 0 ≡ (fields_of (get_or ops p no_op)).b
-  row-b = byte_at 2 ∙ ap (λ r. r.b) fields
+  pub row_b_lem : get_or rows (8 * p + 2) 0 ≡ (fields_of (get_or ops p no_op)).b
+  row_b_lem = byte_at 2 ∙ ap (λ r. r.b) fields
 
   -- a target's lowest byte is the target
-  pub row_target : n ≤ 64 → 7 ≡ (fields_of (get_or ops p no_op)).code
+  pub row_target_lem : n ≤ 64 → 7 ≡ (fields_of (get_or ops p no_op)).code
       → get_or rows (8 * p + 4) 0 ≡ (fields_of (get_or ops p no_op)).word
-  row_target small e =
+  row_target_lem small e =
       let near = lane.within p (omega (arith, lane.held.count)) (sym e) in
       omega (arith, byte_at 4, ap (λ r. r.word) fields, near)
 
@@ -63,27 +63,27 @@ jump_by (Skip a q) = refl
 
 -- whether an operation breaks the rule or descends, and the set after it, from its code and its operand b
 module _ (h : ℕ) (few : h < 16) where
-  pub row-wrong : (o : Op) → Named o
+  pub row_wrong : (o : Op) → Named o
       → meets (barred (ways h) (fields_of o).code) (lock_bit (fields_of o).code (fields_of o).b)
       ≡ misuse (locks_in h) (some o)
-  row-wrong (Set a c) near = other_wrong (ways h / 2 ^ 4) 0
-  row-wrong (Add a b) near = other_wrong (ways h / 2 ^ 4) b
-  row-wrong (Load a b) near = other_wrong (ways h / 2 ^ 4) b
-  row-wrong (Store a b) near = other_wrong (ways h / 2 ^ 4) b
-  row-wrong (Lock b) near = lock-wrong h b few (near (omega arith))
-  row-wrong (Unlock b) near = unlock-wrong h b few (near (omega arith))
-  row-wrong (Skip a q) near = other_wrong (ways h / 2 ^ 4) 0
+  row_wrong (Set a c) near = other_wrong (ways h / 2 ^ 4) 0
+  row_wrong (Add a b) near = other_wrong (ways h / 2 ^ 4) b
+  row_wrong (Load a b) near = other_wrong (ways h / 2 ^ 4) b
+  row_wrong (Store a b) near = other_wrong (ways h / 2 ^ 4) b
+  row_wrong (Lock b) near = lock_wrong h b few (near (omega arith))
+  row_wrong (Unlock b) near = unlock_wrong h b few (near (omega arith))
+  row_wrong (Skip a q) near = other_wrong (ways h / 2 ^ 4) 0
 
-  pub row-descends : (o : Op) → Named o
+  pub row_descends : (o : Op) → Named o
       → descends_at (ways h) (fields_of o).code (lock_bit (fields_of o).code (fields_of o).b)
       ≡ descends (locks_in h) (some o)
-  row-descends (Set a c) near = refl
-  row-descends (Add a b) near = refl
-  row-descends (Load a b) near = refl
-  row-descends (Store a b) near = refl
-  row-descends (Lock b) near = lock-descends h b few (near (omega arith))
-  row-descends (Unlock b) near = refl
-  row-descends (Skip a q) near = refl
+  row_descends (Set a c) near = refl
+  row_descends (Add a b) near = refl
+  row_descends (Load a b) near = refl
+  row_descends (Store a b) near = refl
+  row_descends (Lock b) near = lock_descends h b few (near (omega arith))
+  row_descends (Unlock b) near = refl
+  row_descends (Skip a q) near = refl
 
   pub row_next : (o : Op) → Named o → misuse (locks_in h) (some o) ≡ false
       → locks_in (bit_xor h (lock_bit (fields_of o).code (fields_of o).b)) ≡ after (locks_in h) o
@@ -91,8 +91,8 @@ module _ (h : ℕ) (few : h < 16) where
   row_next (Add a b) near right = ap locks_in (other_next h b)
   row_next (Load a b) near right = ap locks_in (other_next h b)
   row_next (Store a b) near right = ap locks_in (other_next h b)
-  row_next (Lock b) near right = lock-next h b few (near (omega arith)) right
-  row_next (Unlock b) near right = unlock-next h b few (near (omega arith)) right
+  row_next (Lock b) near right = lock_next h b few (near (omega arith)) right
+  row_next (Unlock b) near right = unlock_next h b few (near (omega arith)) right
   row_next (Skip a q) near right = ap locks_in (other_next h 0)
 
 pub held_on : (ops : List Op) (p : ℕ) {h g : List Bool} → p < length ops → h ≡ held ops p
@@ -123,10 +123,10 @@ pub record_cut : (order : List ℕ) (from n x : ℕ) {i : ℕ} → from + n ≤ 
     → get_or (0 ∷ drop from order) i 0 ≡ record_at (take n (drop from order)) x
 unfolding record_at
 record_cut order from n x {i} room cut =
-    rw (← cut-rs) (within i (omega arith))
+    rw (← cut_rs) (within i (omega arith))
   where
-    cut-rs : i ≡ min x (length (take n (drop from order)))
-    cut-rs = omega (arith, cut, length-take n (drop from order), length-drop from order)
+    cut_rs : i ≡ min x (length (take n (drop from order)))
+    cut_rs = omega (arith, cut, length-take n (drop from order), length-drop from order)
 
     within : (i : ℕ) → i ≤ n → get_or (0 ∷ drop from order) i 0 ≡ get_or (0 ∷ take n (drop from order)) i 0
     within zero h = refl

@@ -58,23 +58,23 @@ module _ (h led : ℕ) (few : h < 16) (small : led < 256) where
       ap (λ b. cond b (ways h) here) (sym d) ∙ cell
 
   -- at a row, and at the end
-  pub wrong-is : (code bit : ℕ) {m : Bool} → meets (barred (ways h) code) bit ≡ m
+  pub wrong_is : (code bit : ℕ) {m : Bool} → meets (barred (ways h) code) bit ≡ m
       → wrong_at here code bit ≡ cond (differ here) true m
-  wrong-is code bit {m} e = go (differ here) refl
+  wrong_is code bit {m} e = go (differ here) refl
     where
       go : (d : Bool) → differ here ≡ d → d || meets (barred here code) bit ≡ cond d true m
       go true d = refl
       go false d = ap (λ w. meets (barred w code) bit) (agree_same d) ∙ e
 
-  pub wrong-end : not (eqb (here % 16) 0) ≡ cond (differ here) true (not (eqb h 0))
-  wrong-end =
+  pub wrong_end : not (eqb (here % 16) 0) ≡ cond (differ here) true (not (eqb h 0))
+  wrong_end =
       table_at (λ (x y : ℕ). not (eqb (bit_or (ways x) y % 16) 0))
       (λ x y. cond (differ (bit_or (ways x) y)) true (not (eqb x 0))) 16 256 refl h led few small
 
   -- one SKIP more leads there, with the set g
-  pub led-more : (g : ℕ) → g < 16
+  pub led_more : (g : ℕ) → g < 16
       → differ (bit_or (ways h) (bit_or led (ways g))) ≡ cond (not (eqb g h)) true (differ here)
-  led-more g fewer = ap differ (sym (bit_or_assoc (ways h) led (ways g))) ∙ go (differ here) refl
+  led_more g fewer = ap differ (sym (bit_or_assoc (ways h) led (ways g))) ∙ go (differ here) refl
     where
       go : (d : Bool) → differ here ≡ d → differ (bit_or here (ways g)) ≡ cond (not (eqb g h)) true d
       go true d =
@@ -113,30 +113,30 @@ pub skip_after : (w b : ℕ) → after_row w (lock_bit 7 b) ≡ w
 skip_after w b = ap (after_row w) (none_named b) ∙ xor_zero_r w
 
 module _ (h l : ℕ) (few : h < 16) (near : l < 4) where
-  pub lock-wrong : meets (ways h) (lock_bit 5 l) ≡ get_or (locks_in h) l false
-  lock-wrong =
+  pub lock_wrong : meets (ways h) (lock_bit 5 l) ≡ get_or (locks_in h) l false
+  lock_wrong =
       table_at (λ (x y : ℕ). meets (ways x) (lock_bit 5 y)) (λ x y. get_or (locks_in x) y false) 16 4 refl h l few near
 
-  pub unlock-wrong : meets (barred (ways h) 6) (lock_bit 6 l) ≡ not (get_or (locks_in h) l false)
-  unlock-wrong =
+  pub unlock_wrong : meets (barred (ways h) 6) (lock_bit 6 l) ≡ not (get_or (locks_in h) l false)
+  unlock_wrong =
       table_at (λ (x y : ℕ). meets (barred (ways x) 6) (lock_bit 6 y)) (λ x y. not (get_or (locks_in x) y false)) 16 4 refl
       h l few near
 
-  pub lock-descends : descends_at (ways h) 5 (lock_bit 5 l) ≡ not (all_below (locks_in h) l)
+  pub lock_descends : descends_at (ways h) 5 (lock_bit 5 l) ≡ not (all_below (locks_in h) l)
   unfolding all_below
-  lock-descends =
+  lock_descends =
       table_at (λ (x y : ℕ). descends_at (ways x) 5 (lock_bit 5 y)) (λ x y. not (all_below (locks_in x) y)) 16 4 refl h l
       few near
 
-  pub lock-next : get_or (locks_in h) l false ≡ false → locks_in (bit_xor h (lock_bit 5 l)) ≡ set (locks_in h) l true
-  lock-next right =
+  pub lock_next : get_or (locks_in h) l false ≡ false → locks_in (bit_xor h (lock_bit 5 l)) ≡ set (locks_in h) l true
+  lock_next right =
       let cell = table_at (λ (x y : ℕ). cond (get_or (locks_in x) y false) [] (locks_in (bit_xor x (lock_bit 5 y))))
       (λ x y. cond (get_or (locks_in x) y false) [] (set (locks_in x) y true)) 16 4 refl h l few near in
       rw right at cell
 
-  pub unlock-next : not (get_or (locks_in h) l false) ≡ false
+  pub unlock_next : not (get_or (locks_in h) l false) ≡ false
       → locks_in (bit_xor h (lock_bit 6 l)) ≡ set (locks_in h) l false
-  unlock-next right =
+  unlock_next right =
       let cell = table_at (λ (x y : ℕ). cond (not (get_or (locks_in x) y false)) [] (locks_in (bit_xor x (lock_bit 6 y))))
       (λ x y. cond (not (get_or (locks_in x) y false)) [] (set (locks_in x) y false)) 16 4 refl h l few near in
       rw right at cell

@@ -18,9 +18,9 @@ use Rattle.file_format.specs.Lawful.{Bounded}
 use Rattle.file_format.specs.Rising.{descends, descent_at, descent_position, lock_order}
 use Rattle.file_format.specs.Stored.{no_op}
 use Rattle.file_format.specs.Structured.{Structured}
-use Rattle.file_format.proofs.Bounded.{lane-bounded}
-use Rattle.file_format.proofs.Laws.Lanes.{lane-ops}
-use Rattle.file_format.proofs.Laws.Rules.{head-range}
+use Rattle.file_format.proofs.Bounded.{lane_bounded}
+use Rattle.file_format.proofs.Laws.Lanes.{lane_ops}
+use Rattle.file_format.proofs.Laws.Rules.{head_range}
 use Rattle.file_format.proofs.Laws.Search.{found_nowhere, named_nowhere}
 use Rattle.file_format.proofs.Laws.Stored.{ops_from_length}
 use Rattle.file_locks.specs.Lanes.{Clean}
@@ -83,15 +83,15 @@ held_lockless h (o ∷ ops) (suc p) w =
     held_lockless (after h o) ops p (λ q l. w (suc q) (omega arith)) ∙ after_lockless h o (w 0 (omega arith))
 
 module _ (ops : List Op) (w : AllLockless ops) where
-  no-conflict : (n p : ℕ) → conflict_below ops n p ≡ false
+  no_conflict : (n p : ℕ) → conflict_below ops n p ≡ false
   unfolding conflict_below
-  no-conflict zero p = refl
-  no-conflict (suc n) p =
+  no_conflict zero p = refl
+  no_conflict (suc n) p =
       rw (
         held_lockless no_locks ops n w,
         held_lockless no_locks ops p w,
         none_conflicts (jump_from (get_elem? ops n)) p,
-        no-conflict n p,
+        no_conflict n p,
       )
 
   -- at each position, and at the end
@@ -105,34 +105,34 @@ module _ (ops : List Op) (w : AllLockless ops) where
       go (o ∷ ops) zero w = kept_lockless o (w 0 (omega arith))
       go (o ∷ ops) (suc p) w = go ops p (λ q l. w (suc q) (omega arith))
 
-  lockless-clean : Clean ops
+  lockless_clean : Clean ops
   unfolding fault_position descent_position fault_at descent_at
-  lockless-clean = (
+  lockless_clean = (
     found_nowhere (λ i. fault_at ops (i - 1)) 1 (length ops + 1)
-        (λ i. rw (no-conflict (length ops) (i - 1), held_lockless no_locks ops (i - 1) w) (kept_at (i - 1)).0),
+        (λ i. rw (no_conflict (length ops) (i - 1), held_lockless no_locks ops (i - 1) w) (kept_at (i - 1)).0),
     found_nowhere (λ i. descent_at ops (i - 1)) 1 (length ops)
         (λ i. rw (held_lockless no_locks ops (i - 1) w) (kept_at (i - 1)).1),
   )
 
 -- the lanes of a file whose header counts none
 module _ (s : List ℕ) (st : Structured s) (z : locks s ≡ 0) where
-  lane-lockless : (t : ℕ) → t < 4 → AllLockless (ops_at s (head s t))
-  lane-lockless t below p l =
+  lane_lockless : (t : ℕ) → t < 4 → AllLockless (ops_at s (head s t))
+  lane_lockless t below p l =
       let len = ops_from_length s 0 (records_at s (head s t)) in
       bounded_lockless (locations s) (locks s) (length (records_at s (head s t))) p (get_or (ops_at s (head s t)) p no_op) z
-      (lane-bounded s st.fields.records (head s t) (head-range s st.fields.header t below) p no_op
+      (lane_bounded s st.fields.records (head s t) (head_range s st.fields.header t below) p no_op
       (omega (arith, len)))
 
-  lane-clean : (t : ℕ) → t < 4 → Clean (get_or (program_of s).lanes t [])
-  lane-clean t below =
-      rw (lane-ops s st.fields.header t below) (lockless-clean (ops_at s (head s t)) (lane-lockless t below))
+  lane_clean : (t : ℕ) → t < 4 → Clean (get_or (program_of s).lanes t [])
+  lane_clean t below =
+      rw (lane_ops s st.fields.header t below) (lockless_clean (ops_at s (head s t)) (lane_lockless t below))
 
-  pub no-fault : lock_fault (program_of s) ≡ 0
-  no-fault =
+  pub no_fault : lock_fault (program_of s) ≡ 0
+  no_fault =
       sym (fault_first s)
-      ∙ named_nowhere (fault s) 0 4 (λ t l. sym (clean_records _ _ (lane-clean t l)).0)
+      ∙ named_nowhere (fault s) 0 4 (λ t l. sym (clean_records _ _ (lane_clean t l)).0)
 
   pub no_descent : lock_order (program_of s) ≡ 0
   no_descent =
       sym (descent_first s)
-      ∙ named_nowhere (descent s) 0 4 (λ t l. sym ((clean_records _ _ (lane-clean t l)).1 (lane-clean t l).0))
+      ∙ named_nowhere (descent s) 0 4 (λ t l. sym ((clean_records _ _ (lane_clean t l)).1 (lane_clean t l).0))

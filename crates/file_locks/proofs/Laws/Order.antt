@@ -15,17 +15,17 @@ use Rattle.file_format.specs.Lawful.{Bounded}
 use Rattle.file_format.specs.Search.{first_of}
 use Rattle.file_format.specs.Structured.{Structured}
 use Rattle.file_format.specs.Stored.{no_op}
-use Rattle.file_format.proofs.Bounded.{chain-range, lane-bounded}
+use Rattle.file_format.proofs.Bounded.{chain_range, lane_bounded}
 use Rattle.file_format.proofs.Disciplined.{unbroken}
-use Rattle.file_format.proofs.Laws.Lanes.{lane_records as own_lane, lane-ops}
-use Rattle.file_format.proofs.Laws.Rules.{few_locks, few-records, head-range}
+use Rattle.file_format.proofs.Laws.Lanes.{lane_records as own_lane, lane_ops}
+use Rattle.file_format.proofs.Laws.Rules.{few_locks, few_records, head_range}
 use Rattle.file_format.proofs.Laws.Stored.{ops_from_length}
 use Rattle.file_chains.specs.Ordered.{begin_of, count_of, records_in, Ordered}
-use Rattle.file_chains.proofs.Laws.Places.{end-inside, lane_length, lane_records}
+use Rattle.file_chains.proofs.Laws.Places.{end_inside, lane_length_lem, lane_records}
 use Rattle.sheet_format.specs.declared.Level.TheVariants.{Level0}
 use Rattle.sheet_format.specs.Bytes.{over, sheet_bytes}
 use Rattle.sheet_rows.specs.Lanes.{fields_of}
-use Rattle.file_rows.proofs.Laws.Holds.{many, before, many_small, lane-holds}
+use Rattle.file_rows.proofs.Laws.Holds.{many, before, many_small, lane_holds}
 use Rattle.file_locks.specs.Sets.{no_jump, jump_or}
 use Rattle.file_locks.specs.declared.Found.{Found}
 use Rattle.file_locks.specs.Lanes.{Named, LaneIn, RecordsOf}
@@ -63,25 +63,25 @@ module _ (s order place ends : List ℕ) (st : Structured s) (ordered : Ordered 
   abbrev end : ℕ → ℕ
   end t = get_or ends t 0
 
-  own-records : (t : ℕ) → t < 4 → records_in order ends t ≡ records_at s (head s t)
-  own-records t h = lane_records ordered st.chains t h
+  own_records : (t : ℕ) → t < 4 → records_in order ends t ≡ records_at s (head s t)
+  own_records t h = lane_records ordered st.chains t h
 
-  count-is : (t : ℕ) → t < 4 → count_of ends t ≡ many s t
-  count-is t h =
-      sym (lane_length ordered t h) ∙ ap length (own-records t h) ∙ sym (ops_from_length s 0 (records_at s (head s t)))
+  count_is : (t : ℕ) → t < 4 → count_of ends t ≡ many s t
+  count_is t h =
+      sym (lane_length_lem ordered t h) ∙ ap length (own_records t h) ∙ sym (ops_from_length s 0 (records_at s (head s t)))
 
-  begin-is : (t : ℕ) → t < 4 → begin_of ends t ≡ before s t
-  begin-is zero h = refl
-  begin-is (suc t) h =
-      omega (arith, begin-is t (omega arith), count-is t (omega arith), ordered.rising t (omega arith))
+  begin_is : (t : ℕ) → t < 4 → begin_of ends t ≡ before s t
+  begin_is zero h = refl
+  begin_is (suc t) h =
+      omega (arith, begin_is t (omega arith), count_is t (omega arith), ordered.rising t (omega arith))
 
   module _
       (rows own : List ℕ) (front : rows ≡ over (sheet_bytes Level0 (program_of s)) own)
       (room : 16 + 8 * record_count s ≤ length own) (t : ℕ) (below : t < 4)
     where
-      lane_in : LaneIn (drop (16 + 8 * before s t) rows) (many s t) (ops_at s (head s t))
-      lane_in = record {
-        held = lane-holds s st.fields.header rows own front st.fields.records t below;
+      lane_in_lem : LaneIn (drop (16 + 8 * before s t) rows) (many s t) (ops_at s (head s t))
+      lane_in_lem = record {
+        held = lane_holds s st.fields.header rows own front st.fields.records t below;
         onward = λ p l. (led p l).0;
         within = λ p l. (led p l).1;
         named = λ p l. (led p l).2;
@@ -97,38 +97,38 @@ module _ (s order place ends : List ℕ) (st : Structured s) (ordered : Ordered 
               leads (locations s) (locks s) (many s t) p (get_or (ops_at s (head s t)) p no_op) (many_small s t)
               (few_locks s st.fields.header) l
               (rw len
-              (lane-bounded s st.fields.records (head s t) (head-range s st.fields.header t below) p no_op
+              (lane_bounded s st.fields.records (head s t) (head_range s st.fields.header t below) p no_op
               (omega (arith, len))))
 
       -- lane t of the order fits the check
-      pub lane-fits : {from : ℕ} → from ≡ begin_of ends t
+      pub lane_fits : {from : ℕ} → from ≡ begin_of ends t
           → (from ≤ end t) × (end t ≤ 256) × (end t - from ≤ 64) × (16 + 8 * end t ≤ length rows)
           × (end t ≤ length order)
-      lane-fits ef =
-          let inside = end-inside ordered t below in (
+      lane_fits ef =
+          let inside = end_inside ordered t below in (
             omega (arith, ordered.rising t below),
-            omega (arith, inside, few-records s st.fields.header),
-            omega (arith, count-is t below, many_small s t),
+            omega (arith, inside, few_records s st.fields.header),
+            omega (arith, count_is t below, many_small s t),
             omega (arith, inside, rows_room rows own (sheet_bytes Level0 (program_of s)) front, room),
             omega (arith, inside, ordered.order_room),
           )
 
       nonzero : (p : ℕ) → p < length (records_at s (head s t)) → 1 ≤ get_or (records_at s (head s t)) p 0
       nonzero p l =
-          (chain-range s st.fields.records 64 (head s t) p (head-range s st.fields.header t below) l).0
+          (chain_range s st.fields.records 64 (head s t) p (head_range s st.fields.header t below) l).0
 
       -- what is found in lane t of the order is the fault of lane t, and where it has none, its first descent
-      pub found-is : {from : ℕ} {f : Found} → from ≡ begin_of ends t → FoundIn rows order from (end t) f
+      pub found_is : {from : ℕ} {f : Found} → from ≡ begin_of ends t → FoundIn rows order from (end t) f
           → (f.fault ≡ fault s t) × (fault s t ≡ 0 → f.descent ≡ descent s t)
-      found-is {from} {f} ef found =
-          let begin = begin-is t below in
-          let count = count-is t below in
+      found_is {from} {f} ef found =
+          let begin = begin_is t below in
+          let count = count_is t below in
           let lane : LaneIn (drop (16 + 8 * begin_of ends t) rows) (count_of ends t) (ops_at s (head s t)) =
-          rw (count, begin) lane_in in
-          let is = subst (λ rs. RecordsOf rs (ops_at s (head s t)) f) (own-records t below)
+          rw (count, begin) lane_in_lem in
+          let is = subst (λ rs. RecordsOf rs (ops_at s (head s t)) f) (own_records t below)
           (subst (λ x. FoundIn rows order x (end t) f) ef found (ops_at s (head s t)) lane) in
           let len = ops_from_length s 0 (records_at s (head s t)) in
-          rw (own_lane s st.fields.header t below, lane-ops s st.fields.header t below) (
+          rw (own_lane s st.fields.header t below, lane_ops s st.fields.header t below) (
             is.0,
             λ z. is.1 (unbroken (records_at s (head s t)) (ops_at s (head s t)) (sym len) nonzero z),
           )

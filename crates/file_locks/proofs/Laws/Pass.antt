@@ -16,16 +16,16 @@ use Rattle.file_format.specs.Held.{same, held, held_from, conflict_below, misuse
 use Rattle.file_format.specs.Rising.{descent_at, descent_position}
 use Rattle.file_format.specs.Search.{lowest}
 use Rattle.file_format.specs.Stored.{no_op}
-use Rattle.file_format.proofs.Laws.Search.{search_start, search-on, search-found, search-none}
+use Rattle.file_format.proofs.Laws.Search.{search_start, search_on, search_found, search_none}
 use Rattle.sheet_rows.specs.Lanes.{fields_of}
 use Rattle.file_locks.specs.Sets.{locks_in, meets, ways, differ, lock_bit, barred, wrong_at, suspect_at, descends_at}
 use Rattle.file_locks.specs.Sets.{after_row, first}
 use Rattle.file_locks.specs.Lanes.{LaneIn, Clean}
 use Rattle.file_locks.proofs.Laws.Locks.{agree_same, after_ways, ways_small, bit_small, skip_after, unsuspected}
-use Rattle.file_locks.proofs.Laws.Held.{row-code, row-b, row_target, jump_by, row-wrong, row-descends, row_next}
+use Rattle.file_locks.proofs.Laws.Held.{row_code, row_b_lem, row_target_lem, jump_by, row_wrong, row_descends, row_next}
 use Rattle.file_locks.proofs.Laws.Held.{held_on}
-use Rattle.file_locks.proofs.Laws.Descents.{Sought, sought-on}
-use Rattle.file_locks.proofs.Laws.Sets.{LedTo, led_start, led-past, led-put, fault-inside, fault-end}
+use Rattle.file_locks.proofs.Laws.Descents.{Sought, sought_on}
+use Rattle.file_locks.proofs.Laws.Sets.{LedTo, led_start, led_past, led_put, fault_inside, fault_end}
 
 -- the rule is broken at a position counted from 1
 abbrev broken : List Op → ℕ → Bool
@@ -50,9 +50,9 @@ module _ {rows : List ℕ} {n : ℕ} {ops : List Op} (lane : LaneIn rows n ops) 
   many : length ops ≡ n
   many = lane.held.count
 
-  pub pass-start : Passed ops n 0 240 (replicate 65 0)
+  pub pass_start : Passed ops n 0 240 (replicate 65 0)
   unfolding fault_position held_from
-  pass-start = record {
+  pass_start = record {
     h = 0;
     few = omega arith;
     ways_of = refl;
@@ -63,17 +63,17 @@ module _ {rows : List ℕ} {n : ℕ} {ops : List Op} (lane : LaneIn rows n ops) 
 
   module _ (p w : ℕ) (led : List ℕ) (at : Passed ops n p w led) where
     -- at row p, where it is not suspect
-    pub pass-clear : p < n → {bit : ℕ} → bit ≡ lock_bit (get_or rows (8 * p) 0) (get_or rows (8 * p + 2) 0)
+    pub pass_clear : p < n → {bit : ℕ} → bit ≡ lock_bit (get_or rows (8 * p) 0) (get_or rows (8 * p + 2) 0)
         → suspect_at (bit_or w (get_or led p 0)) (get_or rows (8 * p) 0) bit ≡ false
         → (wrong_at (bit_or w (get_or led p 0)) (get_or rows (8 * p) 0) bit ≡ false)
         × (descends_at (bit_or w (get_or led p 0)) (get_or rows (8 * p) 0) bit ≡ false)
-    pass-clear below {bit} eb e =
+    pass_clear below {bit} eb e =
         let small : w < 256 = omega (arith, at.ways_of, ways_small at.h at.few) in
         let named = lane.named p (omega (arith, many)) in
         rw eb
         (unsuspected (bit_or w (get_or led p 0)) (get_or rows (8 * p) 0) (get_or rows (8 * p + 2) 0)
         (or_lt 8 w (get_or led p 0) small (at.led_to.bytes p))
-        (λ l. omega (arith, row-b lane p below, named (omega (arith, row-code lane p below)))) (rw eb at e))
+        (λ l. omega (arith, row_b_lem lane p below, named (omega (arith, row_code lane p below)))) (rw eb at e))
 
     -- at row p, with the lock that it names
     module _
@@ -97,21 +97,21 @@ module _ {rows : List ℕ} {n : ℕ} {ops : List Op} (lane : LaneIn rows n ops) 
         inside = omega (arith, many)
 
         names : bit ≡ own
-        names = eb ∙ ap₂ lock_bit (row-code lane p below) (row-b lane p below)
+        names = eb ∙ ap₂ lock_bit (row_code lane p below) (row_b_lem lane p below)
 
         tests : t ≡ wrong_at here code own
-        tests = et ∙ (λ i. wrong_at (bit_or (at.ways_of i) (get_or led p 0)) (row-code lane p below i) (names i))
+        tests = et ∙ (λ i. wrong_at (bit_or (at.ways_of i) (get_or led p 0)) (row_code lane p below i) (names i))
 
         wrong : meets (barred (ways at.h) code) own ≡ misuse (locks_in at.h) (some o)
-        wrong = row-wrong at.h at.few o (lane.named p inside)
+        wrong = row_wrong at.h at.few o (lane.named p inside)
 
         tested : {v : Bool} → t ≡ v → fault_at ops (p + 1 - 1) ≡ v
         tested e =
-            fault-inside ops lane.onward p at.h led at.led_to at.few at.set_is code own inside wrong
+            fault_inside ops lane.onward p at.h led at.led_to at.few at.set_is code own inside wrong
             ∙ sym tests ∙ e
 
-        pub pass-found : t ≡ true → p + 1 ≡ fault_position ops
-        pass-found e = search-found (broken ops) (p + 1) (n + 1 + 1) (omega arith) (tested e) at.rest
+        pub pass_found : t ≡ true → p + 1 ≡ fault_position ops
+        pass_found e = search_found (broken ops) (p + 1) (n + 1 + 1) (omega arith) (tested e) at.rest
 
         -- the ways agree, and the rule is kept
         module _ (e : t ≡ false) where
@@ -132,14 +132,14 @@ module _ {rows : List ℕ} {n : ℕ} {ops : List Op} (lane : LaneIn rows n ops) 
           descended =
               let back : p + 1 - 1 ≡ p = omega arith in
               rw (back, at_some ops p no_op inside, ← at.set_is)
-              (sym (row-descends at.h at.few o (lane.named p inside))
-              ∙ sym (λ i. descends_at (joined i) (row-code lane p below i) (names i)))
+              (sym (row_descends at.h at.few o (lane.named p inside))
+              ∙ sym (λ i. descends_at (joined i) (row_code lane p below i) (names i)))
 
           -- what was found of descents with d found before, and x at the row
-          pub pass-sought : (d : ℕ) {x y : ℕ}
+          pub pass_sought : (d : ℕ) {x y : ℕ}
               → x ≡ cond (descends_at (bit_or w (get_or led p 0)) (get_or rows (8 * p) 0) bit) (p + 1) 0
               → y ≡ first d x → Sought ops n p d → Sought ops n (p + 1) y
-          pass-sought d ex ey s = sought-on ops n p d below descended (ey ∙ ap (first d) ex) s
+          pass_sought d ex ey s = sought_on ops n p d below descended (ey ∙ ap (first d) ex) s
 
           -- the ways v after the row
           module _ {v : ℕ} (ev : v ≡ after_row (bit_or w (get_or led p 0)) bit) where
@@ -152,29 +152,29 @@ module _ {rows : List ℕ} {n : ℕ} {ops : List Op} (lane : LaneIn rows n ops) 
                   set_is = held_on ops p inside at.set_is
                       (row_next at.h at.few o (lane.named p inside) right);
                   led_to = to;
-                  rest = search-on (broken ops) (p + 1) (n + 1 + 1) (omega arith) (tested e) at.rest;
+                  rest = search_on (broken ops) (p + 1) (n + 1 + 1) (omega arith) (tested e) at.rest;
                 }
 
             -- what row p leads where
-            pub lead-skip : get_or rows (8 * p) 0 ≡ 7 → {led' : List ℕ}
+            pub lead_skip : get_or rows (8 * p) 0 ≡ 7 → {led' : List ℕ}
                 → led' ≡ set led (get_or rows (8 * p + 4) 0) (bit_or (get_or led (get_or rows (8 * p + 4) 0) 0) v)
                 → LedTo ops (p + 1) led'
-            lead-skip e7 is =
-                let is-7 : 7 ≡ code = sym e7 ∙ row-code lane p below in
-                let word = row_target lane p below short is-7 in
+            lead_skip e7 is =
+                let is-7 : 7 ≡ code = sym e7 ∙ row_code lane p below in
+                let word = row_target_lem lane p below short is-7 in
                 let near = lane.within p inside (sym is-7) in
                 let jump = rw (eq-eqb code 7 (sym is-7)) at (jump_by o) in
                 let same = ev ∙ (λ i. after_row (joined i) ((eb ∙ ap (λ x. lock_bit x (get_or rows (8 * p + 2) 0)) e7) i))
                 ∙ skip_after (ways at.h) (get_or rows (8 * p + 2) 0) in
                 rw is
-                (led-put ops p led at.led_to inside (word ∙ jump) (omega (arith, near, many)) (omega (arith, many))
+                (led_put ops p led at.led_to inside (word ∙ jump) (omega (arith, near, many)) (omega (arith, many))
                 at.few at.set_is (ap (bit_or (get_or led (get_or rows (8 * p + 4) 0) 0)) same))
 
-    pub lead-none : p < n → ¬ get_or rows (8 * p) 0 ≡ 7 → {led' : List ℕ} → led' ≡ led → LedTo ops (p + 1) led'
-    lead-none below n7 is =
-        let other = ne_eqb (fields_of (get_or ops p no_op)).code 7 (λ e. n7 (row-code lane p below ∙ e)) in
+    pub lead_none : p < n → ¬ get_or rows (8 * p) 0 ≡ 7 → {led' : List ℕ} → led' ≡ led → LedTo ops (p + 1) led'
+    lead_none below n7 is =
+        let other = ne_eqb (fields_of (get_or ops p no_op)).code 7 (λ e. n7 (row_code lane p below ∙ e)) in
         rw is
-        (led-past ops p led at.led_to (omega (arith, many)) (rw other at (jump_by (get_or ops p no_op)))
+        (led_past ops p led at.led_to (omega (arith, many)) (rw other at (jump_by (get_or ops p no_op)))
         (omega (arith, many)))
 
     -- at the end
@@ -182,17 +182,17 @@ module _ {rows : List ℕ} {n : ℕ} {ops : List Op} (lane : LaneIn rows n ops) 
       end : p ≡ n
       end = omega arith
 
-      tested-end : {v : Bool} → not (eqb (bit_or w (get_or led n 0) % 16) 0) ≡ v → fault_at ops (p + 1 - 1) ≡ v
-      tested-end e =
-          fault-end ops lane.onward p at.h led at.led_to at.few at.set_is (end ∙ sym many)
+      tested_end : {v : Bool} → not (eqb (bit_or w (get_or led n 0) % 16) 0) ≡ v → fault_at ops (p + 1 - 1) ≡ v
+      tested_end e =
+          fault_end ops lane.onward p at.h led at.led_to at.few at.set_is (end ∙ sym many)
           ∙ (λ i. not (eqb (bit_or (sym at.ways_of i) (get_or led (end i) 0) % 16) 0)) ∙ e
 
-      pub end-found : ¬ bit_or w (get_or led n 0) % 16 ≡ 0 → n + 1 ≡ fault_position ops
-      end-found e =
-          rw (← end) (search-found (broken ops) (p + 1) (n + 1 + 1) (omega arith)
-          (tested-end (ap not (ne_eqb _ 0 e))) at.rest)
+      pub end_found : ¬ bit_or w (get_or led n 0) % 16 ≡ 0 → n + 1 ≡ fault_position ops
+      end_found e =
+          rw (← end) (search_found (broken ops) (p + 1) (n + 1 + 1) (omega arith)
+          (tested_end (ap not (ne_eqb _ 0 e))) at.rest)
 
       pub end_none : bit_or w (get_or led n 0) % 16 ≡ 0 → 0 ≡ fault_position ops
       end_none e =
-          search-none (broken ops) (p + 1 + 1) (n + 1 + 1) (omega arith)
-          (search-on (broken ops) (p + 1) (n + 1 + 1) (omega arith) (tested-end (ap not (eq-eqb _ 0 e))) at.rest)
+          search_none (broken ops) (p + 1 + 1) (n + 1 + 1) (omega arith)
+          (search_on (broken ops) (p + 1) (n + 1 + 1) (omega arith) (tested_end (ap not (eq-eqb _ 0 e))) at.rest)

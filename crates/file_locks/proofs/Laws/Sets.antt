@@ -17,7 +17,7 @@ use Rattle.file_format.specs.Held.{same, held, jump_from, conflicts_by, conflict
 use Rattle.file_format.specs.Stored.{no_op}
 use Rattle.file_locks.specs.Sets.{or_else, no_jump, jump_or, locks_in, meets, ways, differ, barred, wrong_at}
 use Rattle.file_locks.specs.Lanes.{Onward}
-use Rattle.file_locks.proofs.Laws.Locks.{locks_same, ways_small, led-more, led_none, wrong-is, wrong-end}
+use Rattle.file_locks.proofs.Laws.Locks.{locks_same, ways_small, led_more, led_none, wrong_is, wrong_end}
 
 -- a jump that leads elsewhere than to x, and one that leads to q
 conflicts_other : (j : Option ℕ) (x : ℕ) (h g : List Bool) → (x ≡ or_else no_jump j → ⊥) → conflicts_by j x h g ≡ false
@@ -88,16 +88,16 @@ module _ (ops : List Op) (p : ℕ) (led : List ℕ) (at : LedTo ops p led) (insi
   away : (x : ℕ) → (x ≡ q → ⊥) → conflict_below ops (p + 1) x ≡ conflict_below ops p x
   away x n = rw one (conflict_away ops p x inside (λ e. n (e ∙ sym leads)))
 
-  pub led-past : length ops < q → LedTo ops (p + 1) led
-  led-past far = record {
+  pub led_past : length ops < q → LedTo ops (p + 1) led
+  led_past far = record {
     room = at.room;
     bytes = at.bytes;
     each = λ x h l few e. at.each x h l few e ∙ sym (away x (λ z. omega arith));
   }
 
-  pub led-put : {g v : ℕ} → q ≤ length ops → length ops ≤ 64 → g < 16 → locks_in g ≡ held ops p
+  pub led_put : {g v : ℕ} → q ≤ length ops → length ops ≤ 64 → g < 16 → locks_in g ≡ held ops p
       → v ≡ bit_or (get_or led q 0) (ways g) → LedTo ops (p + 1) (set led q v)
-  led-put {g} {v} near short fewer eg ev = record {
+  led_put {g} {v} near short fewer eg ev = record {
     room = length-set led q v ∙ at.room;
     bytes = set_all (λ i x. x < 256) 0 led q v at.bytes
         (subst (λ x. x < 256) (sym ev) (or_lt 8 (get_or led q 0) (ways g) (at.bytes q) (ways_small g fewer)));
@@ -117,7 +117,7 @@ module _ (ops : List Op) (p : ℕ) (led : List ℕ) (at : LedTo ops p led) (insi
           (λ i. same (sym eg i) (sym there i)) ∙ locks_same g h fewer few in
           ap (λ y. differ (bit_or (ways h) y))
           (ap (λ y. get_or (set led q v) y 0) here ∙ get_or-set_same led q v 0 (omega (arith, at.room)) ∙ ev)
-          ∙ led-more h (get_or led q 0) few (at.bytes q) g fewer
+          ∙ led_more h (get_or led q 0) few (at.bytes q) g fewer
           ∙ ap (cond (not (eqb g h)) true) (at.each q h near few there)
           ∙ sym (rw (here, one, conflict_here ops p q inside leads (omega arith), alike))
 
@@ -134,17 +134,17 @@ module _ (ops : List Op) (on : Onward ops) (p h : ℕ) (led : List ℕ) (at : Le
   back = omega arith
 
   -- the rule is broken at the position, as the test found
-  pub fault-inside : (code bit : ℕ) → p < length ops
+  pub fault_inside : (code bit : ℕ) → p < length ops
       → meets (barred (ways h) code) bit ≡ misuse (locks_in h) (some (get_or ops p no_op))
       → fault_at ops (p + 1 - 1) ≡ wrong_at here code bit
   unfolding fault_at
-  fault-inside code bit inside e =
+  fault_inside code bit inside e =
       rw (back, at_some ops p no_op inside, ← set_is, ← known (omega arith))
-      (sym (wrong-is h (get_or led p 0) few (at.bytes p) code bit e))
+      (sym (wrong_is h (get_or led p 0) few (at.bytes p) code bit e))
 
-  pub fault-end : p ≡ length ops → fault_at ops (p + 1 - 1) ≡ not (eqb (here % 16) 0)
+  pub fault_end : p ≡ length ops → fault_at ops (p + 1 - 1) ≡ not (eqb (here % 16) 0)
   unfolding fault_at
-  fault-end e =
+  fault_end e =
       let last : get_elem? ops p ≡ none = at_beyond ops p (omega arith) in
       rw (back, last, ← set_is, locks_same h 0 few (omega arith), ← known (omega arith))
-      (sym (wrong-end h (get_or led p 0) few (at.bytes p)))
+      (sym (wrong_end h (get_or led p 0) few (at.bytes p)))

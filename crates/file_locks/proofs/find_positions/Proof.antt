@@ -9,9 +9,9 @@ use Rattle.file_format.specs.declared.accepted.Op.{Op}
 use Rattle.file_locks.specs.Lanes.{LaneIn}
 use Rattle.file_locks.proofs.Laws.Locks.{bit_small}
 use Rattle.file_locks.proofs.Laws.Sets.{LedTo}
-use Rattle.file_locks.proofs.Laws.Descents.{Sought, sought-start, sought-end}
-use Rattle.file_locks.proofs.Laws.Pass.{Passed, pass-start, pass-found, pass_on, pass-sought, lead-skip}
-use Rattle.file_locks.proofs.Laws.Pass.{lead-none, end-found, end_none}
+use Rattle.file_locks.proofs.Laws.Descents.{Sought, sought_start, sought_end}
+use Rattle.file_locks.proofs.Laws.Pass.{Passed, pass_start, pass_found, pass_on, pass_sought, lead_skip}
+use Rattle.file_locks.proofs.Laws.Pass.{lead_none, end_found, end_none}
 use borrow.Author.Rules.{rules}
 use Rattle.file_locks.proofs.find_positions.Statement.{statement}
 use Rattle.file_locks.proofs.find_positions.Tie as tie
@@ -28,7 +28,7 @@ loop-holds : tie.Need-loop-init invariant-loop decreases-loop
 loop-holds c = (
   omega arith,
   refl,
-  λ ops lane. (pass-start lane c.before.requires.0, sought-start ops _ lane.held.count),
+  λ ops lane. (pass_start lane c.before.requires.0, sought_start ops _ lane.held.count),
 )
 
 mul-code : tie.Need-overflow-mul-code invariant-loop decreases-loop
@@ -64,7 +64,7 @@ returns c =
     let w = x.before.before.before in
     let l = w.before.loop in
     λ ops lane.
-    let found = pass-found lane w.before.before.before.requires.0 l.p l.w l.led (l.invariant.2 ops lane).0
+    let found = pass_found lane w.before.before.before.requires.0 l.p l.w l.led (l.invariant.2 ops lane).0
     w.loop-test.true x.lock-bit.ensures c.before.wrong-at.ensures c.if1.true in
     (found, λ z. absurd (omega (arith, found, z)))
 
@@ -129,7 +129,7 @@ on r ops lane to =
     let was = l.inv.2 ops lane in (
       pass_on lane (start r).pre.0 l.p l.w l.led was.0 w.loop-test.taken x.lock-bit.ensures
           t.before.wrong-at.ensures t.if1.left r.after-row.ensures to,
-      pass-sought lane (start r).pre.0 l.p l.w l.led was.0 w.loop-test.taken x.lock-bit.ensures
+      pass_sought lane (start r).pre.0 l.p l.w l.led was.0 w.loop-test.taken x.lock-bit.ensures
           t.before.wrong-at.ensures t.if1.left l.descent d.descent-here.ensures
           r.before.first.ensures was.1,
     )
@@ -145,7 +145,7 @@ loop-again c =
       omega arith,
       ap length c.before.lead.ensures ∙ length-set l.led _ _ ∙ l.inv.1,
       λ ops lane. on r ops lane
-          (lead-skip lane (start r).requires.0 l.p l.w l.led (l.inv.2 ops lane).0 w.loop-test.taken
+          (lead_skip lane (start r).requires.0 l.p l.w l.led (l.inv.2 ops lane).0 w.loop-test.taken
           x.lock-bit.ensures t.before.wrong-at.ensures t.if1.false r.after-row.ensures
           i.if2.true c.before.lead.ensures),
     )
@@ -161,7 +161,7 @@ loop-again-2 c =
       omega arith,
       l.inv.1,
       λ ops lane. on r ops lane
-          (lead-none lane (start r).requires.0 l.p l.w l.led (l.inv.2 ops lane).0 w.loop-test.taken
+          (lead_none lane (start r).requires.0 l.p l.w l.led (l.inv.2 ops lane).0 w.loop-test.taken
           c.if2.false refl),
     )
 
@@ -176,7 +176,7 @@ returns-2 c =
     let w = c.before in
     let l = w.before.loop in
     λ ops lane.
-    let found = end-found lane w.before.before.before.requires.0 l.p l.w l.led (l.invariant.2 ops lane).0
+    let found = end_found lane w.before.before.before.requires.0 l.p l.w l.led (l.invariant.2 ops lane).0
     w.loop-test.false l.invariant.0 c.if3.true in
     (found, λ z. absurd (omega (arith, found, z)))
 
@@ -187,7 +187,7 @@ returns-3 c =
     λ ops lane. (
       end_none lane w.before.before.before.requires.0 l.p l.w l.led (l.invariant.2 ops lane).0
           w.loop-test.false l.invariant.0 c.if3.false,
-      λ z. sought-end ops _ l.p l.descent w.loop-test.false (l.invariant.2 ops lane).1,
+      λ z. sought_end ops _ l.p l.descent w.loop-test.false (l.invariant.2 ops lane).1,
     )
 
 pub find-positions-spec : {M : Type 1} → statement M

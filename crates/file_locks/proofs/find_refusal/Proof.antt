@@ -8,13 +8,13 @@ use Rattle.file_format.specs.Accepted.{Program, program_of}
 use Rattle.file_format.specs.Held.{lock_fault}
 use Rattle.file_format.specs.Rising.{lock_order}
 use Rattle.file_format.specs.Search.{first_of}
-use Rattle.file_format.proofs.Laws.Search.{first_on, first_found, first-none}
+use Rattle.file_format.proofs.Laws.Search.{first_on, first_found, first_none}
 use Rattle.file_chains.specs.Ordered.{begin_of}
 use Rattle.file_verdict.specs.declared.refusal.Refusal.TheVariants.{Accepted, LockFault, LockOrder}
 use Rattle.file_verdict.proofs.Laws.Verdict.{names, passes}
 use Rattle.file_locks.specs.Sets.{first}
-use Rattle.file_locks.proofs.Laws.Descents.{named-on, named_end}
-use Rattle.file_locks.proofs.Laws.Order.{fault, descent, lane-fits, found-is, fault_first, descent_first}
+use Rattle.file_locks.proofs.Laws.Descents.{named_on, named_end}
+use Rattle.file_locks.proofs.Laws.Order.{fault, descent, lane_fits, found_is, fault_first, descent_first}
 use borrow.Author.Rules.{rules}
 use Rattle.file_locks.proofs.find_refusal.Statement.{statement}
 use Rattle.file_locks.proofs.find_refusal.Tie as tie
@@ -50,14 +50,14 @@ is : (g : Looked) → (g.find-records.result.fault ≡ fault (file g) (lane g))
 is g =
     let w = g.before.before in
     let p = (start g).pre in
-    found-is _ _ _ _ p.0 p.1.0.1 _ _ p.1.1.1 p.1.1.2 _ w.loop-test.taken
+    found_is _ _ _ _ p.0 p.1.0.1 _ _ p.1.1.1 p.1.1.2 _ w.loop-test.taken
     w.before.loop.inv.0 g.find-records.ensures
 
 find-records-requires : tie.Need-find-records-requires invariant-loop decreases-loop
 find-records-requires c κs =
     let w = c.before in
     let p = w.before.before.before.before.before.requires in
-    lane-fits _ _ _ _ p.0 p.1.0.1 _ _ p.1.1.1 p.1.1.2 _ w.loop-test.true
+    lane_fits _ _ _ _ p.0 p.1.0.1 _ _ p.1.1.1 p.1.1.2 _ w.loop-test.true
     w.before.loop.invariant.0
 
 returns : tie.Need-returns invariant-loop decreases-loop
@@ -83,7 +83,7 @@ loop-again c =
       ap (begin_of (start g).args.ends.now) (sym next),
       first_on _ _ _ w.loop-test.true (is g).0 i.if1.false l.invariant.1,
       rw c.first.ensures
-          (named-on (descent (file g)) l.t 4 l.descent w.loop-test.true
+          (named_on (descent (file g)) l.t 4 l.descent w.loop-test.true
           ((is g).1 (sym (is g).0 ∙ i.if1.false)) l.invariant.2),
     )
 
@@ -95,7 +95,7 @@ abbrev whole : All → Program
 whole w = program_of w.before.before.before.before.before.args.s.now
 
 no-fault : (w : All) → lock_fault (whole w) ≡ 0
-no-fault w = sym (first-none _ _ _ w.loop-test.left w.before.loop.inv.1)
+no-fault w = sym (first_none _ _ _ w.loop-test.left w.before.loop.inv.1)
 
 order_is : (w : All) → w.before.loop.descent ≡ lock_order (whole w)
 order_is w = let l = w.before.loop in named_end _ l.t 4 l.descent w.loop-test.left l.inv.2

@@ -6,13 +6,13 @@ use Rattle.file_format.specs.Accepted.{program_of}
 use Rattle.file_format.specs.Held.{lock_fault}
 use Rattle.file_format.specs.Rising.{lock_order}
 use Rattle.file_format.specs.Search.{first_of}
-use Rattle.file_format.proofs.Laws.Search.{first_on, first-none}
+use Rattle.file_format.proofs.Laws.Search.{first_on, first_none}
 use Rattle.file_chains.specs.Ordered.{begin_of}
 use Rattle.file_verdict.specs.declared.refusal.Refusal.TheVariants.{Accepted, LockFault, LockOrder}
 use Rattle.file_verdict.proofs.Laws.Verdict.{passes}
 use Rattle.file_locks.proofs.Laws.Held.{clean_records}
-use Rattle.file_locks.proofs.Laws.NoLocks.{no-fault, no_descent}
-use Rattle.file_locks.proofs.Laws.Order.{fault, descent, lane-fits, found-is, fault_first, descent_first}
+use Rattle.file_locks.proofs.Laws.NoLocks.{no_fault, no_descent}
+use Rattle.file_locks.proofs.Laws.Order.{fault, descent, lane_fits, found_is, fault_first, descent_first}
 use borrow.Author.Rules.{rules}
 use Rattle.file_locks.proofs.lock_refusal.Statement.{statement}
 use Rattle.file_locks.proofs.lock_refusal.Tie as tie
@@ -35,7 +35,7 @@ returns : tie.Need-returns invariant-loop decreases-loop
 returns c =
     let a = c.before.before.before.before.before in
     passes _ LockOrder Accepted (no_descent a.args.s.now a.requires.0 c.if1.true)
-    ∙ passes _ LockFault _ (no-fault a.args.s.now a.requires.0 c.if1.true)
+    ∙ passes _ LockFault _ (no_fault a.args.s.now a.requires.0 c.if1.true)
 
 loop-holds : tie.Need-loop-init invariant-loop decreases-loop
 loop-holds c =
@@ -46,7 +46,7 @@ suspicious-lane-requires : tie.Need-suspicious-lane-requires invariant-loop decr
 suspicious-lane-requires c κs =
     let w = c.before in
     let p = w.before.before.before.before.before.before.before.requires in
-    let fits = lane-fits _ _ _ _ p.0 p.1.0.1 _ _ p.1.1.1 p.1.1.2 _ w.loop-test.true
+    let fits = lane_fits _ _ _ _ p.0 p.1.0.1 _ _ p.1.1.1 p.1.1.2 _ w.loop-test.true
     w.before.loop.invariant.0 in
     (fits.0, fits.1, fits.2, fits.3)
 
@@ -68,7 +68,7 @@ loop-again c =
     let start = w.before.before.before.before.before.before.before in
     let p = start.requires in
     let l = w.before.loop in
-    let is = found-is _ _ _ _ p.0 p.1.0.1 _ _ p.1.1.1 p.1.1.2 _ w.loop-test.true l.invariant.0
+    let is = found_is _ _ _ _ p.0 p.1.0.1 _ _ p.1.1.1 p.1.1.2 _ w.loop-test.true l.invariant.0
     (λ ops lane. clean_records _ ops (c.before.suspicious-lane.ensures c.if2.false ops lane)) in
     let next : l.t + 1 ≡ suc l.t = omega arith in (
       ap (begin_of start.args.ends.now) (sym next),
@@ -79,8 +79,8 @@ loop-again c =
 returns-3 : tie.Need-returns-3 invariant-loop decreases-loop
 returns-3 c =
     let l = c.before.loop in
-    passes _ LockOrder Accepted (sym (first-none _ _ _ c.loop-test.false l.invariant.2))
-    ∙ passes _ LockFault _ (sym (first-none _ _ _ c.loop-test.false l.invariant.1))
+    passes _ LockOrder Accepted (sym (first_none _ _ _ c.loop-test.false l.invariant.2))
+    ∙ passes _ LockFault _ (sym (first_none _ _ _ c.loop-test.false l.invariant.1))
 
 pub lock-refusal-spec : {M : Type 1} → statement M
 lock-refusal-spec =

@@ -11,9 +11,9 @@ use Rattle.file_format.specs.declared.accepted.Op.{Op}
 use Rattle.file_locks.specs.Lanes.{LaneIn}
 use Rattle.file_locks.proofs.Laws.Locks.{bit_small}
 use Rattle.file_locks.proofs.Laws.Sets.{LedTo}
-use Rattle.file_locks.proofs.Laws.Descents.{Sought, sought-start, sought-end}
-use Rattle.file_locks.proofs.Laws.Pass.{Passed, pass-start, pass-clear, pass_on, pass-sought, lead-skip}
-use Rattle.file_locks.proofs.Laws.Pass.{lead-none, end_none}
+use Rattle.file_locks.proofs.Laws.Descents.{Sought, sought_start, sought_end}
+use Rattle.file_locks.proofs.Laws.Pass.{Passed, pass_start, pass_clear, pass_on, pass_sought, lead_skip}
+use Rattle.file_locks.proofs.Laws.Pass.{lead_none, end_none}
 use borrow.Author.Rules.{rules}
 use Rattle.file_locks.proofs.suspicious.Statement.{statement}
 use Rattle.file_locks.proofs.suspicious.Tie as tie
@@ -30,7 +30,7 @@ loop-holds : tie.Need-loop-init invariant-loop decreases-loop
 loop-holds c = (
   omega arith,
   refl,
-  λ ops lane. (pass-start lane c.before.requires.0, sought-start ops _ lane.held.count),
+  λ ops lane. (pass_start lane c.before.requires.0, sought_start ops _ lane.held.count),
 )
 
 mul-code : tie.Need-overflow-mul-code invariant-loop decreases-loop
@@ -117,11 +117,11 @@ on r ops lane to =
     let w = entered r in
     let l = w.before.loop in
     let was = l.inv.2 ops lane in
-    let clear = pass-clear lane (start r).pre.0 l.p l.w l.led was.0 w.loop-test.taken
+    let clear = pass_clear lane (start r).pre.0 l.p l.w l.led was.0 w.loop-test.taken
     x.lock-bit.ensures (sym t.before.suspect-at.ensures ∙ t.if1.left) in (
       pass_on lane (start r).pre.0 l.p l.w l.led was.0 w.loop-test.taken x.lock-bit.ensures refl
           clear.0 r.after-row.ensures to,
-      pass-sought lane (start r).pre.0 l.p l.w l.led was.0 w.loop-test.taken x.lock-bit.ensures
+      pass_sought lane (start r).pre.0 l.p l.w l.led was.0 w.loop-test.taken x.lock-bit.ensures
           refl clear.0 0 {x = 0} (rw clear.1 refl) refl was.1,
     )
 
@@ -139,14 +139,14 @@ loop-again c =
       ap length (y.5 ∙ y.3.ensures) ∙ length-set l.led _ _ ∙ l.inv.1,
       λ ops lane.
           let was = (l.inv.2 ops lane).0 in
-          let clear = pass-clear lane (start r).requires.0 l.p l.w l.led was w.loop-test.taken
+          let clear = pass_clear lane (start r).requires.0 l.p l.w l.led was w.loop-test.taken
           x.lock-bit.ensures (sym t.before.suspect-at.ensures ∙ t.if1.false) in
-          lead-skip lane (start r).requires.0 l.p l.w l.led was w.loop-test.taken x.lock-bit.ensures refl
+          lead_skip lane (start r).requires.0 l.p l.w l.led was w.loop-test.taken x.lock-bit.ensures refl
           clear.0 r.after-row.ensures y.0.taken (y.5 ∙ y.3.ensures),
     ))
     (λ y. (
       ap length y.1 ∙ l.inv.1,
-      λ ops lane. lead-none lane (start r).requires.0 l.p l.w l.led (l.inv.2 ops lane).0
+      λ ops lane. lead_none lane (start r).requires.0 l.p l.w l.led (l.inv.2 ops lane).0
           w.loop-test.taken y.0.left y.1,
     ))
     c.if2.branch in
@@ -161,7 +161,7 @@ returns-2 c =
     λ e ops lane. (
       sym (end_none lane c.before.before.before.requires.0 l.p l.w l.led (l.invariant.2 ops lane).0
           c.loop-test.false l.invariant.0 (eqb-true _ _ (not-false _ e))),
-      sym (sought-end ops _ l.p 0 c.loop-test.false (l.invariant.2 ops lane).1),
+      sym (sought_end ops _ l.p 0 c.loop-test.false (l.invariant.2 ops lane).1),
     )
 
 pub suspicious-spec : {M : Type 1} → statement M

@@ -19,10 +19,10 @@ use Rattle.file_format.specs.Rules.{header_rule, bad_record}
 use Rattle.file_format.specs.Accepted.{records_at, ops_of, ops_at, program_of}
 use Rattle.file_format.specs.Lawful.{Bounded}
 use Rattle.file_format.specs.Stored.{no_op}
-use Rattle.file_format.proofs.Bounded.{lane-bounded}
-use Rattle.file_format.proofs.Laws.Lanes.{lane-ops}
+use Rattle.file_format.proofs.Bounded.{lane_bounded}
+use Rattle.file_format.proofs.Laws.Lanes.{lane_ops}
 use Rattle.file_format.proofs.Laws.Linkage.{chain_stop, chain_length}
-use Rattle.file_format.proofs.Laws.Rules.{four_lanes, head-range, head-none}
+use Rattle.file_format.proofs.Laws.Rules.{four_lanes_lem, head_range, head_none}
 use Rattle.file_format.proofs.Laws.Stored.{ops_from_length, lane_count_lem}
 use Rattle.file_verdict.specs.Verdict.{verdict, accepted}
 use Rattle.file_format.specs.Structured.{Fielded}
@@ -32,8 +32,8 @@ use Rattle.sheet_format.specs.declared.Level.TheVariants.{Level0}
 use Rattle.sheet_format.specs.Levels.{sheet_lanes}
 use Rattle.sheet_format.specs.Bytes.{joined, lane_bytes, over, sheet_bytes}
 use Rattle.sheet_format.specs.Put.{in_turn}
-use Rattle.sheet_format.proofs.Level0.{file-lanes0}
-use Rattle.sheet_format.proofs.Laws.Turn.{turn_same, turn-all}
+use Rattle.sheet_format.proofs.Level0.{file_lanes0}
+use Rattle.sheet_format.proofs.Laws.Turn.{turn_same, turn_all}
 use Rattle.sheet_rows.specs.Rows.{count_at, parts_in}
 use Rattle.sheet_rows.specs.Lanes.{op_rows, fields_of, Holds}
 use Rattle.sheet_rows.proofs.Laws.Lanes.{rows_length}
@@ -99,20 +99,20 @@ module _ (s : List ℕ) (header : header_rule s ≡ true) where
         let x = some_at (ops_of s rs) p o no_op e in
         let inside : p < length rs = omega (arith, x.0, ops_from_length s 0 rs) in
         word_small (locations s) (locks s) (length rs) p o (chain_length s 64 (head s t))
-        (rw x.1 at (lane-bounded s records (head s t) (head-range s header t below) p no_op inside))
+        (rw x.1 at (lane_bounded s records (head s t) (head_range s header t below) p no_op inside))
 
   -- ## the lanes behind the header
 
   few : lane_count s ≤ 4
-  few = four_lanes s header
+  few = four_lanes_lem s header
 
-  lanes-in-turn : joined (map (lane_bytes Level0) (sheet_lanes Level0 (program_of s))) ≡ in_turn (chain_at s) 4
-  lanes-in-turn =
+  lanes_in_turn : joined (map (lane_bytes Level0) (sheet_lanes Level0 (program_of s))) ≡ in_turn (chain_at s) 4
+  lanes_in_turn =
       let os = (program_of s).lanes in
-      ap (λ x. joined (map (lane_bytes Level0) x)) (file-lanes0 s)
+      ap (λ x. joined (map (lane_bytes Level0) x)) (file_lanes0 s)
       ∙ ap joined (map-map (lane_bytes Level0) (map op) os)
-      ∙ sym (turn-all op_rows [] refl os 4 (omega (arith, lane_count_lem s few, few)))
-      ∙ turn_same (λ t. op_rows (get_or os t [])) (chain_at s) 4 (λ t h. ap op_rows (lane-ops s header t h))
+      ∙ sym (turn_all op_rows [] refl os 4 (omega (arith, lane_count_lem s few, few)))
+      ∙ turn_same (λ t. op_rows (get_or os t [])) (chain_at s) 4 (λ t h. ap op_rows (lane_ops s header t h))
 
   module _ (rows own : List ℕ) (front : rows ≡ over (sheet_bytes Level0 (program_of s)) own) where
     abbrev rest : List ℕ
@@ -120,12 +120,12 @@ module _ (s : List ℕ) (header : header_rule s ≡ true) where
 
     body : drop 16 rows ≡ in_turn (chain_at s) 4 ++ rest
     unfolding sheet_bytes
-    body = ap (drop 16) front ∙ ap (λ x. x ++ drop (length (sheet_bytes Level0 (program_of s))) own) lanes-in-turn
+    body = ap (drop 16) front ∙ ap (λ x. x ++ drop (length (sheet_bytes Level0 (program_of s))) own) lanes_in_turn
 
     -- lane t, and what follows it
-    lane-front : (t : ℕ) → t < 4
+    lane_front : (t : ℕ) → t < 4
         → drop (16 + 8 * before s t) rows ≡ chain_at s t ++ behind (chain_at s) t (3 - t) rest
-    lane-front t h =
+    lane_front t h =
         let n : 4 ≡ t + suc (3 - t) = omega arith in
         sym (drop-drop (8 * before s t) 16 rows)
         ∙ ap (drop (8 * before s t))
@@ -137,14 +137,14 @@ module _ (s : List ℕ) (header : header_rule s ≡ true) where
 
     counted : (t : ℕ) → t < 4 → length (get_or (sheet_lanes Level0 (program_of s)) t []) ≡ many s t
     counted t h =
-        ap (λ x. length (get_or x t [])) (file-lanes0 s)
+        ap (λ x. length (get_or x t [])) (file_lanes0 s)
         ∙ ap length (get_or-map (map op) (program_of s).lanes t [])
         ∙ length-map (get_or (program_of s).lanes t []) op
-        ∙ ap length (lane-ops s header t h)
+        ∙ ap length (lane_ops s header t h)
 
-    in-header : (t : ℕ) → t < 4 → word rows (8 + 2 * t) ≡ many s t
+    in_header : (t : ℕ) → t < 4 → word rows (8 + 2 * t) ≡ many s t
     unfolding sheet_bytes
-    in-header t h =
+    in_header t h =
         ap (λ x. word x (8 + 2 * t)) front ∙ go t h (omega (arith, counted t h, many_small s t)) ∙ counted t h
       where
         go : (t : ℕ) → t < 4 → length (get_or (sheet_lanes Level0 (program_of s)) t []) < 65536
@@ -157,50 +157,50 @@ module _ (s : List ℕ) (header : header_rule s ≡ true) where
             ≡ length (get_or (sheet_lanes Level0 (program_of s)) t []))
             (word_back _) (word_back _) (word_back _) (word_back _)
 
-    lanes-byte : get_or rows 0 0 ≡ lane_count s
+    lanes_byte : get_or rows 0 0 ≡ lane_count s
     unfolding sheet_bytes
-    lanes-byte = ap (λ x. get_or x 0 0) front ∙ lane_count_lem s few
+    lanes_byte = ap (λ x. get_or x 0 0) front ∙ lane_count_lem s few
 
-    count-is : (t : ℕ) → t < 4 → count_at rows t ≡ many s t
-    count-is t h = go (dec_lt t (lane_count s))
+    count_is : (t : ℕ) → t < 4 → count_at rows t ≡ many s t
+    count_is t h = go (dec_lt t (lane_count s))
       where
         go : Dec (t < lane_count s) → count_at rows t ≡ many s t
-        go (yes l) = sym (count_in_lem rows t h (omega (arith, lanes-byte))) ∙ in-header t h
+        go (yes l) = sym (count_in_lem rows t h (omega (arith, lanes_byte))) ∙ in_header t h
         go (no l) =
-            let none = ap length (chain_stop s 64 (head s t) (head-none s header t h (omega arith))) in
+            let none = ap length (chain_stop s 64 (head s t) (head_none s header t h (omega arith))) in
             omega (
               arith,
-              count_none rows t (omega (arith, lanes-byte)),
+              count_none rows t (omega (arith, lanes_byte)),
               ops_from_length s 0 (records_at s (head s t)),
               none,
             )
 
     pub part_count : (t : ℕ) → t < 4 → get_or (parts_in rows).count t 0 ≡ many s t
-    part_count t h = parts-many rows t h ∙ count-is t h
+    part_count t h = parts-many rows t h ∙ count_is t h
 
-    pub part-from : (t : ℕ) → t < 4 → get_or (parts_in rows).from t 0 ≡ 16 + 8 * before s t
-    part-from =
-        let one = count-is 0 (omega arith) in
-        let two = count-is 1 (omega arith) in
+    pub part_from : (t : ℕ) → t < 4 → get_or (parts_in rows).from t 0 ≡ 16 + 8 * before s t
+    part_from =
+        let one = count_is 0 (omega arith) in
+        let two = count_is 1 (omega arith) in
         below_four (λ t. get_or (parts_in rows).from t 0 ≡ 16 + 8 * before s t) refl (omega (arith, one))
-        (omega (arith, one, two)) (omega (arith, one, two, count-is 2 (omega arith)))
+        (omega (arith, one, two)) (omega (arith, one, two, count_is 2 (omega arith)))
 
     -- ## lane t in the buffer
 
     module _ (records : bad_record s ≡ 0) (t : ℕ) (below : t < 4) where
-      pub lane-holds : Holds (drop (16 + 8 * before s t) rows) (many s t) (ops_at s (head s t))
-      lane-holds = record {
+      pub lane_holds : Holds (drop (16 + 8 * before s t) rows) (many s t) (ops_at s (head s t))
+      lane_holds = record {
         count = refl;
         front =
-            ap (take (8 * many s t)) (lane-front t below)
+            ap (take (8 * many s t)) (lane_front t below)
             ∙ take_at (chain_at s t) (behind (chain_at s) t (3 - t) rest) (8 * many s t)
             (rows_length (ops_at s (head s t)));
         small = words_small records t below;
       }
 
-      pub parts-hold : Holds (drop (get_or (parts_in rows).from t 0) rows) (get_or (parts_in rows).count t 0)
+      pub parts_hold : Holds (drop (get_or (parts_in rows).from t 0) rows) (get_or (parts_in rows).count t 0)
           (ops_at s (head s t))
-      parts-hold = rw (part-from t below, part_count t below) lane-holds
+      parts_hold = rw (part_from t below, part_count t below) lane_holds
 
 -- the same of an accepted file
 module _ (s : List ℕ) (ok : verdict s ≡ accepted (program_of s)) (rows own : List ℕ)
@@ -208,6 +208,6 @@ module _ (s : List ℕ) (ok : verdict s ≡ accepted (program_of s)) (rows own :
   fields : Fielded s
   fields = (sound s (accepted_as s (program_of s) ok).0).0.fields
 
-  pub accepted-parts-hold : Holds (drop (get_or (parts_in rows).from t 0) rows) (get_or (parts_in rows).count t 0)
+  pub accepted_parts_hold : Holds (drop (get_or (parts_in rows).from t 0) rows) (get_or (parts_in rows).count t 0)
       (ops_at s (head s t))
-  accepted-parts-hold = parts-hold s fields.header rows own front fields.records t below
+  accepted_parts_hold = parts_hold s fields.header rows own front fields.records t below

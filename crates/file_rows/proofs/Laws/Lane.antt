@@ -16,8 +16,8 @@ use Rattle.sheet_format.proofs.Laws.Put.{puts_on, puts_as}
 use Rattle.sheet_rows.specs.Lanes.{op_rows}
 
 module _ (ops : List Op) where
-  rows-suc : (p : ℕ) → p < length ops → op_rows (take p ops) ++ op_bytes (get_or ops p no_op) ≡ op_rows (take (p + 1) ops)
-  rows-suc p h =
+  rows_suc : (p : ℕ) → p < length ops → op_rows (take p ops) ++ op_bytes (get_or ops p no_op) ≡ op_rows (take (p + 1) ops)
+  rows_suc p h =
       let one : p + 1 ≡ suc p = omega arith in
       let o = get_or ops p no_op in
       sym (ap (λ n. op_rows (take n ops)) one
@@ -36,7 +36,7 @@ module _ (ops : List Op) where
         bytes = put ∙ ap (λ k. sets out k row) e ∙ ap (sets out (at + 8 * p)) (sym same);
         behind = omega (arith, size);
       } in
-      puts_as (rows-suc p h) (puts_on were next)
+      puts_as (rows_suc p h) (puts_on were next)
 
   pub rows_all : (p : ℕ) → length ops ≤ p → op_rows (take p ops) ≡ op_rows ops
   rows_all p h = ap op_rows (take_all p ops h)

@@ -1,4 +1,4 @@
--- The row of an operation is made of its record's own bytes: law `record-row`.
+-- The row of an operation is made of its record's own bytes: law `record_row_lem`.
 use Prim.Native.Nat.{ℕ, zero, suc, ◌+◌, ◌*◌, ◌/◌, ◌%◌, ◌<◌}
 use mathlib.Core.Path.{◌≡◌, refl, sym, ap, ap₂, subst, ◌∙◌}
 use mathlib.Core.Bool.{true, cond}
@@ -40,8 +40,8 @@ module _
         let ef : 0 ≡ f = omega arith in
         λ i. o ∷ ea i ∷ b ∷ ez i ∷ ec i ∷ ed i ∷ ee i ∷ ef i ∷ []
 
-    with-constant : b < 1 → row 1 a 0 number ≡ eight 1 c
-    with-constant h =
+    with_constant : b < 1 → row 1 a 0 number ≡ eight 1 c
+    with_constant h =
         let eb : 0 ≡ b = omega arith in
         let ez : 0 ≡ z = omega arith in
         let above : number / 256 ≡ d + 256 * (e + 256 * f) = omega arith in
@@ -68,7 +68,7 @@ module _
         → op_bytes (op_by o a b number q) ≡ eight o (cond (eqb o 7) q c)
     unfolding limit_a limit_b limit_constant
     row_by ls ks zero q ha hb hn hq = absurd (omega arith)
-    row_by ls ks (suc zero) q ha hb hn hq = with-constant hb
+    row_by ls ks (suc zero) q ha hb hn hq = with_constant hb
     row_by ls ks (suc (suc zero)) q ha hb hn hq = plain 2 refl hn
     row_by ls ks (suc (suc (suc zero))) q ha hb hn hq = plain 3 refl hn
     row_by ls ks (suc (suc (suc (suc zero)))) q ha hb hn hq = plain 4 refl hn
@@ -82,10 +82,10 @@ module _
     row_by ls ks (suc (suc (suc (suc (suc (suc (suc (suc o)))))))) q ha hb hn hq = absurd (omega arith)
 
 module _ (s : List ℕ) (small : (i : ℕ) → byte s i < 256) (r : ℕ) (holds : record_rule s r ≡ true) where
-  pub record-row : (p : ℕ) (rest : List ℕ) {q : ℕ} → p + 1 + position (target s r) rest ≡ q → q < 256
+  pub record_row_lem : (p : ℕ) (rest : List ℕ) {q : ℕ} → p + 1 + position (target s r) rest ≡ q → q < 256
       → op_bytes (op_of s p rest r) ≡ record_row s r q
   unfolding record_rule op_of
-  record-row p rest {q} e hq =
+  record_row_lem p rest {q} e hq =
       let at = start r in
       let number_is = quad_of s at refl refl refl refl in
       let low : constant s r < limit_constant (operation s r) = ltb-true _ _ (all_at (record_tests s r) 3 holds) in
@@ -98,20 +98,20 @@ module _ (s : List ℕ) (small : (i : ℕ) → byte s i < 256) (r : ℕ) (holds 
 
 -- a record's first eight bytes in place: its row, if its code is not 7, and with the position written anew, if it is
 module _ (s l : List ℕ) (r at : ℕ) {m : List ℕ} (copied : m ≡ sets l at (eight_in s (start r))) where
-  abbrev rowWith : ℕ → List ℕ
-  rowWith v =
+  abbrev row_with : ℕ → List ℕ
+  row_with v =
       operation s r ∷ register_a s r ∷ operand_b s r ∷ reserved s r ∷ v
       ∷ byte s (start r + 5) ∷ byte s (start r + 6) ∷ byte s (start r + 7)
       ∷ []
 
-  pub record-other : (q : ℕ) → ¬ operation s r ≡ 7 → m ≡ sets l at (record_row s r q)
-  record-other q h =
+  pub record_other : (q : ℕ) → ¬ operation s r ≡ 7 → m ≡ sets l at (record_row s r q)
+  record_other q h =
       copied
-      ∙ ap (λ b. sets l at (rowWith (cond b q (byte s (start r + 4))))) (sym (ne_eqb (operation s r) 7 h))
+      ∙ ap (λ b. sets l at (row_with (cond b q (byte s (start r + 4))))) (sym (ne_eqb (operation s r) 7 h))
 
-  pub record-skip : {v q : ℕ} → operation s r ≡ 7 → v ≡ q → set m (at + 4) v ≡ sets l at (record_row s r q)
-  record-skip {v} {q} h e =
+  pub record_skip : {v q : ℕ} → operation s r ≡ 7 → v ≡ q → set m (at + 4) v ≡ sets l at (record_row s r q)
+  record_skip {v} {q} h e =
       ap (λ k. set k (at + 4) v) copied
       ∙ fifth_stored l at _ _ _ _ _ _ _ _ v
-      ∙ ap (λ x. sets l at (rowWith x)) e
-      ∙ ap (λ b. sets l at (rowWith (cond b q (byte s (start r + 4))))) (sym (eq-eqb (operation s r) 7 h))
+      ∙ ap (λ x. sets l at (row_with x)) e
+      ∙ ap (λ b. sets l at (row_with (cond b q (byte s (start r + 4))))) (sym (eq-eqb (operation s r) 7 h))

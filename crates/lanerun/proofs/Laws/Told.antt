@@ -28,8 +28,8 @@ can_record so = record { file = _; machine = _; moves = _; rows = _; stands = so
 
 module _ (b : List ℕ) (few : length b ≤ 65536) {m : Machine} {s : List ℕ} {n : ℕ} {rows : List ℕ} {x : Course}
     {h : Blocks} {before : List ℕ} (c : CameTo m s (moves_in b) n rows x h before) where
-  pub can-move : Standing rows x h
-  can-move = record {
+  pub can_move : Standing rows x h
+  can_move = record {
     file = s;
     machine = m;
     moves = take n (moves_in b);

@@ -20,14 +20,14 @@ use Rattle.machine_spec.specs.Run.{level_of}
 use Rattle.lanes_answers.specs.Calls.{run_into, run_file_by}
 use Rattle.machine_start.specs.Setup.{ProgramIn, ran_into}
 use Rattle.machine_start.proofs.Laws.Programs.{header_read}
-use Rattle.machine_start.proofs.Laws.Files.{file-verdict, ran_number}
+use Rattle.machine_start.proofs.Laws.Files.{file_verdict, ran_number}
 
 -- a refused file
 pub file_refused : (m : Machine) (s own : List ℕ) → 4112 ≤ length own → {n r : ℕ} {after : List ℕ}
     → (Refuses n r, after) ≡ lower_by (level_of m) (verdict s) own
     → (moves out : List ℕ) → (Refuses n r, out) ≡ run_file_by m (verdict s) moves out
 file_refused m s own big p moves out =
-    sym (ap (λ v. run_file_by m v moves out) (file-verdict m s own big p))
+    sym (ap (λ v. run_file_by m v moves out) (file_verdict m s own big p))
 
 -- a run that takes place: what it starts from, and its answer
 pub record Takes (m : Machine) (mask : ℕ) (rows moves s out : List ℕ) : Type 0 where
@@ -44,15 +44,15 @@ module _ (m : Machine) {s own rows : List ℕ} (b : BytesIn (sheet_bytes (level_
   abbrev Answers : WriteResult × List ℕ → Type 0
   Answers a = a ≡ run_file_by m (verdict s) moves out
 
-  by-run : {a : WriteResult × List ℕ} → run_into m k moves out ≡ a → Answers a
-  by-run e = sym (ap (λ v. run_file_by m v moves out) b.accepts ∙ e)
+  by_run : {a : WriteResult × List ℕ} → run_into m k moves out ≡ a → Answers a
+  by_run e = sym (ap (λ v. run_file_by m v moves out) b.accepts ∙ e)
 
-  pub short-buffer : length out < 2280 → Answers (Refuses 9 0, out)
-  short-buffer h = by-run (rw (lt-ltb (length out) 2280 h))
+  pub short_buffer : length out < 2280 → Answers (Refuses 9 0, out)
+  short_buffer h = by_run (rw (lt-ltb (length out) 2280 h))
 
   module _ (room : 2280 ≤ length out) where
-    pub odd-moves : length moves % 2 ≡ 1 → Answers (Refuses 10 0, out)
-    odd-moves h = by-run (rw (le-ltb (length out) 2280 room, eq-eqb (length moves % 2) 1 h))
+    pub odd_moves : length moves % 2 ≡ 1 → Answers (Refuses 10 0, out)
+    odd_moves h = by_run (rw (le-ltb (length out) 2280 room, eq-eqb (length moves % 2) 1 h))
 
     -- the schedule, judged by the rows' first byte and the machine's highest choice
     module _ (even : ¬ length moves % 2 ≡ 1) {n c : ℕ} {ok : Bool} (ne : n ≡ get_or rows 0 0)
@@ -63,12 +63,12 @@ module _ (m : Machine) {s own rows : List ℕ} (b : BytesIn (sheet_bytes (level_
           ∙ (header_read k m (drop (length (sheet_bytes (level_of m) k)) own)).0 in
           judged ∙ ap₂ (λ x y. legal x y (moves_in moves)) (ne ∙ first) ce
 
-      pub illegal-moves : ok ≡ false → Answers (Refuses 10 0, out)
-      illegal-moves bad =
-          by-run (rw (le-ltb (length out) 2280 room, ne_eqb (length moves % 2) 1 even, sym lets ∙ bad))
+      pub illegal_moves : ok ≡ false → Answers (Refuses 10 0, out)
+      illegal_moves bad =
+          by_run (rw (le-ltb (length out) 2280 room, ne_eqb (length moves % 2) 1 even, sym lets ∙ bad))
 
-      pub takes-place : {mask : ℕ} → ok ≡ true → mask ≡ word s 4 → 4112 ≤ length own → Takes m mask rows moves s out
-      takes-place good e big =
+      pub takes_place : {mask : ℕ} → ok ≡ true → mask ≡ word s 4 → 4112 ≤ length own → Takes m mask rows moves s out
+      takes_place good e big =
           let let_through = sym lets ∙ good in
           record {
             kernel = k;
@@ -79,7 +79,7 @@ module _ (m : Machine) {s own rows : List ℕ} (b : BytesIn (sheet_bytes (level_
               room = big;
               front = b.front;
             };
-            answers = by-run (rw (
+            answers = by_run (rw (
               le-ltb (length out) 2280 room,
               ne_eqb (length moves % 2) 1 even,
               ran_number s k b.accepts m (moves_in moves) let_through,

@@ -18,7 +18,7 @@ use Rattle.machine_spec.specs.declared.Machine.{Machine}
 use Rattle.machine_state.specs.States.{Blocks, state_in}
 use Rattle.machine_run.specs.Runs.{ProgramAt}
 use Rattle.sheet_format.specs.Bytes.{sheet_bytes}
-use Rattle.machine_start.proofs.Laws.Programs.{header_read, program-at}
+use Rattle.machine_start.proofs.Laws.Programs.{header_read, program_at}
 use Rattle.machine_course.specs.declared.course.Course.{Course}
 use Rattle.machine_course.specs.Stands.{answer_by, Prepared, Stands, Sets, Started, RefusedStart, blocked}
 
@@ -68,7 +68,7 @@ module _ (m : Machine) {s own rows : List ℕ} (b : BytesIn (sheet_bytes (level_
   programs t h =
       subst (λ y. ProgramAt y (get_or (parts_in y).from t 0) (get_or (parts_in y).count t 0)
       (get_or (program_for m k) t []))
-      (sym b.front) (program-at k law m own room t h)
+      (sym b.front) (program_at k law m own room t h)
 
   prepared : Prepared m k rows x e
   prepared = record {
@@ -93,8 +93,8 @@ module _ (m : Machine) {s own rows : List ℕ} (b : BytesIn (sheet_bytes (level_
       (omega (arith, header.2, law.few_locks))
       ∙ λ i. start_state (header.0 i) (replicate (header.1 i) 0) (header.2 i)
 
-  pub begins-accepted : Stands s m [] rows x e
-  begins-accepted =
+  pub begins_accepted : Stands s m [] rows x e
+  begins_accepted =
       let is : answer_by m s [] ≡ run_by m s (accepted k) [] =
       ap (λ y. run_by m s y []) b.accepts in
       record {
@@ -106,8 +106,8 @@ module _ (m : Machine) {s own rows : List ℕ} (b : BytesIn (sheet_bytes (level_
         done = sets.zeros.2 ∙ sym (ap (λ (a : Answer). a.done) is);
         waited = sets.zeros.3 ∙ sym (ap (λ (a : Answer). a.waited) is);
         state = start ∙ sym (ap (λ (a : Answer). a.state) is);
-        prepared = λ j v. subst (λ q. Prepared m q rows x e) (same-kernel j v) prepared;
+        prepared = λ j v. subst (λ q. Prepared m q rows x e) (same_kernel j v) prepared;
       }
     where
-      same-kernel : (j : Program) → verdict s ≡ accepted j → k ≡ j
-      same-kernel j v = let q : accepted k ≡ accepted j = sym b.accepts ∙ v in cc
+      same_kernel : (j : Program) → verdict s ≡ accepted j → k ≡ j
+      same_kernel j v = let q : accepted k ≡ accepted j = sym b.accepts ∙ v in cc

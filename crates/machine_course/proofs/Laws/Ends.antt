@@ -18,7 +18,7 @@ use Rattle.sheet_rows.proofs.Laws.Read.{rows_length}
 use Rattle.machine_spec.specs.declared.Machine.{Machine}
 use Rattle.machine_state.specs.States.{Blocks, count_of, state_in}
 use Rattle.machine_run.specs.Counts.{Counts}
-use Rattle.machine_start.proofs.Answered.{not-refused}
+use Rattle.machine_start.proofs.Answered.{not_refused}
 use Rattle.machine_spec.proofs.Levels.{programs_many}
 use Rattle.machine_start.proofs.Laws.Files.{ran_number}
 use Rattle.machine_course.specs.declared.course.Course.{Course}
@@ -37,8 +37,8 @@ four_blocks (x ∷ y ∷ z ∷ u ∷ s) h = refl
 module _ {s : List ℕ} {m : Machine} {mvs : List Move} {rows : List ℕ} {x : Course} {h : Blocks}
     (so : Stands s m mvs rows x h) where
   -- a refusal is not finished
-  pub not-finished : (x.number ≡ 0 → ⊥) → false ≡ (answer_by m s mvs).finished
-  not-finished never = go (verdict s) refl
+  pub not_finished : (x.number ≡ 0 → ⊥) → false ≡ (answer_by m s mvs).finished
+  not_finished never = go (verdict s) refl
     where
       go : (v : Verdict) → verdict s ≡ v → false ≡ (answer_by m s mvs).finished
       go (refused n r) e = sym (ap (λ v. (run_by m s v mvs).finished) e)
@@ -68,8 +68,8 @@ module _ {s : List ℕ} {m : Machine} {mvs : List Move} {rows : List ℕ} {x : C
     abbrev prog : List (List Instr)
     prog = program_for m k
 
-    pub lanes-few : count_of h 0 ≤ 4
-    lanes-few = omega (arith, own.held, law.few_lanes)
+    pub lanes_few : count_of h 0 ≤ 4
+    lanes_few = omega (arith, own.held, law.few_lanes)
 
     counts : Counts (count_of h 0) x.count prog
     counts = subst (λ n. Counts n x.count prog) (sym own.held) (record {
@@ -79,13 +79,13 @@ module _ {s : List ℕ} {m : Machine} {mvs : List Move} {rows : List ℕ} {x : C
     })
 
     -- f is what `finished` says of the state
-    pub finished-by : {f : Bool} → ((p : List (List Instr)) → Counts (count_of h 0) x.count p → f ≡ finished p
+    pub finished_by : {f : Bool} → ((p : List (List Instr)) → Counts (count_of h 0) x.count p → f ≡ finished p
         (state_in h))
         → f ≡ (answer_by m s mvs).finished
-    finished-by judged = judged prog counts ∙ go (run_on m k mvs) refl
+    finished_by judged = judged prog counts ∙ go (run_on m k mvs) refl
       where
         go : (o : Outcome) → run_on m k mvs ≡ o → finished prog (state_in h) ≡ (answer_by m s mvs).finished
-        go (stopped t p) e = absurd (not-refused s k here.accepts m mvs here.legals t p e)
+        go (stopped t p) e = absurd (not_refused s k here.accepts m mvs here.legals t p e)
         go (ran r) e =
             let a : answer_by m s mvs ≡ answer_of prog k.records (start_of k) (ran r) =
             ap (λ v. run_by m s v mvs) here.accepts ∙ rw (here.legals, e) refl in

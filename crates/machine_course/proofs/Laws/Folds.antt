@@ -7,7 +7,7 @@ use mathlib.Core.Logic.{inl, inr}
 use native.Mathlib.Omega.{arith}
 use lib.ListN.{length, get_or, take, drop, replicate, length-append}
 use lib.Seq.{take_at, take_all}
-use Rattle.laws.proofs.Lists.{getElem?-seam}
+use Rattle.laws.proofs.Lists.{get_elem?_seam}
 use Rattle.file_format.specs.Accepted.{Program}
 use Rattle.file_format.specs.Lawful.{Lawful}
 use Rattle.file_verdict.specs.Verdict.{accepted, verdict}
@@ -26,13 +26,13 @@ use Rattle.machine_state.specs.States.{Blocks, state_in}
 use Rattle.machine_step.specs.Turns.{turns, Took}
 use Rattle.machine_run.specs.declared.run.Ended.TheVariants.{Ran}
 use Rattle.machine_run.specs.Runs.{RunnableBy, Ends, course}
-use Rattle.machine_run.proofs.Laws.Runs.{Counted, lane-moves, inside, run-refused, run-counted}
-use Rattle.machine_start.proofs.Answered.{not-refused}
+use Rattle.machine_run.proofs.Laws.Runs.{Counted, lane_moves, inside, run_refused, run_counted}
+use Rattle.machine_start.proofs.Answered.{not_refused}
 use Rattle.machine_start.proofs.Reached.{runs_by}
 use Rattle.machine_start.proofs.Laws.Start.{zeroed, zeroed_state}
 use Rattle.machine_course.specs.declared.course.Course.{Course}
 use Rattle.machine_course.specs.Stands.{answer_by, Prepared, Stands, Started, counted, stopped}
-use Rattle.machine_course.proofs.Laws.Legal.{allowed, legal_snoc, Under, under, stays-refused}
+use Rattle.machine_course.proofs.Laws.Legal.{allowed, legal_snoc, Under, under, stays_refused}
 
 snoc_length : (mvs : List Move) (mv : Move) → length (mvs ++ (mv ∷ [])) ≡ length mvs + 1
 snoc_length mvs mv = length-append mvs (mv ∷ [])
@@ -42,9 +42,9 @@ module _ {s : List ℕ} {m : Machine} {mvs : List Move} {rows : List ℕ} {x : C
   abbrev after : List Move
   after = mvs ++ (mv ∷ [])
 
-  pub still-refused : (x.number ≡ 0 → ⊥) → Stands s m after rows x h
-  still-refused never =
-      let same = stays-refused m s mvs mv (λ e. never (so.number ∙ e)) in
+  pub still_refused : (x.number ≡ 0 → ⊥) → Stands s m after rows x h
+  still_refused never =
+      let same = stays_refused m s mvs mv (λ e. never (so.number ∙ e)) in
       record {
         sized = so.sized;
         few = omega (arith, so.few, snoc_length mvs mv);
@@ -77,8 +77,8 @@ module _ {s : List ℕ} {m : Machine} {mvs : List Move} {rows : List ℕ} {x : C
     abbrev prog : List (List Instr)
     prog = program_for m k
 
-    legal-after : legal n (limit m) after ≡ allowed n (limit m) mv
-    legal-after =
+    legal_after : legal n (limit m) after ≡ allowed n (limit m) mv
+    legal_after =
         legal_snoc n (limit m) mvs mv
         ∙ ap (λ b. b && allowed n (limit m) mv) here.legals
 
@@ -90,18 +90,18 @@ module _ {s : List ℕ} {m : Machine} {mvs : List Move} {rows : List ℕ} {x : C
     answers_by : {a : Answer} → run_by m s (accepted k) after ≡ a → answer_by m s after ≡ a
     answers_by e = ap (λ v. run_by m s v after) here.accepts ∙ e
 
-    number-blames : x.rec ≡ 0
-    number-blames = so.rec ∙ go (run_on m k mvs) refl
+    number_blames : x.rec ≡ 0
+    number_blames = so.rec ∙ go (run_on m k mvs) refl
       where
         go : (o : Outcome) → run_on m k mvs ≡ o → (answer_by m s mvs).rec ≡ 0
         go (ran r) e = ap (λ v. (run_by m s v mvs).rec) here.accepts ∙ rw (here.legals, e) refl
-        go (refused t p) e = absurd (not-refused s k here.accepts m mvs here.legals t p e)
+        go (refused t p) e = absurd (not_refused s k here.accepts m mvs here.legals t p e)
 
     -- a move that is not legal
     stops : {c : ℕ} {b : Bool} {e : Blocks} → c ≡ limit x.machine → b ≡ allowed x.lanecount c mv
         → b ≡ false → Started x.lanecount x.locations x.lockwords e → Stands s m after rows (stopped x) e
     stops {e = e} ce be bad st =
-        let illegal = legal-after ∙ sym (test ce be) ∙ bad in
+        let illegal = legal_after ∙ sym (test ce be) ∙ bad in
         let same : answer_by m s after ≡ refusal (start_of k) 10 0 = answers_by (rw illegal refl) in
         let few = law.few_lanes in
         let start : state_in e ≡ start_of k =
@@ -113,11 +113,11 @@ module _ {s : List ℕ} {m : Machine} {mvs : List Move} {rows : List ℕ} {x : C
           few = omega arith;
           counted = λ e. let ten : ◌≡◌ {A = ℕ} 10 0 = e in absurd (omega arith);
           number = sym (ap (λ (a : Answer). a.number) same);
-          rec = number-blames ∙ sym (ap (λ (a : Answer). a.rec) same);
+          rec = number_blames ∙ sym (ap (λ (a : Answer). a.rec) same);
           done = sym (ap (λ (a : Answer). a.done) same);
           waited = sym (ap (λ (a : Answer). a.waited) same);
           state = start ∙ sym (ap (λ (a : Answer). a.state) same);
-          prepared = λ j v. subst (λ q. Prepared m q rows (stopped x) e) (same-kernel j v) (record {
+          prepared = λ j v. subst (λ q. Prepared m q rows (stopped x) e) (same_kernel j v) (record {
             machine = own.machine;
             volatile = own.volatile;
             lanes = own.lanes;
@@ -129,14 +129,14 @@ module _ {s : List ℕ} {m : Machine} {mvs : List Move} {rows : List ℕ} {x : C
           });
         }
       where
-        same-kernel : (j : Program) → verdict s ≡ accepted j → k ≡ j
-        same-kernel j v = let e : accepted k ≡ accepted j = sym here.accepts ∙ v in cc
+        same_kernel : (j : Program) → verdict s ≡ accepted j → k ≡ j
+        same_kernel j v = let e : accepted k ≡ accepted j = sym here.accepts ∙ v in cc
 
     -- ## a legal move
     module _ {c : ℕ} {b : Bool} (ce : c ≡ limit x.machine) (be : b ≡ allowed x.lanecount c mv)
         (good : b ≡ true) where
       lets : legal n (limit m) after ≡ true
-      lets = legal-after ∙ sym (test ce be) ∙ good
+      lets = legal_after ∙ sym (test ce be) ∙ good
 
       abbrev h₀ : Blocks
       h₀ = zeroed n k.locations k.locks
@@ -151,9 +151,9 @@ module _ {s : List ℕ} {m : Machine} {mvs : List Move} {rows : List ℕ} {x : C
           runs_by s k here.accepts m (flags x.volatile) rows x.first x.count after h₀ prog own.volatile
           refl refl start_is lets own.programs
 
-      same-run : (l : List Move)
+      same_run : (l : List Move)
           → run m (flags x.volatile) prog (begin (state_in h₀)) l ≡ run_on m k l
-      same-run l =
+      same_run l =
           ap₂ (λ (v : ℕ → Bool) (y : State). run m v prog (begin y) l) own.volatile start_is
 
       -- what the moves so far came to
@@ -162,7 +162,7 @@ module _ {s : List ℕ} {m : Machine} {mvs : List Move} {rows : List ℕ} {x : C
         where
           go : (o : Outcome) → run_on m k mvs ≡ o
               → Ends m (flags x.volatile) (take (length mvs) after) prog h₀ (Ran x.done x.waited) h
-          go (refused t p) e = absurd (not-refused s k here.accepts m mvs here.legals t p e)
+          go (refused t p) e = absurd (not_refused s k here.accepts m mvs here.legals t p e)
           go (ran r) e =
               let a : answer_by m s mvs ≡ answer_of prog k.records (start_of k) (ran r) =
               ap (λ v. run_by m s v mvs) here.accepts ∙ rw (here.legals, e) refl in
@@ -173,20 +173,20 @@ module _ {s : List ℕ} {m : Machine} {mvs : List Move} {rows : List ℕ} {x : C
                 sized = so.sized;
                 lanes = own.held;
                 row = r.row;
-                outcome = same-run (take (length mvs) after)
+                outcome = same_run (take (length mvs) after)
                     ∙ ap (run_on m k) (take_at mvs (mv ∷ []) (length mvs) refl) ∙ e
                     ∙ λ i. ran (record { state = st i; row = r.row; done = d i; waited = w i });
               }
 
-      pub lane-few : mv.lane < 4
-      lane-few = omega (arith, runs.lanes, runs.named (length mvs) mv (getElem?-seam mvs mv []))
+      pub lane_few : mv.lane < 4
+      lane_few = omega (arith, runs.lanes, runs.named (length mvs) mv (get_elem?_seam mvs mv []))
 
-      pub can-move : Movable h mv.lane
+      pub can_move : Movable h mv.lane
           (read_rows (get_or x.count mv.lane 0) (drop (get_or x.first mv.lane 0) rows))
-      can-move = lane-moves runs (length mvs) mv (getElem?-seam mvs mv []) x.done x.waited h so.sized so_far
+      can_move = lane_moves runs (length mvs) mv (get_elem?_seam mvs mv []) x.done x.waited h so.sized so_far
 
-      pub lies-inside : get_or x.first mv.lane 0 + 8 * get_or x.count mv.lane 0 ≤ length rows
-      lies-inside = inside runs (length mvs) mv (getElem?-seam mvs mv [])
+      pub lies_inside : get_or x.first mv.lane 0 + 8 * get_or x.count mv.lane 0 ≤ length rows
+      lies_inside = inside runs (length mvs) mv (get_elem?_seam mvs mv [])
 
       -- ### what it comes to
       module _ (q : Moved) (e : Blocks) (made : Took h mv.lane (turns m (flags x.volatile)
@@ -199,21 +199,21 @@ module _ {s : List ℕ} {m : Machine} {mvs : List Move} {rows : List ℕ} {x : C
           whole : take (j + 1) after ≡ after
           whole = take_all (j + 1) after (omega (arith, snoc_length mvs mv))
 
-          done-few : x.done ≤ j
-          done-few = omega (arith, so.few)
+          done_few : x.done ≤ j
+          done_few = omega (arith, so.few)
 
-          waits-rest : x.waited ≡ j - x.done
-          waits-rest = omega (arith, so.counted z)
+          waits_rest : x.waited ≡ j - x.done
+          waits_rest = omega (arith, so.counted z)
 
           ends : (d : ℕ) → Counted q x.done d → Ends m (flags x.volatile) after prog h₀ (Ran d (j + 1 - d)) e
           ends d u =
               subst (λ l. Ends m (flags x.volatile) l prog h₀ (Ran d (j + 1 - d)) e) whole
-              (run-counted runs j mv (getElem?-seam mvs mv []) x.done x.waited h e q so.sized made so_far d u
-              done-few waits-rest)
+              (run_counted runs j mv (get_elem?_seam mvs mv []) x.done x.waited h e q so.sized made so_far d u
+              done_few waits_rest)
 
           module _ (d : ℕ) (u : Counted q x.done d) where
             came : run_on m k after ≡ course e (ends d u).row d (j + 1 - d)
-            came = sym (same-run after) ∙ (ends d u).outcome
+            came = sym (same_run after) ∙ (ends d u).outcome
 
             answer : answer_by m s after ≡ answer_of prog k.records (start_of k)
                 (course e (ends d u).row d (j + 1 - d))
@@ -230,11 +230,11 @@ module _ {s : List ℕ} {m : Machine} {mvs : List Move} {rows : List ℕ} {x : C
               done = yd ∙ sym (ap (λ (a : Answer). a.done) answer);
               waited = yw ∙ sym (ap (λ (a : Answer). a.waited) answer);
               state = sym (ap (λ (a : Answer). a.state) answer);
-              prepared = λ i v. subst (λ g. Prepared m g rows y e) (same-kernel i v) p;
+              prepared = λ i v. subst (λ g. Prepared m g rows y e) (same_kernel i v) p;
             }
               where
-                same-kernel : (i : Program) → verdict s ≡ accepted i → k ≡ i
-                same-kernel i v = let e : accepted k ≡ accepted i = sym here.accepts ∙ v in cc
+                same_kernel : (i : Program) → verdict s ≡ accepted i → k ≡ i
+                same_kernel i v = let e : accepted k ≡ accepted i = sym here.accepts ∙ v in cc
 
           kept : (y : Course) → y.machine ≡ x.machine → y.volatile ≡ x.volatile → y.first ≡ x.first
               → y.count ≡ x.count → y.lanecount ≡ x.lanecount → y.locations ≡ x.locations
@@ -258,14 +258,14 @@ module _ {s : List ℕ} {m : Machine} {mvs : List Move} {rows : List ℕ} {x : C
               go Waited qe =
                   stands x.done (inl (qe, refl)) (counted x Waited) (kept (counted x Waited) refl refl refl refl
                   refl refl refl)
-                  z number-blames refl (omega (arith, waits-rest, done-few)) (omega (arith, done-few))
+                  z number_blames refl (omega (arith, waits_rest, done_few)) (omega (arith, done_few))
               go Done qe =
                   stands (x.done + 1) (inr (qe, refl)) (counted x Done) (kept (counted x Done) refl refl refl refl
                   refl refl refl)
-                  z number-blames refl (omega (arith, waits-rest, done-few)) (omega (arith, done-few))
+                  z number_blames refl (omega (arith, waits_rest, done_few)) (omega (arith, done_few))
               go ReleaseNotHeld qe =
-                  absurd (not-refused s k here.accepts m after lets mv.lane _
-                  (sym (same-run after) ∙ (run-refused runs j mv (getElem?-seam mvs mv []) x.done x.waited h e q
+                  absurd (not_refused s k here.accepts m after lets mv.lane _
+                  (sym (same_run after) ∙ (run_refused runs j mv (get_elem?_seam mvs mv []) x.done x.waited h e q
                   so.sized made
                   so_far refl qe).outcome))
 
@@ -274,16 +274,16 @@ module _ {s : List ℕ} {m : Machine} {mvs : List Move} {rows : List ℕ} {x : C
 module _ {s : List ℕ} {m : Machine} {mvs : List Move} {rows : List ℕ} {x y : Course} {h e : Blocks}
     (so : Stands s m mvs rows x h) (mv : Move) (z : x.number ≡ 0) {c : ℕ} {b : Bool}
     (ce : c ≡ limit x.machine) (be : b ≡ allowed x.lanecount c mv) where
-  pub code-stops : b ≡ false → Started x.lanecount x.locations x.lockwords e → y ≡ stopped x
+  pub code_stops : b ≡ false → Started x.lanecount x.locations x.lockwords e → y ≡ stopped x
       → Stands s m (mvs ++ (mv ∷ [])) rows y e
-  code-stops bad st q =
+  code_stops bad st q =
       subst (λ w. Stands s m (mvs ++ (mv ∷ [])) rows w e) (sym q) (stops so mv z ce be bad st)
 
-  pub code-moves : {q : Moved} → b ≡ true → Took h mv.lane (turns x.machine (flags x.volatile)
+  pub code_moves : {q : Moved} → b ≡ true → Took h mv.lane (turns x.machine (flags x.volatile)
       (read_rows (get_or x.count mv.lane 0) (drop (get_or x.first mv.lane 0) rows)) h mv.lane mv.choice)
       q e
       → y ≡ counted x q → Stands s m (mvs ++ (mv ∷ [])) rows y e
-  code-moves {q} good made r =
+  code_moves {q} good made r =
       subst (λ w. Stands s m (mvs ++ (mv ∷ [])) rows w e) (sym r)
       (moves_on so mv z ce be good q e
       (subst (λ w. Took h mv.lane (turns w (flags x.volatile)

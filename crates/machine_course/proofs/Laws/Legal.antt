@@ -76,9 +76,9 @@ module _ (m : Machine) (s : List ℕ) (mvs : List Move) where
               absurd (omega arith)
 
   -- an answer that is a refusal is that of every longer schedule
-  pub stays-refused : (mv : Move) → ((answer_by m s mvs).number ≡ 0 → ⊥)
+  pub stays_refused : (mv : Move) → ((answer_by m s mvs).number ≡ 0 → ⊥)
       → answer_by m s mvs ≡ answer_by m s (mvs ++ (mv ∷ []))
-  stays-refused mv never = go (verdict s) refl
+  stays_refused mv never = go (verdict s) refl
     where
       go : (v : Verdict) → verdict s ≡ v → answer_by m s mvs ≡ answer_by m s (mvs ++ (mv ∷ []))
       go (refused n r) h =

@@ -18,7 +18,7 @@ use Rattle.machine_spec.specs.Shape.{AllSmall}
 use Rattle.machine_spec.specs.State.{State, Outcome, ran, refused as stopped, start_state, lane_at}
 use Rattle.machine_spec.specs.Run.{answer_of, start_of, program_for, run_on, run_by, run_program, refused_start}
 use Rattle.machine_spec.specs.declared.Machine.{Machine}
-use Rattle.machine_start.proofs.Answered.{not-refused, shape}
+use Rattle.machine_start.proofs.Answered.{not_refused, shape}
 use Rattle.machine_start.proofs.Laws.Runs.{shaped_small}
 use Rattle.machine_state.specs.States.{Blocks, firsts, state_in}
 use Rattle.machine_course.specs.declared.course.Course.{Course}
@@ -69,8 +69,8 @@ module _ (m : Machine) (s : List ℕ) (mvs : List Move) where
   abbrev answered : Verdict → State
   answered v = (run_by m s v mvs).state
 
-  accepted-fits : (k : Program) → verdict s ≡ accepted k → Fits (run_program m k mvs).state
-  accepted-fits k v = which (legal (length k.lanes) (limit m) mvs) refl
+  accepted_fits : (k : Program) → verdict s ≡ accepted k → Fits (run_program m k mvs).state
+  accepted_fits k v = which (legal (length k.lanes) (limit m) mvs) refl
     where
       law : Lawful k
       law = accepted_lawful s k v
@@ -83,7 +83,7 @@ module _ (m : Machine) (s : List ℕ) (mvs : List Move) where
         where
           go : (o : Outcome) → run_on m k mvs ≡ o
               → Fits (answer_of (program_for m k) k.records (start_of k) o).state
-          go (stopped t p) e = absurd (not-refused s k v m mvs l t p e)
+          go (stopped t p) e = absurd (not_refused s k v m mvs l t p e)
           go (ran r) e =
               let shaped = shape s k v m mvs l r e in
               record {
@@ -97,7 +97,7 @@ module _ (m : Machine) (s : List ℕ) (mvs : List Move) where
     where
       go : (v : Verdict) → verdict s ≡ v → Fits (answer_by m s mvs).state
       go (refused n r) v = subst (λ w. Fits (answered w)) (sym v) (refused_fits s n r v)
-      go (accepted k) v = subst (λ w. Fits (answered w)) (sym v) (accepted-fits k v)
+      go (accepted k) v = subst (λ w. Fits (answered w)) (sym v) (accepted_fits k v)
 
 -- so what a run so far holds does
 pub stands_fits : {s : List ℕ} {m : Machine} {mvs : List Move} {rows : List ℕ} {x : Course} {h : Blocks}

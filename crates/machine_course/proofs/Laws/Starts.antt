@@ -9,7 +9,7 @@ use lib.Dec.{ltb}
 use lib.ListN.{length, get_or, set}
 use Rattle.file_format.specs.Fields.{lane_count, locations, locks}
 use Rattle.file_format.specs.Rules.{header_rule}
-use Rattle.file_format.proofs.Laws.Rules.{four_lanes, few_locations, few_locks}
+use Rattle.file_format.proofs.Laws.Rules.{four_lanes_lem, few_locations, few_locks}
 use Rattle.file_verdict.specs.Verdict.{refused, verdict, refusal_of, fields_then, structure_then}
 use Rattle.machine_state.specs.States.{Blocks}
 use Rattle.machine_start.proofs.Laws.Start.{zeroed, zeroed_sized, zeroed_state}
@@ -77,6 +77,6 @@ refused_header s n h so = record {
   sized = so.sized;
   state = λ r v.
       let ok = header_valid s n r v h in
-      so.state (four_lanes s ok) (omega (arith, few_locations s ok)) (omega (arith, few_locks s ok))
+      so.state (four_lanes_lem s ok) (omega (arith, few_locations s ok)) (omega (arith, few_locks s ok))
       ∙ sym (rw (le-ltb n 3 h) refl);
 }

@@ -18,8 +18,8 @@ module _ (mask : ℕ) (fs : List Bool) where
   Flagged x = (i : ℕ) → i < x → get_or fs i false ≡ is_volatile mask i
 
   -- of a mask of 16 bits, locations from 16 on are none
-  pub flagged-all : Flagged 16 → length fs ≡ 16 → mask < 65536 → flags fs ≡ is_volatile mask
-  flagged-all h long small = fun_ext (λ x. go x (dec_lt x 16))
+  pub flagged_all : Flagged 16 → length fs ≡ 16 → mask < 65536 → flags fs ≡ is_volatile mask
+  flagged_all h long small = fun_ext (λ x. go x (dec_lt x 16))
     where
       go : (x : ℕ) → Dec (x < 16) → get_or fs x false ≡ is_volatile mask x
       go x (yes l) = h x l

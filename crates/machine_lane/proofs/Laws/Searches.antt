@@ -48,9 +48,9 @@ module _ (cs vs : List ℕ) (full : length cs ≡ 64) (whole : length vs ≡ 64)
   here i h = entries_at cs vs i (write 0 0) (omega (arith, entries_length 64 cs vs full whole))
 
   -- the newest value among the first i + 1
-  pub newest-on : (x m i : ℕ) → x < 16 → i < 64 → newest x m (take (suc i) (entries_of cs vs))
+  pub newest_on : (x m i : ℕ) → x < 16 → i < 64 → newest x m (take (suc i) (entries_of cs vs))
       ≡ cond (eqb (get_or cs i 0) x) (get_or vs i 0) (newest x m (take i (entries_of cs vs)))
-  newest-on x m i h k =
+  newest_on x m i h k =
       let inside : i < length (entries_of cs vs) = omega (arith, entries_length 64 cs vs full whole) in
       rw (take-suc (entries_of cs vs) i (write 0 0) inside, here i k)
       (newest_snoc x m (take i (entries_of cs vs)) (get_or cs i 0) (get_or vs i 0) h)

@@ -47,11 +47,11 @@ abbrev pub slice_of : {X : Type 0} → Bor (List X) → Val
 slice_of r = slice_val r.ref_ptr (length r.now)
 
 module _ {M : Type 1} {𝓤 : Ura M} (𝓛 : Logic 𝓤) where
-  pub rows-lawful : Lawful 𝓛 R₀
-  rows-lawful = Array-Lawful 𝓛 u8 (uint_Lawful 𝓛 w8) 4112
+  pub rows_lawful : Lawful 𝓛 R₀
+  rows_lawful = Array-Lawful 𝓛 u8 (uint_Lawful 𝓛 w8) 4112
 
-  pub state-lawful : Lawful 𝓛 R
-  state-lawful =
+  pub state_lawful : Lawful 𝓛 R
+  state_lawful =
       Array-Lawful 𝓛 (Array (Array u32 64) 3)
       (Array-Lawful 𝓛 (Array u32 64) (Array-Lawful 𝓛 u32 (uint_Lawful 𝓛 w32) 64) 3) 5
 
@@ -60,31 +60,31 @@ module _ {M : Type 1} {𝓤 : Ura M} (𝓛 : Logic 𝓤) where
     It = Array T n
 
     -- from a local's cell and what the array owns
-    pub array-in : (u : Val)
+    pub array_in : (u : Val)
         → ent 𝓤 (⋆ 𝓛 (‵ (cell_at full_share It.mir (u ∷ []) l 0) ∷ ‵ (It.own r (u ∷ [])) ∷ []))
         (⋆ 𝓛 (‵ (part_at It full_share r l 0) ∷ []))
     unfolding part_of
-    array-in u =
+    array_in u =
         qed 𝓛 (‵ (cell_at full_share It.mir (u ∷ []) l 0) ∷ ‵ (It.own r (u ∷ [])) ∷ []) ∵ fjoin ! $
         fpack ! (List Val) (λ vs. fsep (cell_at full_share It.mir vs l 0) (It.own r vs)) (u ∷ []) $ done !
 
     -- the local's room again
-    pub array-out : (vals : T.Denot → List Val) → Tells T (Is T) vals
+    pub array_out : (vals : T.Denot → List Val) → Tells T (Is T) vals
         → ent 𝓤 (⋆ 𝓛 (‵ (part_at It full_share r l 0) ∷ [])) (⋆ 𝓛 (‵ (froom (cell_ty (lone It.mir)) l 0) ∷ []))
     unfolding part_of
-    array-out vals tells =
+    array_out vals tells =
         qed 𝓛 (‵ (part_at It full_share r l 0) ∷ []) ∵ fpick ! (λ vs. fsplit ! $
         spelt ! It (Is It) (shows 𝓛 It) (array_vals vals) (Array-Tells T vals tells n) full_share r vs l 0 $
         forget ! 0 refl $ keep ! (0 ∷ []) $ done !)
 
   pub rows_out : (l : ℕ) (r : List ℕ)
       → ent 𝓤 (⋆ 𝓛 (‵ (part_at R₀ full_share r l 0) ∷ [])) (⋆ 𝓛 (‵ (froom rows_arr l 0) ∷ []))
-  rows_out l r = array-out u8 4112 l r (uint_vals w8) (uint_Tells w8)
+  rows_out l r = array_out u8 4112 l r (uint_vals w8) (uint_Tells w8)
 
   abbrev words : List ℕ → List Val
   words = array_vals (uint_vals w32)
 
-  pub state-out : (l : ℕ) (z : Blocks)
+  pub state_out : (l : ℕ) (z : Blocks)
       → ent 𝓤 (⋆ 𝓛 (‵ (part_at R full_share z l 0) ∷ [])) (⋆ 𝓛 (‵ (froom arr l 0) ∷ []))
-  state-out l z = array-out (Array (Array u32 64) 3) 5 l z (array_vals words)
+  state_out l z = array_out (Array (Array u32 64) 3) 5 l z (array_vals words)
       (Array-Tells (Array u32 64) words (Array-Tells u32 (uint_vals w32) (uint_Tells w32) 64) 3)

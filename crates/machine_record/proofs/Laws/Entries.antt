@@ -24,8 +24,8 @@ module _ {f : ℕ} (m : Bool) (told : f ≡ flag m) (c v : ℕ) where
       ap (λ n. row 1 c n v) told
       ∙ ap (λ b. entry_bytes m (cond b (write c v) (release (c - 16)))) (sym (lt-ltb c 16 h))
 
-  pub release-bytes : 16 ≤ c → row 2 (c - 16) f 0 ≡ entry_bytes m (entry_of c v)
-  release-bytes h =
+  pub release_bytes : 16 ≤ c → row 2 (c - 16) f 0 ≡ entry_bytes m (entry_of c v)
+  release_bytes h =
       ap (λ n. row 2 (c - 16) n 0) told
       ∙ ap (λ b. entry_bytes m (cond b (write c v) (release (c - 16)))) (sym (le-ltb c 16 h))
 

@@ -46,10 +46,10 @@ has_within {s} {x} {y} {from} {k} h w fits = record {
 
 -- text t of n, of m bytes each
 module _ (f : ℕ → List ℕ) (m : ℕ) (each : (j : ℕ) → length (f j) ≡ m) where
-  pub has-turn : (n t : ℕ) → t < n → Has (in_turn f n) (m * t) (f t)
+  pub has_turn : (n t : ℕ) → t < n → Has (in_turn f n) (m * t) (f t)
   unfolding in_turn
-  has-turn zero t h = absurd (omega arith)
-  has-turn (suc n) t h = go (dec_le (suc t) n) (has-turn n t)
+  has_turn zero t h = absurd (omega arith)
+  has_turn (suc n) t h = go (dec_le (suc t) n) (has_turn n t)
     where
       size : length (in_turn f n) ≡ m * n
       size = turn_even f m n each ∙ mul_comm n m

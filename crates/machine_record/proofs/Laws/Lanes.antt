@@ -20,7 +20,7 @@ use Rattle.machine_state.specs.States.{Blocks, row_at, stored_in, lane_of, count
 use Rattle.machine_state.proofs.Laws.Lanes.{lane_there, lane_past}
 use Rattle.machine_record.specs.Lanes.{entries_bytes, state_lane}
 use Rattle.machine_record.specs.SmallCells.{SmallCells}
-use Rattle.machine_record.proofs.LaneSizes.{lane_length}
+use Rattle.machine_record.proofs.LaneSizes.{lane_length_lem}
 use Rattle.machine_record.specs.Record.{head_bytes, record_of}
 use Rattle.machine_record.specs.SmallStates.{SmallEntries}
 use Rattle.machine_record.proofs.Sizes.{head_length, record_length}
@@ -64,27 +64,27 @@ cells_small (c ∷ cs) (v ∷ vs) (suc n) e h zero l = cell_small c v h.0
 cells_small (c ∷ cs) (v ∷ vs) (suc n) e h (suc i) l = cells_small cs vs n (omega arith) h.1 i (omega arith)
 
 module _ (s : Blocks) (t : ℕ) (h : Lies s t) where
-  pub there-bytes : t < count_of s 0 → state_lane (lane_of s t) ≡ state_lane (lane_at (state_in s) t)
-  there-bytes l = sym (ap state_lane (lane_there s t h.sized l h.lane))
+  pub there_bytes : t < count_of s 0 → state_lane (lane_of s t) ≡ state_lane (lane_at (state_in s) t)
+  there_bytes l = sym (ap state_lane (lane_there s t h.sized l h.lane))
 
-  pub there-small : t < count_of s 0 → SmallEntries (state_in s)
+  pub there_small : t < count_of s 0 → SmallEntries (state_in s)
       → SmallCells (stored_in (get_or s t [])).cells (stored_in (get_or s t [])).len
-  there-small l small =
+  there_small l small =
       let own = h.sized.each t (omega (arith, h.lane)) in
       cells_small (row_at s t 1) (row_at s t 2) (stored_in (get_or s t [])).len
       (own.words 1 (omega arith) ∙ sym (own.words 2 (omega arith)))
       (subst (λ (x : Lane). AllSmall 16 4 x.pending) (lane_there s t h.sized l h.lane) (small t))
 
   -- where there is none, a lane of zeros is written
-  pub none-bytes : count_of s 0 ≤ t → state_lane (lane_in none) ≡ state_lane (lane_at (state_in s) t)
-  none-bytes l = zeros ∙ sym (ap state_lane (lane_past s t l))
+  pub none_bytes : count_of s 0 ≤ t → state_lane (lane_in none) ≡ state_lane (lane_at (state_in s) t)
+  none_bytes l = zeros ∙ sym (ap state_lane (lane_past s t l))
 
 -- where lane t of four begins, behind the head
 pub lane_room : (f : Bool) (d w : ℕ) (s : State) (t : ℕ) {l m n : List ℕ} {i j : ℕ} → t < 4 → 2280 ≤ length l
     → Puts l 0 (head_bytes f d w s.memory s.locks) m i → Puts m i (in_turn (λ k. state_lane (lane_at s k)) t) n j
     → j + 548 ≤ length n
 lane_room f d w s t h room p q =
-    let end = turn_end (λ k. state_lane (lane_at s k)) 548 t (λ k. lane_length (lane_at s k)) q in
+    let end = turn_end (λ k. state_lane (lane_at s k)) 548 t (λ k. lane_length_lem (lane_at s k)) q in
     omega (arith, end, p.behind, head_length f d w s.memory s.locks, puts_length p, puts_length q)
 
 -- head and four lanes are the record

@@ -42,14 +42,14 @@ module _ (s : Blocks) (sized : Sized s) (few : count_of s 0 ≤ 4) where
     stands : (t : ℕ) → t < n → ended_at prog (state_in s) t ≡ is_none (get_elem? (get_or prog t []) (position s t))
     stands t h = ap (λ (l : Lane). is_none (get_elem? (get_or prog t []) l.control.pos)) (lane_in_lem s t sized h few)
 
-    pub all-ended : ((t : ℕ) → t < n → get_or count t 0 ≤ position s t) → true ≡ ended prog (state_in s)
-    all-ended h =
+    pub all_ended : ((t : ℕ) → t < n → get_or count t 0 ≤ position s t) → true ≡ ended prog (state_in s)
+    all_ended h =
         sym (ap (λ m. every m (ended_at prog (state_in s))) c.lanes
         ∙ every_true n (ended_at prog (state_in s)) (λ t l.
         stands t l ∙ at_end (get_or prog t []) (position s t) (omega (arith, c.each t l, h t l))))
 
-    pub one-goes-on : (t : ℕ) → t < n → position s t < get_or count t 0 → false ≡ ended prog (state_in s)
-    one-goes-on t l h =
+    pub one_goes_on : (t : ℕ) → t < n → position s t < get_or count t 0 → false ≡ ended prog (state_in s)
+    one_goes_on t l h =
         sym (ap (λ m. every m (ended_at prog (state_in s))) c.lanes
         ∙ every_false n (ended_at prog (state_in s)) t l
         (stands t l ∙ not_at_end (get_or prog t []) (position s t) (omega (arith, c.each t l))))
@@ -59,8 +59,8 @@ module _ (s : Blocks) (sized : Sized s) (few : count_of s 0 ≤ 4) where
   abbrev nothing : ℕ → Bool
   nothing t = is_nil (lane_at (state_in s) t).pending
 
-  lanes-many : length (state_in s).lanes ≡ n
-  lanes-many =
+  lanes_many : length (state_in s).lanes ≡ n
+  lanes_many =
       omega (
         arith,
         few,
@@ -70,16 +70,16 @@ module _ (s : Blocks) (sized : Sized s) (few : count_of s 0 ≤ 4) where
         length-take 4 s,
       )
 
-  nothing-by-count : (t : ℕ) → t < n → nothing t ≡ eqb (pending_count s t) 0
-  nothing-by-count t h =
+  nothing_by_count : (t : ℕ) → t < n → nothing t ≡ eqb (pending_count s t) 0
+  nothing_by_count t h =
       ap (λ (l : Lane). is_nil l.pending) (lane_in_lem s t sized h few) ∙ sym (none_pending (lane_of s t).pending)
 
-  pub all-drained : ((t : ℕ) → t < n → pending_count s t ≡ 0) → true ≡ drained (state_in s)
-  all-drained h =
-      sym (ap (λ m. every m nothing) lanes-many
-      ∙ every_true n nothing (λ t l. nothing-by-count t l ∙ eq-eqb (pending_count s t) 0 (h t l)))
+  pub all_drained : ((t : ℕ) → t < n → pending_count s t ≡ 0) → true ≡ drained (state_in s)
+  all_drained h =
+      sym (ap (λ m. every m nothing) lanes_many
+      ∙ every_true n nothing (λ t l. nothing_by_count t l ∙ eq-eqb (pending_count s t) 0 (h t l)))
 
-  pub one-pending : (t : ℕ) → t < n → (pending_count s t ≡ 0 → ⊥) → false ≡ drained (state_in s)
-  one-pending t l h =
-      sym (ap (λ m. every m nothing) lanes-many
-      ∙ every_false n nothing t l (nothing-by-count t l ∙ ne_eqb (pending_count s t) 0 h))
+  pub one_pending : (t : ℕ) → t < n → (pending_count s t ≡ 0 → ⊥) → false ≡ drained (state_in s)
+  one_pending t l h =
+      sym (ap (λ m. every m nothing) lanes_many
+      ∙ every_false n nothing t l (nothing_by_count t l ∙ ne_eqb (pending_count s t) 0 h))

@@ -98,9 +98,9 @@ module _ (m : Machine) (f : ℕ → Bool) (mvs : List Move) (prog : List (List I
             ∙ turned.1;
       }
 
-  pub ends-refused : (k t p : ℕ) (z : Blocks) → Ends m f (take k mvs) prog s (Refused t p) z
+  pub ends_refused : (k t p : ℕ) (z : Blocks) → Ends m f (take k mvs) prog s (Refused t p) z
       → Ends m f mvs prog s (Refused t p) z
-  ends-refused k t p z so = record {
+  ends_refused k t p z so = record {
     sized = so.sized;
     lanes = so.lanes;
     row = [];
@@ -110,9 +110,9 @@ module _ (m : Machine) (f : ℕ → Bool) (mvs : List Move) (prog : List (List I
         ∙ stays m f prog t (rank (get_or prog t []) p) (drop k mvs);
   }
 
-  pub ends-all : (k : ℕ) (q : Ended) (z : Blocks) → length mvs ≤ k → Ends m f (take k mvs) prog s q z
+  pub ends_all : (k : ℕ) (q : Ended) (z : Blocks) → length mvs ≤ k → Ends m f (take k mvs) prog s q z
       → Ends m f mvs prog s q z
-  ends-all k q z h so = subst (λ l. Ends m f l prog s q z) (take_all k mvs h) so
+  ends_all k q z h so = subst (λ l. Ends m f l prog s q z) (take_all k mvs h) so
 
 -- how a move that is not refused is counted: d moves were done before it, x are after it
 abbrev pub Counted : Moved → ℕ → ℕ → Type 0
@@ -143,9 +143,9 @@ module _ {m : Machine} {f : ℕ → Bool} {sheet first count : List ℕ} {mvs : 
   lane_below = omega (arith, h.lanes, h.named k mv at)
 
   -- the lane of a move can make it
-  pub lane-moves : (d w : ℕ) (e : Blocks) → Sized e → Ends m f (take k mvs) prog s (Ran d w) e
+  pub lane_moves : (d w : ℕ) (e : Blocks) → Sized e → Ends m f (take k mvs) prog s (Ran d w) e
       → Movable e mv.lane rows
-  lane-moves d w e sized so =
+  lane_moves d w e sized so =
       let named = h.named k mv at in
       record {
         lies = record { lane = lane_below; sized = sized };
@@ -168,16 +168,16 @@ module _ {m : Machine} {f : ℕ → Bool} {sheet first count : List ℕ} {mvs : 
         (subst (λ p. Took e mv.lane (turns m f p e mv.lane mv.choice) q z)
         (sym (h.programs mv.lane named).rows) made) so
 
-    pub run-refused : {p : ℕ} → p ≡ (lane_of e mv.lane).control.pos → q ≡ ReleaseNotHeld
+    pub run_refused : {p : ℕ} → p ≡ (lane_of e mv.lane).control.pos → q ≡ ReleaseNotHeld
         → Ends m f mvs prog s (Refused mv.lane p) z
-    run-refused {p} same r =
-        ends-refused m f mvs prog s (suc k) mv.lane p z
+    run_refused {p} same r =
+        ends_refused m f mvs prog s (suc k) mv.lane p z
         (subst (λ x. Ends m f (take (suc k) mvs) prog s x z)
         (ap₂ (λ x y. answer_after x d w mv.lane y) r (sym same)) moved)
 
-    pub run-counted : (x : ℕ) → Counted q d x → d ≤ k → w ≡ k - d
+    pub run_counted : (x : ℕ) → Counted q d x → d ≤ k → w ≡ k - d
         → Ends m f (take (k + 1) mvs) prog s (Ran x (k + 1 - x)) z
-    run-counted x c few all =
+    run_counted x c few all =
         let p = (lane_of e mv.lane).control.pos in
         let answer : answer_after q d w mv.lane p ≡ Ran x (k + 1 - x) =
         ap (λ y. answer_after q d y mv.lane p) all ∙ counted_answer k d x mv.lane p c few in

@@ -38,27 +38,27 @@ module _ (prog : List (List Instr)) (s : State) (f : finished prog s ≡ true) w
   parts : (ended prog s ≡ true) × (drained s ≡ true)
   parts = and_true (ended prog s) (drained s) f
 
-  ended-there : (t : ℕ) → get_elem? (get_or prog t []) (pos_at s t) ≡ none
-  ended-there t = go (dec_lt t (length prog))
+  ended_there : (t : ℕ) → get_elem? (get_or prog t []) (pos_at s t) ≡ none
+  ended_there t = go (dec_lt t (length prog))
     where
       go : Dec (t < length prog) → get_elem? (get_or prog t []) (pos_at s t) ≡ none
       go (yes l) = none_of _ (every_at (length prog) (ended_at prog s) parts.0 t l)
       go (no l) = ap (λ is. get_elem? is (pos_at s t)) (get_or-eq_default prog [] (omega arith))
 
-  drained-there : (t : ℕ) → (lane_at s t).pending ≡ []
-  drained-there t = go (dec_lt t (length s.lanes))
+  drained_there : (t : ℕ) → (lane_at s t).pending ≡ []
+  drained_there t = go (dec_lt t (length s.lanes))
     where
       go : Dec (t < length s.lanes) → (lane_at s t).pending ≡ []
       go (yes l) = nil_of _ (every_at (length s.lanes) (λ t. is_nil (lane_at s t).pending) parts.1 t l)
       go (no l) = ap (λ l. l.pending) (get_or-eq_default s.lanes idle (omega arith))
 
   -- so every move waits
-  pub finished-waits : (m : Machine) (vol : ℕ → Bool) (mv : Move) → move_turn m vol prog s mv ≡ waits
-  finished-waits m vol mv = go mv.choice
+  pub finished_waits : (m : Machine) (vol : ℕ → Bool) (mv : Move) → move_turn m vol prog s mv ≡ waits
+  finished_waits m vol mv = go mv.choice
     where
       go : (c : ℕ) → move_turn m vol prog s (move mv.lane c) ≡ waits
-      go zero = rw (ended-there mv.lane) refl
-      go (suc i) = rw (drained-there mv.lane) refl
+      go zero = rw (ended_there mv.lane) refl
+      go (suc i) = rw (drained_there mv.lane) refl
 
 -- the run with so many moves waited
 abbrev pub with_waited : Run → ℕ → Run
@@ -70,5 +70,5 @@ pub finished_over : (m : Machine) (vol : ℕ → Bool) (prog : List (List Instr)
     → run m vol prog (ran r) mvs ≡ ran (with_waited r (r.waited + length mvs))
 finished_over m vol prog [] r f = ap (λ n. ran (with_waited r n)) (omega arith)
 finished_over m vol prog (mv ∷ mvs) r f =
-    rw (finished-waits prog r.state f m vol mv)
+    rw (finished_waits prog r.state f m vol mv)
     (finished_over m vol prog mvs (with_waited r (suc r.waited)) f ∙ ap (λ n. ran (with_waited r n)) (omega arith))

@@ -15,7 +15,7 @@ use Rattle.machine_spec.specs.Schedule.{Move, limit, legal}
 use Rattle.machine_spec.specs.State.{Outcome, ran, refused}
 use Rattle.machine_spec.specs.Run.{answer_of, start_of, program_for, run_on, run_program, level_of}
 use Rattle.sheet_format.specs.Bytes.{sheet_bytes, lower_by}
-use Rattle.machine_start.proofs.Answered.{not-refused}
+use Rattle.machine_start.proofs.Answered.{not_refused}
 
 -- a legal schedule's run is no refusal
 pub ran_number : (s : List ℕ) (k : Program) → verdict s ≡ accepted k → (m : Machine) (mvs : List Move)
@@ -24,14 +24,14 @@ ran_number s k e m mvs le = rw le (go (run_on m k mvs) refl)
   where
     go : (o : Outcome) → run_on m k mvs ≡ o → (answer_of (program_for m k) k.records (start_of k) o).number ≡ 0
     go (ran r) h = refl
-    go (refused t p) h = absurd (not-refused s k e m mvs le t p h)
+    go (refused t p) h = absurd (not_refused s k e m mvs le t p h)
 
 -- a machine's program, in a buffer that takes every program
 module _ (m : Machine) (s own : List ℕ) (big : 4112 ≤ length own) where
-  pub file-verdict : {n r : ℕ} {after : List ℕ} → (Refuses n r, after) ≡ lower_by (level_of m) (verdict s) own
+  pub file_verdict : {n r : ℕ} {after : List ℕ} → (Refuses n r, after) ≡ lower_by (level_of m) (verdict s) own
       → verdict s ≡ refusing n r
-  file-verdict = refuses-as (level_of m) s own (omega (arith, program_narrow m))
+  file_verdict = refuses-as (level_of m) s own (omega (arith, program_narrow m))
 
-  pub file-accepted : {n : ℕ} {after : List ℕ} → (Wrote n, after) ≡ lower_by (level_of m) (verdict s) own
+  pub file_accepted : {n : ℕ} {after : List ℕ} → (Wrote n, after) ≡ lower_by (level_of m) (verdict s) own
       → BytesIn (sheet_bytes (level_of m)) s own after
-  file-accepted = wrote_as (level_of m) s own (omega (arith, program_narrow m))
+  file_accepted = wrote_as (level_of m) s own (omega (arith, program_narrow m))

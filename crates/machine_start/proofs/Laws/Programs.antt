@@ -9,7 +9,7 @@ use Rattle.file_format.specs.Accepted.{Program}
 use Rattle.file_format.specs.Lawful.{Lawful}
 use Rattle.sheet_format.specs.Bytes.{over, sheet_bytes}
 use Rattle.sheet_format.specs.Read.{read_rows, read_sheet}
-use Rattle.sheet_format.proofs.Sizes.{lane-few}
+use Rattle.sheet_format.proofs.Sizes.{lane_few}
 use Rattle.sheet_format.proofs.ReadBack.{lawful_back}
 use Rattle.machine_spec.proofs.Levels.{program_lanes, program_narrow}
 use Rattle.machine_spec.specs.Run.{program_for, level_of}
@@ -30,16 +30,16 @@ module _ (k : Program) where
 
   module _ (w : Lawful k) where
     -- what is read are the machine's programs
-    pub programs-read : (m : Machine) (rest : List ℕ) → read_sheet (sheet_bytes (level_of m) k ++ rest) ≡ program_for m k
-    programs-read m rest = lawful_back (level_of m) k rest w ∙ sym (program_lanes k w m)
+    pub programs_read : (m : Machine) (rest : List ℕ) → read_sheet (sheet_bytes (level_of m) k ++ rest) ≡ program_for m k
+    programs_read m rest = lawful_back (level_of m) k rest w ∙ sym (program_lanes k w m)
 
     -- of at most 128 instructions
-    programs-short : (m : Machine) (t : ℕ) → length (get_or (program_for m k) t []) ≤ 128
-    programs-short m t =
+    programs_short : (m : Machine) (t : ℕ) → length (get_or (program_for m k) t []) ≤ 128
+    programs_short m t =
         omega (
           arith,
           ap (λ x. length (get_or x t [])) (program_lanes k w m),
-          lane-few (level_of m) k w t,
+          lane_few (level_of m) k w t,
           program_narrow m,
         )
 
@@ -52,18 +52,18 @@ module _ (k : Program) (w : Lawful k) (m : Machine) (own : List ℕ) (room : 411
   rest = drop (length (sheet_bytes (level_of m) k)) own
 
   -- lane t's program is read where its part lies
-  own-rows : (t : ℕ) → t < 4
+  own_rows : (t : ℕ) → t < 4
       → get_or (program_for m k) t []
       ≡ read_rows (get_or (parts_in rows).count t 0) (drop (get_or (parts_in rows).from t 0) rows)
-  own-rows t h = ap (λ x. get_or x t []) (sym (programs-read k w m rest)) ∙ lane_rows_lem rows t h
+  own_rows t h = ap (λ x. get_or x t []) (sym (programs_read k w m rest)) ∙ lane_rows_lem rows t h
 
-  few-rows : (t : ℕ) → t < 4 → get_or (parts_in rows).count t 0 ≤ 128
-  few-rows t h =
+  few_rows : (t : ℕ) → t < 4 → get_or (parts_in rows).count t 0 ≤ 128
+  few_rows t h =
       omega (
         arith,
-        ap length (own-rows t h)
+        ap length (own_rows t h)
             ∙ rows_length (get_or (parts_in rows).count t 0) (drop (get_or (parts_in rows).from t 0) rows),
-        programs-short k w m t,
+        programs_short k w m t,
       )
 
   long : 4112 ≤ length rows
@@ -73,20 +73,20 @@ module _ (k : Program) (w : Lawful k) (m : Machine) (own : List ℕ) (room : 411
 
   -- four lanes of at most 128 rows behind 16 bytes
   inside : (t : ℕ) → t < 4 → get_or (parts_in rows).from t 0 + 8 * get_or (parts_in rows).count t 0 ≤ length rows
-  inside t h = go t h (few-rows t h)
+  inside t h = go t h (few_rows t h)
     where
       go : (t : ℕ) → t < 4 → get_or (parts_in rows).count t 0 ≤ 128
           → get_or (parts_in rows).from t 0 + 8 * get_or (parts_in rows).count t 0 ≤ length rows
       go zero h few = omega (arith, long)
-      go (suc zero) h few = omega (arith, long, few-rows 0 (omega arith))
-      go (suc (suc zero)) h few = omega (arith, long, few-rows 0 (omega arith), few-rows 1 (omega arith))
+      go (suc zero) h few = omega (arith, long, few_rows 0 (omega arith))
+      go (suc (suc zero)) h few = omega (arith, long, few_rows 0 (omega arith), few_rows 1 (omega arith))
       go (suc (suc (suc zero))) h few =
-          omega (arith, long, few-rows 0 (omega arith), few-rows 1 (omega arith), few-rows 2 (omega arith))
+          omega (arith, long, few_rows 0 (omega arith), few_rows 1 (omega arith), few_rows 2 (omega arith))
       go (suc (suc (suc (suc t)))) h few = absurd (omega arith)
 
-  pub program-at : (t : ℕ) → t < length k.lanes
+  pub program_at : (t : ℕ) → t < length k.lanes
       → ProgramAt rows (get_or (parts_in rows).from t 0) (get_or (parts_in rows).count t 0)
       (get_or (program_for m k) t [])
-  program-at t h =
+  program_at t h =
       let below : t < 4 = omega (arith, w.few_lanes) in
-      record { rows = own-rows t below; inside = inside t below }
+      record { rows = own_rows t below; inside = inside t below }

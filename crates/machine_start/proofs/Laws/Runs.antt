@@ -25,7 +25,7 @@ use Rattle.machine_run.specs.Runs.{RunnableBy, Runnable, Ends, outcome_by}
 use Rattle.machine_record.specs.Record.{record_of, state_bytes}
 use Rattle.machine_record.specs.SmallStates.{Small}
 use Rattle.machine_run.specs.Counts.{Counts}
-use Rattle.machine_start.proofs.Answered.{not-refused, shape}
+use Rattle.machine_start.proofs.Answered.{not_refused, shape}
 use Rattle.machine_start.proofs.Reached.{runs_by}
 use Rattle.machine_start.specs.Setup.{AtStart}
 use Rattle.machine_spec.proofs.Levels.{programs_many}
@@ -59,38 +59,38 @@ module _ {m : Machine} {vol : ℕ → Bool} {rows first count : List ℕ} {mvs :
   pub few_lanes : count_of h 0 ≤ 4
   few_lanes = omega (arith, b.lanes, law.few_lanes)
 
-  pub begins-run : RunnableBy m vol rows first count mvs h prog
-  begins-run =
+  pub begins_run : RunnableBy m vol rows first count mvs h prog
+  begins_run =
       runs_by s k b.schedule.accepts m vol rows first count mvs h prog b.volatile b.lanes refl b.start
       b.schedule.lets b.programs
 
-  pub begins-runnable : Runnable m vol rows first count mvs h
-  begins-runnable = record { program = prog; runs = begins-run }
+  pub begins_runnable : Runnable m vol rows first count mvs h
+  begins_runnable = record { program = prog; runs = begins_run }
 
   -- the rows of each lane's program are as many as its count says
-  begins-counts : Counts (length k.lanes) count prog
-  begins-counts = record {
+  begins_counts : Counts (length k.lanes) count prog
+  begins_counts = record {
     lanes = programs_many k law m;
     each = λ t l. ap length (b.programs t l).rows ∙ rows_length (get_or count t 0) (drop (get_or first t 0) rows);
   }
 
-  same-run : run m vol prog (begin (state_in h)) mvs ≡ run_on m k mvs
-  same-run =
+  same_run : run m vol prog (begin (state_in h)) mvs ≡ run_on m k mvs
+  same_run =
       ap₂ (λ (v : ℕ → Bool) (x : State). run m v prog (begin x) mvs) b.volatile b.start
 
   -- ## its end
 
   module _ {q : Ended} {e : Blocks} (so : Ends m vol mvs prog h q e) where
     came : {o : Ended} → q ≡ o → run_on m k mvs ≡ outcome_by prog e so.row o
-    came r = sym same-run ∙ so.outcome ∙ ap (outcome_by prog e so.row) r
+    came r = sym same_run ∙ so.outcome ∙ ap (outcome_by prog e so.row) r
 
-    pub never-refused : {t p : ℕ} → q ≡ Refused t p → ⊥
-    never-refused {t} {p} r =
-        not-refused s k b.schedule.accepts m mvs b.schedule.lets t (rank (get_or prog t []) p)
+    pub never_refused : {t p : ℕ} → q ≡ Refused t p → ⊥
+    never_refused {t} {p} r =
+        not_refused s k b.schedule.accepts m mvs b.schedule.lets t (rank (get_or prog t []) p)
         (came r)
 
-    pub few-ended : count_of e 0 ≤ 4
-    few-ended = omega (arith, so.lanes, few_lanes)
+    pub few_ended : count_of e 0 ≤ 4
+    few_ended = omega (arith, so.lanes, few_lanes)
 
     module _ {d w : ℕ} (r : q ≡ Ran d w) where
       shaped : Shaped k (view_of so.row (finished prog (state_in e)) (state_in e))
@@ -105,6 +105,6 @@ module _ {m : Machine} {vol : ℕ → Bool} {rows first count : List ℕ} {mvs :
           → record_of f d w (state_in e) ≡ state_bytes (run_program m k mvs)
       record_is judged =
           ap (λ x. record_of x d w (state_in e))
-          (judged prog (subst (λ n. Counts n count prog) (sym (so.lanes ∙ b.lanes)) begins-counts))
+          (judged prog (subst (λ n. Counts n count prog) (sym (so.lanes ∙ b.lanes)) begins_counts))
           ∙ sym (rw b.schedule.lets
           (ap (λ (o : Outcome). state_bytes (answer_of prog k.records (start_of k) o)) (came r)))

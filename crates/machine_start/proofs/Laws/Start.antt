@@ -21,7 +21,7 @@ use Rattle.machine_state.specs.States.{Blocks, state_in, Block, Sized}
 use Rattle.machine_run.specs.Runs.{ProgramAt}
 use Rattle.sheet_format.specs.Bytes.{sheet_bytes}
 use Rattle.machine_start.specs.Setup.{ProgramIn, AtStart}
-use Rattle.machine_start.proofs.Laws.Programs.{header_read, program-at}
+use Rattle.machine_start.proofs.Laws.Programs.{header_read, program_at}
 
 -- ## zeros
 
@@ -71,8 +71,8 @@ module _ {m : Machine} {mask : ℕ} {rows moves s : List ℕ} {k : Program} (p :
   law : Lawful k
   law = accepted_lawful s k p.schedule.accepts
 
-  pub mask-small : mask < 65536
-  mask-small =
+  pub mask_small : mask < 65536
+  mask_small =
       let wide : 2 ^ k.locations ≤ 2 ^ 16 = pow_mono law.few_locations in
       omega (arith, p.masked, law.small_mask)
 
@@ -88,12 +88,12 @@ module _ {m : Machine} {mask : ℕ} {rows moves s : List ℕ} {k : Program} (p :
   programs : (q : Parts) → q ≡ parts_in rows → (t : ℕ) → t < length k.lanes → Lies rows q t
   programs q e t h =
       subst (λ x. Lies rows x t) (sym e)
-      (subst (λ b. Lies b (parts_in b) t) (sym p.front) (program-at k law m p.own p.room t h))
+      (subst (λ b. Lies b (parts_in b) t) (sym p.front) (program_at k law m p.own p.room t h))
 
-  pub begins-zeroed : {vol : ℕ → Bool} {q : Parts} {n ls ks : ℕ} → vol ≡ is_volatile mask → q ≡ parts_in rows
+  pub begins_zeroed : {vol : ℕ → Bool} {q : Parts} {n ls ks : ℕ} → vol ≡ is_volatile mask → q ≡ parts_in rows
       → n ≡ get_or rows 0 0 → ls ≡ get_or rows 1 0 → ks ≡ get_or rows 2 0
       → AtStart m vol rows q.from q.count (moves_in moves) (zeroed n ls ks) s k
-  begins-zeroed {vol} {q} {n} {ls} {ks} ve qe ne le ke =
+  begins_zeroed {vol} {q} {n} {ls} {ks} ve qe ne le ke =
       let lanes : n ≡ length k.lanes = ne ∙ header.0 in
       let small = zeroed_state (length k.lanes) k.locations k.locks law.few_lanes
       (omega (arith, law.few_locations)) (omega (arith, law.few_locks)) in

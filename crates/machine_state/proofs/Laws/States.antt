@@ -48,8 +48,8 @@ module _ (s : Blocks) (t : ℕ) (h : Lies s t) where
   pub own : Block (get_or s t [])
   own = h.sized.each t (omega (arith, h.lane))
 
-  pub block-became : (b : List (List ℕ)) → Block b → Became s t (lane_in (stored_in b)) (set s t b)
-  block-became b k =
+  pub block_became : (b : List (List ℕ)) → Block b → Became s t (lane_in (stored_in b)) (set s t b)
+  block_became b k =
       let f : List (List ℕ) → Lane = λ x. lane_in (stored_in x) in
       let other : get_or (set s t b) SHARED [] ≡ get_or s SHARED [] =
       get_or-set_other s t SHARED b [] (λ e. omega (arith, h.lane)) in
@@ -76,14 +76,14 @@ module _ (s : Blocks) (t : ℕ) (h : Lies s t) where
   again b f = ap (λ x. set (set s t b) t (f x)) (get_or-set_same s t b [] inside) ∙ set-set s t b (f b)
 
   -- the number of entries pending
-  pub pending-count : length (lane_of s t).pending ≡ min (stored_in (get_or s t [])).len 64
-  pending-count =
+  pub pending_count_lem : length (lane_of s t).pending ≡ min (stored_in (get_or s t [])).len 64
+  pending_count_lem =
       length-take (stored_in (get_or s t [])).len (entries_of (row_at s t CELLS) (row_at s t VALUES))
       ∙ ap (min (stored_in (get_or s t [])).len) (entries_length 64 (row_at s t CELLS) (row_at s t VALUES)
       (own.words CELLS (omega arith)) (own.words VALUES (omega arith)))
 
-  pub pending-low : (i : ℕ) → i < length (lane_of s t).pending → i < 64
-  pending-low i k = omega (arith, pending-count, k)
+  pub pending_low : (i : ℕ) → i < length (lane_of s t).pending → i < 64
+  pending_low i k = omega (arith, pending_count_lem, k)
 
 -- a lane that came out equal, an array that came out equal, one write after another
 pub became : {s e : Blocks} {t : ℕ} {l k : Lane} → l ≡ k → Became s t l e → Became s t k e
@@ -115,10 +115,10 @@ module _ (s : Blocks) (h : Sized s) where
   block : Block (get_or s SHARED [])
   block = h.each SHARED (omega arith)
 
-  block-shared : (b : List (List ℕ)) → Block b → get_or b COUNTS [] ≡ row_at s SHARED COUNTS
+  block_shared : (b : List (List ℕ)) → Block b → get_or b COUNTS [] ≡ row_at s SHARED COUNTS
       → Shared s (take (count_of s LOCATIONS) (get_or b MEMORY [])) (take (count_of s LOCKS) (get_or b LOCKWORDS []))
       (set s SHARED b)
-  block-shared b k same =
+  block_shared b k same =
       let now-is = get_or-set_same s SHARED b [] (omega (arith, h.blocks)) in
       let counts : row_at (set s SHARED b) SHARED COUNTS ≡ row_at s SHARED COUNTS =
       ap (λ x. get_or x COUNTS []) now-is ∙ same in
@@ -146,15 +146,15 @@ module _ (s : Blocks) (h : Sized s) where
         ap (take n) (get_or-set_same (get_or s SHARED []) j _ [] (omega (arith, block.rows)))
         ∙ take_set n (row_at s SHARED j) i x
 
-    pub memory-set : Shared s (set (state_in s).memory i x) (state_in s).locks (with_word s SHARED MEMORY i x)
-    memory-set = shared
+    pub memory_set : Shared s (set (state_in s).memory i x) (state_in s).locks (with_word s SHARED MEMORY i x)
+    memory_set = shared
         (new_row MEMORY (count_of s LOCATIONS) (omega arith))
         (ap (take (count_of s LOCKS)) (same_row MEMORY LOCKWORDS (λ e. omega arith)))
-        (block-shared _ (word_set _ MEMORY i x block (omega arith)) (same_row MEMORY COUNTS (λ e. omega arith)))
+        (block_shared _ (word_set _ MEMORY i x block (omega arith)) (same_row MEMORY COUNTS (λ e. omega arith)))
 
-    pub lock-set : Shared s (state_in s).memory (set (state_in s).locks i x) (with_word s SHARED LOCKWORDS i x)
-    lock-set = shared
+    pub lock_set : Shared s (state_in s).memory (set (state_in s).locks i x) (with_word s SHARED LOCKWORDS i x)
+    lock_set = shared
         (ap (take (count_of s LOCATIONS)) (same_row LOCKWORDS MEMORY (λ e. omega arith)))
         (new_row LOCKWORDS (count_of s LOCKS) (omega arith))
-        (block-shared _ (word_set _ LOCKWORDS i x block (omega arith))
+        (block_shared _ (word_set _ LOCKWORDS i x block (omega arith))
         (same_row LOCKWORDS COUNTS (λ e. omega arith)))

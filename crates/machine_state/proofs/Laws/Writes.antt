@@ -15,7 +15,7 @@ use Rattle.machine_lane.proofs.Laws.Lanes.{lane_eq}
 use Rattle.machine_state.specs.States.{HEAD, CELLS, VALUES, POSITION, LENGTH, MARKS, HIGHMARKS, firsts}
 use Rattle.machine_state.specs.States.{Blocks, row_at, with_word, stored_in, lane_of, Block, Lies, Became}
 use Rattle.machine_state.proofs.Laws.States.{block_set, word_set}
-use Rattle.machine_state.proofs.Laws.States.{own, block-became, again, became, came}
+use Rattle.machine_state.proofs.Laws.States.{own, block_became, again, became, came}
 
 -- the first n words of a list
 pub first_words : (n : ℕ) (l : List ℕ) → n ≤ length l → firsts n (λ i. get_or l i 0) ≡ take n l
@@ -72,13 +72,13 @@ list_lane (x ∷ y ∷ w ∷ b) c v n h =
 
 module _ (s : Blocks) (t : ℕ) (h : Lies s t) where
   pub stays : Became s t (lane_of s t) s
-  stays = came (sym (set-get_or s t [])) (block-became s t h (get_or s t []) (own s t h))
+  stays = came (sym (set-get_or s t [])) (block_became s t h (get_or s t []) (own s t h))
 
-  head-became : (r : List ℕ) → length r ≡ 64
+  head_became : (r : List ℕ) → length r ≡ 64
       → Became s t (lane_in (headed (get_or s t []) r)) (set s t (set (get_or s t []) HEAD r))
-  head-became r e =
+  head_became r e =
       became (ap lane_in (head_lane (get_or s t []) r (own s t h).rows))
-      (block-became s t h _ (block_set (get_or s t []) HEAD r (own s t h) (omega arith) e))
+      (block_became s t h _ (block_set (get_or s t []) HEAD r (own s t h) (omega arith) e))
 
   long : length (row_at s t HEAD) ≡ 64
   long = (own s t h).words HEAD (omega arith)
@@ -86,17 +86,17 @@ module _ (s : Blocks) (t : ℕ) (h : Lies s t) where
   abbrev first : ℕ → List Entry
   first n = take n (entries_of (row_at s t CELLS) (row_at s t VALUES))
 
-  pub position-set : (p : ℕ) → Became s t (placed_at (lane_of s t) p) (with_word s t HEAD POSITION p)
-  position-set p =
+  pub position_set : (p : ℕ) → Became s t (placed_at (lane_of s t) p) (with_word s t HEAD POSITION p)
+  position_set p =
       let w = row_at s t HEAD in
       became (lane_eq (get_or-set_same w POSITION p 0 (omega (arith, long))) (same_marks w POSITION p (omega arith))
       (take-set-le 8 w POSITION p (omega arith)) (ap first (get_or-set_other w POSITION LENGTH p 0 (λ e. omega arith))))
-      (head-became (set w POSITION p) (length-set w POSITION p ∙ long))
+      (head_became (set w POSITION p) (length-set w POSITION p ∙ long))
 
   -- both halves of the marks
-  pub marks-set : (x y ks : ℕ) → x + 2 ^ 32 * y ≡ ks
+  pub marks_set : (x y ks : ℕ) → x + 2 ^ 32 * y ≡ ks
       → Became s t (with_marks (lane_of s t) ks) (with_word (with_word s t HEAD MARKS x) t HEAD HIGHMARKS y)
-  marks-set x y ks e =
+  marks_set x y ks e =
       let w = row_at s t HEAD in
       let b = get_or s t [] in
       let u = set w MARKS x in
@@ -114,18 +114,18 @@ module _ (s : Blocks) (t : ℕ) (h : Lies s t) where
       (became (lane_eq (kept POSITION (omega arith)) (ap₂ (λ m n. m + 2 ^ 32 * n) low high ∙ e)
       (take-set-le 8 u HIGHMARKS y (omega arith) ∙ take-set-le 8 w MARKS x (omega arith))
       (ap first (kept LENGTH (omega arith))))
-      (head-became v z))
+      (head_became v z))
 
-  pub register-set : (a v : ℕ) → a < 8 → Became s t (with_register (lane_of s t) a v) (with_word s t HEAD a v)
-  register-set a v k =
+  pub register_set : (a v : ℕ) → a < 8 → Became s t (with_register (lane_of s t) a v) (with_word s t HEAD a v)
+  register_set a v k =
       let w = row_at s t HEAD in
       became (lane_eq (get_or-set_other w a POSITION v 0 (λ e. omega arith)) (same_marks w a v (omega arith))
       (take_set 8 w a v) (ap first (get_or-set_other w a LENGTH v 0 (λ e. omega arith))))
-      (head-became (set w a v) (length-set w a v ∙ long))
+      (head_became (set w a v) (length-set w a v ∙ long))
 
   -- no such register
-  pub register-past : (a v : ℕ) → 8 ≤ a → Became s t (with_register (lane_of s t) a v) s
-  register-past a v k =
+  pub register_past : (a v : ℕ) → 8 ≤ a → Became s t (with_register (lane_of s t) a v) s
+  register_past a v k =
       let few : length (take 8 (row_at s t HEAD)) ≤ a = omega (arith, length-take 8 (row_at s t HEAD)) in
       became (lane_eq refl refl (sym (set_out (take 8 (row_at s t HEAD)) a v few)) refl) stays
 
@@ -140,7 +140,7 @@ module _ (s : Blocks) (t : ℕ) (h : Lies s t) where
       block_set _ VALUES v (block_set _ CELLS c (own s t h) (omega arith) full) (omega arith) whole in
       came (ap (λ z. set z t (f (get_or z t []))) q ∙ again s t h b f)
       (became (ap lane_in (list_lane (get_or s t []) c v n (own s t h)))
-      (block-became s t h (f b) (word_set b HEAD LENGTH n k (omega arith))))
+      (block_became s t h (f b) (word_set b HEAD LENGTH n k (omega arith))))
 
   -- an entry after the last of n, which are then m
   pub entry_set : (n m c v : ℕ) → n ≡ (stored_in (get_or s t [])).len → m ≡ suc n → n < 64

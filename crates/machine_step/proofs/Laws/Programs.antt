@@ -27,17 +27,17 @@ ready_at h e = record {
 
 -- ## a choice that is made: 0 at an instruction and at the end, and another
 module _ (m : Machine) (f : ℕ → Bool) (prog : List Instr) (s : Blocks) (t : ℕ) where
-  pub made-carry : {i : Option Instr} {q : Moved} {e : Blocks} → get_elem? prog (lane_of s t).control.pos ≡ i
+  pub made_carry : {i : Option Instr} {q : Moved} {e : Blocks} → get_elem? prog (lane_of s t).control.pos ≡ i
       → Took s t (carries m f s t i) q e → Took s t (turns m f prog s t 0) q e
-  made-carry {i} {q} {e} h k = subst (λ x. Took s t (carries m f s t x) q e) (sym h) k
+  made_carry {i} {q} {e} h k = subst (λ x. Took s t (carries m f s t x) q e) (sym h) k
 
-  pub made-wait : get_elem? prog (lane_of s t).control.pos ≡ none → Sized s → Took s t (turns m f prog s t 0) Waited s
-  made-wait h k = made-carry h (took_wait s t k)
+  pub made_wait : get_elem? prog (lane_of s t).control.pos ≡ none → Sized s → Took s t (turns m f prog s t 0) Waited s
+  made_wait h k = made_carry h (took_wait s t k)
 
-  pub made-commit : (k : ℕ) {q : Moved} {e : Blocks} → (k ≡ 0 → ⊥) → Took s t (commits m f s t (k - 1)) q e
+  pub made_commit : (k : ℕ) {q : Moved} {e : Blocks} → (k ≡ 0 → ⊥) → Took s t (commits m f s t (k - 1)) q e
       → Took s t (turns m f prog s t k) q e
-  made-commit zero h c = absurd (h refl)
-  made-commit (suc k) {q} {e} h c =
+  made_commit zero h c = absurd (h refl)
+  made_commit (suc k) {q} {e} h c =
       let back : suc k - 1 ≡ k = omega arith in
       subst (λ i. Took s t (commits m f s t i) q e) back c
 

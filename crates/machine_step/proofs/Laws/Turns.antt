@@ -30,14 +30,14 @@ kept s h = record { sized = h; each = λ t k. refl; lanes = refl; state = refl }
 -- another lane, memory and lock words
 module _ (s d e : Blocks) (t : ℕ) (k : Control) (c : Core) (w : Shared s c.memory c.locks d)
     (b : Became d t (placed k c) e) where
-  state-after : state_in e ≡ set_lane (state_in s) t k c
-  state-after = b.state ∙ ap (λ x. with_lane x t (placed k c)) w.state
+  state_after : state_in e ≡ set_lane (state_in s) t k c
+  state_after = b.state ∙ ap (λ x. with_lane x t (placed k c)) w.state
 
-  pub took-does : (v : Option ℕ) → Took s t (does k c v) Done e
-  took-does v = record { answer = refl; sized = b.sized; lanes = b.lanes ∙ w.lanes; state = state-after }
+  pub took_does : (v : Option ℕ) → Took s t (does k c v) Done e
+  took_does v = record { answer = refl; sized = b.sized; lanes = b.lanes ∙ w.lanes; state = state_after }
 
-  pub took-passes : Took s t (passes k c) Done e
-  took-passes = record { answer = refl; sized = b.sized; lanes = b.lanes ∙ w.lanes; state = state-after }
+  pub took_passes : Took s t (passes k c) Done e
+  took_passes = record { answer = refl; sized = b.sized; lanes = b.lanes ∙ w.lanes; state = state_after }
 
 -- a lane stays where memory and lock words change
 pub same_lane : {s e : Blocks} {t : ℕ} {m l : List ℕ} → Shared s m l e → t < 4 → lane_of e t ≡ lane_of s t

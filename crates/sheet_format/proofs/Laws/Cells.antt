@@ -16,8 +16,8 @@ use Rattle.barrier_placement.specs.Steps.{steps}
 use Rattle.barrier_placement.specs.Place.{stands, keep, chosen}
 use Rattle.barrier_placement.specs.Layout.{Placed, start}
 use Rattle.barrier_placement.proofs.Laws.Chosen.{keep_one}
-use Rattle.barrier_placement.proofs.Laws.Kinds.{store-once, before-few}
-use Rattle.barrier_placement.proofs.Laws.Layout.{layout-end}
+use Rattle.barrier_placement.proofs.Laws.Kinds.{store_once, before_few}
+use Rattle.barrier_placement.proofs.Laws.Layout.{layout_end}
 use Rattle.sheet_format.specs.Layout.{Instr, op, barrier, aim, cells, sheet}
 use Rattle.sheet_format.specs.declared.Level.{Level}
 use Rattle.sheet_format.specs.declared.Level.TheVariants.{Level0, Level1, Level2, Level3}
@@ -50,10 +50,10 @@ each_bar P h (b ∷ bs) is w = (h b, each_bar P h bs is w)
 kept_few : (l : Level) (o : Op) (s : Chain) (p : ℕ)
     → suc (length (chosen (λ b. keeps l o b && stands s b p))) ≤ widest l
 kept_few Level0 o s p = omega arith
-kept_few Level1 o s p = omega (arith, before-few s p)
+kept_few Level1 o s p = omega (arith, before_few s p)
 kept_few Level2 o s p = omega (arith, keep_length (keeps Level2 o SL && stands s SL p) SL [])
 kept_few Level3 o s p =
-    let once = by_test (λ t. (stands s SS p && (t && stands s SL p)) ≡ false) (store-once s p)
+    let once = by_test (λ t. (stands s SS p && (t && stands s SL p)) ≡ false) (store_once s p)
     (and-false (stands s SS p)) (keeps Level3 o SL) in
     omega (arith, keep_one (stands s SS p) (keeps Level3 o SL && stands s SL p) SS SL [] once)
 
@@ -72,21 +72,21 @@ module _ (l : Level) (s : Chain) where
 
   module _ (r : ℕ → ℕ) where
     -- what holds of every barrier and of every operation of the chain, newly aimed, holds of each instruction
-    pub cells-each : (P : Instr → Type 0) → ((b : Barrier) → P (barrier b)) → (os : List Op) (p : ℕ)
+    pub cells_each : (P : Instr → Type 0) → ((b : Barrier) → P (barrier b)) → (os : List Op) (p : ℕ)
         → ((i : ℕ) (o : Op) → get_elem? os i ≡ some o → P (op (aim r o))) → Each P (cells r (place_from l s p os))
-    cells-each P bars [] p h = tt
-    cells-each P bars (o ∷ os) p h =
+    cells_each P bars [] p h = tt
+    cells_each P bars (o ∷ os) p h =
         each_bar P bars (chosen (λ b. keeps l o b && stands s b p)) (op (aim r o) ∷ cells r (place_from l s (suc p) os))
-        (h 0 o refl, cells-each P bars os (suc p) (λ i. h (suc i)))
+        (h 0 o refl, cells_each P bars os (suc p) (λ i. h (suc i)))
 
 -- a lane is as long as where its end is
 pub lane_end : (ps : List (Placed Op)) → length (sheet ps) ≡ start ps (length ps)
-lane_end ps = layout-end barrier (λ o. op (aim (start ps) o)) ps
+lane_end ps = layout_end barrier (λ o. op (aim (start ps) o)) ps
 
 -- a lane of at most 64 operations
 module _ (l : Level) (vol : ℕ → Bool) (os : List Op) (short : length os ≤ 64) where
-  pub lane-start : (i : ℕ) → start (placed l vol os) i ≤ 64 * widest l
-  lane-start i = omega (arith, start_small l (steps vol os) os 0 i, mul-le-mul_right (widest l) short)
+  pub lane_start_lem : (i : ℕ) → start (placed l vol os) i ≤ 64 * widest l
+  lane_start_lem i = omega (arith, start_small l (steps vol os) os 0 i, mul-le-mul_right (widest l) short)
 
-  pub lane_length : length (sheet (placed l vol os)) ≤ 64 * widest l
-  lane_length = rw (lane_end (placed l vol os)) (lane-start _)
+  pub lane_length_lem : length (sheet (placed l vol os)) ≤ 64 * widest l
+  lane_length_lem = rw (lane_end (placed l vol os)) (lane_start_lem _)

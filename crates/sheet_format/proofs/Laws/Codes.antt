@@ -31,25 +31,25 @@ module _ (P : Instr → Type 0) (o a b c : ℕ) where
   by n e = subst P (by_code n a b c e)
 
   -- register a, and the constant or the target
-  pub word-codes : (o ≡ 1) ⊎ (o ≡ 7) → P (op (Set a c)) → P (op (Skip a c)) → P (instr_by o a b c)
-  word-codes k set skip = ⊎_elim (λ e. by 1 e set) (λ e. by 7 e skip) k
+  pub word_codes : (o ≡ 1) ⊎ (o ≡ 7) → P (op (Set a c)) → P (op (Skip a c)) → P (instr_by o a b c)
+  word_codes k set skip = ⊎_elim (λ e. by 1 e set) (λ e. by 7 e skip) k
 
   -- register a and operand b
-  pub pair-codes : (o ≡ 1 → ⊥) → 1 ≤ o → o < 5 → P (op (Add a b)) → P (op (Load a b)) → P (op (Store a b))
+  pub pair_codes : (o ≡ 1 → ⊥) → 1 ≤ o → o < 5 → P (op (Add a b)) → P (op (Load a b)) → P (op (Store a b))
       → P (instr_by o a b c)
-  pair-codes n p q add load store =
+  pair_codes n p q add load store =
       ⊎_elim (λ l. by 2 (omega arith) add)
       (λ g. ⊎_elim (λ l. by 3 (omega arith) load) (λ h. by 4 (omega arith) store) (lt_or_le o 4))
       (lt_or_le o 3)
 
   -- operand b alone
-  pub lock-codes : 5 ≤ o → o < 7 → P (op (Lock b)) → P (op (Unlock b)) → P (instr_by o a b c)
-  lock-codes p q lock unlock =
+  pub lock_codes : 5 ≤ o → o < 7 → P (op (Lock b)) → P (op (Unlock b)) → P (instr_by o a b c)
+  lock_codes p q lock unlock =
       ⊎_elim (λ l. by 5 (omega arith) lock) (λ g. by 6 (omega arith) unlock) (lt_or_le o 6)
 
   -- none of them
-  pub barrier-codes : (1 ≤ o → o < 8 → ⊥) → P (barrier (barrier_by o)) → P (instr_by o a b c)
-  barrier-codes h =
+  pub barrier_codes : (1 ≤ o → o < 8 → ⊥) → P (barrier (barrier_by o)) → P (instr_by o a b c)
+  barrier_codes h =
       let no : (n : ℕ) → 1 ≤ n → n < 8 → o ≡ n → ⊥ = λ n p q e. h (omega arith) (omega arith) in
       subst P
       (other_code o a b c (no 1 (omega arith) (omega arith)) (no 2 (omega arith) (omega arith))

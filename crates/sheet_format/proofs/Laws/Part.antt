@@ -28,15 +28,15 @@ part_back l xs i {ys} h p =
 
 -- a part `&mut l[i..]` that comes back as ys: it stands from i on, and before i nothing changed
 module _ (l ys : List ℕ) (i : ℕ) (h : i ≤ length l) where
-  pub part-behind : drop i (put_mid i (length l - i) l ys) ≡ ys
-  part-behind =
+  pub part_behind : drop i (put_mid i (length l - i) l ys) ≡ ys
+  part_behind =
       let none : post_of i (length l - i) l ≡ [] = Post-is i (length l) l (omega arith) ∙ drop-length l in
       let size : i ≡ length (take i l) = sym (length-take-le i l h) in
       ap (λ n. drop n (take i l ++ (ys ++ post_of i (length l - i) l))) size
       ∙ drop-append_seam (take i l) (ys ++ post_of i (length l - i) l)
       ∙ ap (λ z. ys ++ z) none ∙ append-nil ys
 
-  pub part-before : (j : ℕ) → j < i → get_or (put_mid i (length l - i) l ys) j 0 ≡ get_or l j 0
-  part-before j lt =
+  pub part_before : (j : ℕ) → j < i → get_or (put_mid i (length l - i) l ys) j 0 ≡ get_or l j 0
+  part_before j lt =
       sym (get_or-take i (put_mid i (length l - i) l ys) j 0 lt)
       ∙ ap (λ z. get_or z j 0) (take_put i (length l - i) l ys h) ∙ get_or-take i l j 0 lt

@@ -12,7 +12,7 @@ use Rattle.laws.proofs.Parts.{sets_on}
 use Rattle.sheet_format.specs.declared.WriteResult.TheVariants.{Wrote, Refuses}
 use Rattle.sheet_format.specs.Bytes.{over, write_into}
 use Rattle.sheet_format.specs.Put.{Puts, laid}
-use Rattle.sheet_format.proofs.Laws.Written.{written_all, short-untouched}
+use Rattle.sheet_format.proofs.Laws.Written.{written_all, short_untouched}
 
 -- first x, and behind it y
 pub puts_on : {l m n x y : List ℕ} {i j k : ℕ} → Puts l i x m j → Puts m j y n k → Puts l i (x ++ y) n k
@@ -70,12 +70,12 @@ puts_next t i j {l} {m} {n} {k} {b} p h e q =
 
 -- a text that is measured first, by laying it into another buffer, and then laid into the output buffer if it fits
 module _ {l m x : List ℕ} {size : ℕ} (p : Puts l 0 x m size) where
-  pub measured-short : (buffer : List ℕ) → length buffer < size → (Refuses 9 0, buffer) ≡ write_into x buffer
-  measured-short buffer h = sym (short-untouched x buffer (omega (arith, p.behind)))
+  pub measured_short : (buffer : List ℕ) → length buffer < size → (Refuses 9 0, buffer) ≡ write_into x buffer
+  measured_short buffer h = sym (short_untouched x buffer (omega (arith, p.behind)))
 
-  pub measured-whole : {buffer after : List ℕ} {end : ℕ} → size ≤ length buffer → Puts buffer 0 x after end
+  pub measured_whole : {buffer after : List ℕ} {end : ℕ} → size ≤ length buffer → Puts buffer 0 x after end
       → (Wrote end, after) ≡ write_into x buffer
-  measured-whole {buffer} {after} {end} h q =
+  measured_whole {buffer} {after} {end} h q =
       let fits : length x ≤ length buffer = omega (arith, p.behind) in
       let whole : end ≡ length x = omega (arith, q.behind) in
       let laid : after ≡ over x buffer = puts_front fits q in

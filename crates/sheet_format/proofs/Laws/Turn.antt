@@ -19,22 +19,22 @@ turn_same f g (suc n) h =
 
 -- the texts of a list's elements; behind its end they are empty
 module _ {A : Type 0} (g : A → List ℕ) (d : A) (none : g d ≡ []) where
-  turn-front : (x : A) (xs : List A) (n : ℕ)
+  turn_front : (x : A) (xs : List A) (n : ℕ)
       → in_turn (λ t. g (get_or (x ∷ xs) t d)) (suc n) ≡ g x ++ in_turn (λ t. g (get_or xs t d)) n
   unfolding in_turn
-  turn-front x xs zero = sym (append-nil (g x))
-  turn-front x xs (suc n) =
-      ap (λ z. z ++ g (get_or xs n d)) (turn-front x xs n)
+  turn_front x xs zero = sym (append-nil (g x))
+  turn_front x xs (suc n) =
+      ap (λ z. z ++ g (get_or xs n d)) (turn_front x xs n)
       ∙ append_assoc (g x) (in_turn (λ t. g (get_or xs t d)) n) (g (get_or xs n d))
 
-  pub turn-all : (xs : List A) (n : ℕ) → length xs ≤ n → in_turn (λ t. g (get_or xs t d)) n ≡ joined (map g xs)
+  pub turn_all : (xs : List A) (n : ℕ) → length xs ≤ n → in_turn (λ t. g (get_or xs t d)) n ≡ joined (map g xs)
   unfolding in_turn
-  turn-all [] zero h = refl
-  turn-all [] (suc n) h =
+  turn_all [] zero h = refl
+  turn_all [] (suc n) h =
       ap (λ z. in_turn (λ t. g (get_or [] t d)) n ++ z) none ∙ append-nil (in_turn (λ t. g (get_or [] t d)) n)
-      ∙ turn-all [] n (omega arith)
-  turn-all (x ∷ xs) zero h = absurd (omega arith)
-  turn-all (x ∷ xs) (suc n) h = turn-front x xs n ∙ ap (λ z. g x ++ z) (turn-all xs n (omega arith))
+      ∙ turn_all [] n (omega arith)
+  turn_all (x ∷ xs) zero h = absurd (omega arith)
+  turn_all (x ∷ xs) (suc n) h = turn_front x xs n ∙ ap (λ z. g x ++ z) (turn_all xs n (omega arith))
 
 module _ (f : ℕ → List ℕ) where
   turn_suc : (t : ℕ) → in_turn f (t + 1) ≡ in_turn f t ++ f t
@@ -43,37 +43,37 @@ module _ (f : ℕ → List ℕ) where
       let one : t + 1 ≡ suc t = omega arith in
       ap (in_turn f) one
 
-  turn-length : (t : ℕ) → length (in_turn f (t + 1)) ≡ length (in_turn f t) + length (f t)
-  turn-length t = ap length (turn_suc t) ∙ length-append (in_turn f t) (f t)
+  turn_length : (t : ℕ) → length (in_turn f (t + 1)) ≡ length (in_turn f t) + length (f t)
+  turn_length t = ap length (turn_suc t) ∙ length-append (in_turn f t) (f t)
 
-  turn-grows : (t n : ℕ) → t ≤ n → length (in_turn f t) ≤ length (in_turn f n)
-  turn-grows t zero h =
+  turn_grows : (t n : ℕ) → t ≤ n → length (in_turn f t) ≤ length (in_turn f n)
+  turn_grows t zero h =
       let z : t ≡ 0 = omega arith in
       rw z (omega arith)
-  turn-grows t (suc n) h = go (dec_le t n) (turn-grows t n)
+  turn_grows t (suc n) h = go (dec_le t n) (turn_grows t n)
     where
       go : Dec (t ≤ n) → (t ≤ n → length (in_turn f t) ≤ length (in_turn f n)) → length (in_turn f t) ≤ length
           (in_turn f (suc n))
       go (yes l) ih =
           let one : n + 1 ≡ suc n = omega arith in
-          omega (arith, ih l, turn-length n, ap (λ m. length (in_turn f m)) one)
+          omega (arith, ih l, turn_length n, ap (λ m. length (in_turn f m)) one)
       go (no l) ih =
           let e : t ≡ suc n = omega arith in
           rw e (omega arith)
 
-  pub turn-none : {buffer : List ℕ} {i : ℕ} → Puts buffer i (in_turn f 0) buffer i
+  pub turn_none : {buffer : List ℕ} {i : ℕ} → Puts buffer i (in_turn f 0) buffer i
   unfolding in_turn
-  turn-none = puts_none
+  turn_none = puts_none
 
   -- one text more
-  pub turn_on : (t : ℕ) {buffer out out' : List ℕ} {i j j' : ℕ} → Puts buffer i (in_turn f t) out j
+  pub turn_on_lem : (t : ℕ) {buffer out out' : List ℕ} {i j j' : ℕ} → Puts buffer i (in_turn f t) out j
       → Puts out j (f t) out' j' → Puts buffer i (in_turn f (t + 1)) out' j'
-  turn_on t p q = puts_as (sym (turn_suc t)) (puts_on p q)
+  turn_on_lem t p q = puts_as (sym (turn_suc t)) (puts_on p q)
 
   -- what four texts take
-  pub turn-four : length (in_turn f 4) ≡ length (f 0) + (length (f 1) + (length (f 2) + length (f 3)))
+  pub turn_four : length (in_turn f 4) ≡ length (f 0) + (length (f 1) + (length (f 2) + length (f 3)))
   unfolding in_turn
-  turn-four = omega (arith, turn-length 0, turn-length 1, turn-length 2, turn-length 3)
+  turn_four = omega (arith, turn_length 0, turn_length 1, turn_length 2, turn_length 3)
 
   -- texts of m bytes each, and where they end
   pub turn_even : (m n : ℕ) → ((t : ℕ) → length (f t) ≡ m) → length (in_turn f n) ≡ n * m
@@ -87,13 +87,13 @@ module _ (f : ℕ → List ℕ) where
   turn_end m n each {i = i} p = p.behind ∙ ap (λ x. i + x) (turn_even m n each)
 
   -- there is room for one of n texts where there is for all
-  pub turn-room : (n t : ℕ) → t < n → length (in_turn f t) + length (f t) ≤ length (in_turn f n)
-  turn-room n t h = omega (arith, turn-length t, turn-grows (t + 1) n (omega arith))
+  pub turn_room : (n t : ℕ) → t < n → length (in_turn f t) + length (f t) ≤ length (in_turn f n)
+  turn_room n t h = omega (arith, turn_length t, turn_grows (t + 1) n (omega arith))
 
   -- t of n texts are written into `out`, up to `at`, where all have room: the buffer keeps its length, and the next
   -- has room
-  pub turn-fits : (n t : ℕ) {buffer out : List ℕ} {i at : ℕ} → i + length (in_turn f n) ≤ length buffer → t < n
+  pub turn_fits : (n t : ℕ) {buffer out : List ℕ} {i at : ℕ} → i + length (in_turn f n) ≤ length buffer → t < n
       → Puts buffer i (in_turn f t) out at → (length out ≡ length buffer) × (at + length (f t) ≤ length out)
-  turn-fits n t {buffer} {out} {i} {at} room h p =
+  turn_fits n t {buffer} {out} {i} {at} room h p =
       let same = puts_length p in
-      (same, omega (arith, same, p.behind, turn-room n t h, room))
+      (same, omega (arith, same, p.behind, turn_room n t h, room))

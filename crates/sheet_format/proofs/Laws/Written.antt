@@ -16,11 +16,11 @@ module _ (bytes buffer : List ℕ) where
       → write_into bytes buffer ≡ (Wrote (length bytes), over bytes buffer)
   written_all h = rw (le-ltb (length buffer) (length bytes) h)
 
-  pub short-untouched : length buffer < length bytes → write_into bytes buffer ≡ (Refuses 9 0, buffer)
-  short-untouched h = rw (lt-ltb (length buffer) (length bytes) h)
+  pub short_untouched : length buffer < length bytes → write_into bytes buffer ≡ (Refuses 9 0, buffer)
+  short_untouched h = rw (lt-ltb (length buffer) (length bytes) h)
 
-  pub written-length : length (write_into bytes buffer).1 ≡ length buffer
-  written-length = go (ltb (length buffer) (length bytes)) refl
+  pub written_length : length (write_into bytes buffer).1 ≡ length buffer
+  written_length = go (ltb (length buffer) (length bytes)) refl
     where
       go : (b : Bool) → ltb (length buffer) (length bytes) ≡ b → length (write_into bytes buffer).1 ≡ length buffer
       go true h = rw h
@@ -35,13 +35,13 @@ module _ (bytes buffer : List ℕ) where
 
 -- the answer where the bytes do not fit, and where they do
 module _ (bytes buffer : List ℕ) {last : List ℕ} (e : last ≡ (write_into bytes buffer).1) where
-  pub answer-short : length buffer < length bytes → (Refuses 9 0, last) ≡ write_into bytes buffer
-  answer-short h =
-      let short = short-untouched bytes buffer h in
+  pub answer_short : length buffer < length bytes → (Refuses 9 0, last) ≡ write_into bytes buffer
+  answer_short h =
+      let short = short_untouched bytes buffer h in
       (λ i. (Refuses 9 0, (e ∙ ap (λ x. x.1) short) i)) ∙ sym short
 
-  pub answer-full : {size : ℕ} → size ≡ length bytes → length bytes ≤ length buffer
+  pub answer_full : {size : ℕ} → size ≡ length bytes → length bytes ≤ length buffer
       → (Wrote size, last) ≡ write_into bytes buffer
-  answer-full n h =
+  answer_full n h =
       let full = written_all bytes buffer h in
       (λ i. (Wrote (n i), (e ∙ ap (λ x. x.1) full) i)) ∙ sym full

@@ -29,36 +29,36 @@ begins_as {l} {m} {i = i} {j = j} e p = subst (λ z. Begins l i z m j) e p
 
 module _ {l m x : List ℕ} {i j : ℕ} (p : Begins l i x m j) where
   -- what follows is written over the bytes that do not count
-  over-rest : {n : List ℕ} (y : List ℕ) → length y ≡ 8 → n ≡ sets m j y → n ≡ sets (sets l i x) j y
-  over-rest y size e =
+  over_rest : {n : List ℕ} (y : List ℕ) → length y ≡ 8 → n ≡ sets m j y → n ≡ sets (sets l i x) j y
+  over_rest y size e =
       e ∙ ap (λ z. sets z j y) p.bytes ∙ sets_over (sets l i x) j p.rest y (omega (arith, p.short))
 
-  behind-it : (y : List ℕ) → sets (sets l i x) j y ≡ sets l i (x ++ y)
-  behind-it y = ap (λ k. sets (sets l i x) k y) p.behind ∙ sets_on l i x y
+  behind_it : (y : List ℕ) → sets (sets l i x) j y ≡ sets l i (x ++ y)
+  behind_it y = ap (λ k. sets (sets l i x) k y) p.behind ∙ sets_on l i x y
 
   -- a row that counts or not
-  pub begins-row : (b : Bool) (code : ℕ) {n : List ℕ} {k : ℕ} → n ≡ sets m j (row code 0 0 0)
+  pub begins_row : (b : Bool) (code : ℕ) {n : List ℕ} {k : ℕ} → n ≡ sets m j (row code 0 0 0)
       → k ≡ j + length (row_if b code) → Begins l i (x ++ row_if b code) n k
-  begins-row true code e behind = record {
+  begins_row true code e behind = record {
     rest = [];
     short = omega arith;
-    bytes = over-rest (row code 0 0 0) refl e ∙ behind-it (row code 0 0 0);
+    bytes = over_rest (row code 0 0 0) refl e ∙ behind_it (row code 0 0 0);
     behind = omega (arith, behind, p.behind, length-append x (row code 0 0 0));
   }
-  begins-row false code {n} {k} e behind =
+  begins_row false code {n} {k} e behind =
       let same : j ≡ k = omega (arith, behind) in
       record {
         rest = row code 0 0 0;
         short = omega arith;
         bytes =
-            over-rest (row code 0 0 0) refl e
+            over_rest (row code 0 0 0) refl e
             ∙ ap₂ (λ z t. sets (sets l i z) t (row code 0 0 0)) (sym (append-nil x)) same;
         behind = omega (arith, behind, p.behind, ap length (append-nil x));
       }
 
   -- the last row
-  pub begins-last : {n : List ℕ} (y : List ℕ) → length y ≡ 8 → n ≡ sets m j y → Puts l i (x ++ y) n (j + 8)
-  begins-last y size e = record {
-    bytes = over-rest y size e ∙ behind-it y;
+  pub begins_last : {n : List ℕ} (y : List ℕ) → length y ≡ 8 → n ≡ sets m j y → Puts l i (x ++ y) n (j + 8)
+  begins_last y size e = record {
+    bytes = over_rest y size e ∙ behind_it y;
     behind = omega (arith, size, p.behind, length-append x y);
   }

@@ -21,7 +21,7 @@ use Rattle.barrier_placement.specs.Layout.{Placed, start}
 use Rattle.barrier_placement.specs.Place.{keep, chosen, stands}
 use Rattle.barrier_placement.specs.Placed.{bit, bit_of}
 use Rattle.barrier_placement.specs.Steps.{steps}
-use Rattle.barrier_placement.proofs.Laws.Kinds.{load-once, store-once}
+use Rattle.barrier_placement.proofs.Laws.Kinds.{load_once, store_once}
 use Rattle.sheet_format.specs.declared.Level.{Level}
 use Rattle.sheet_format.specs.declared.Level.TheVariants.{Level1}
 use Rattle.sheet_format.specs.Layout.{op, barrier, aim, cells, sheet}
@@ -35,31 +35,31 @@ use Rattle.sheet_format.proofs.Laws.Cells.{lane_end}
 use Rattle.sheet_format.proofs.Laws.Rows.{bytes_append}
 use Rattle.sheet_rows.specs.Rows.{row_in}
 use Rattle.sheet_rows.specs.Lanes.{fields_of, Holds}
-use Rattle.sheet_rows.proofs.Laws.Lanes.{held_bytes, held-fields}
+use Rattle.sheet_rows.proofs.Laws.Lanes.{held_bytes, held_fields}
 use Rattle.barrier_pass.specs.Plan.{kept_in, begin_in}
-use Rattle.barrier_pass.proofs.Laws.Read.{plan_kept, plan-begins}
+use Rattle.barrier_pass.proofs.Laws.Read.{plan_kept, plan_begins}
 use Rattle.sheet_lanes.specs.Put.{beginning, row_if, barrier_rows, SingleTo, own_row, step_rows, lane_rows}
 use Rattle.sheet_lanes.specs.Rows.{Planned}
 
 -- ## the barriers before an operation
 
 module _ (l : Level) where
-  keep-bytes : (t : Bool) (b : Barrier) (bs : List Barrier)
+  keep_bytes : (t : Bool) (b : Barrier) (bs : List Barrier)
       → lane_bytes l (map barrier (keep t b bs)) ≡ row_if t (barrier_code l b) ++ lane_bytes l (map barrier bs)
-  keep-bytes true b bs = refl
-  keep-bytes false b bs = refl
+  keep_bytes true b bs = refl
+  keep_bytes false b bs = refl
 
   -- the rows of a plan's set are those of its barriers at the level
-  barriers-bytes : (x : ℕ) → lane_bytes l (map barrier (chosen (kept_in l x))) ≡ barrier_rows l x
-  barriers-bytes x =
+  barriers_bytes : (x : ℕ) → lane_bytes l (map barrier (chosen (kept_in l x))) ≡ barrier_rows l x
+  barriers_bytes x =
       let at : Barrier → List ℕ = λ b. row_if (kept_in l x b) (barrier_code l b) in
-      keep-bytes (kept_in l x LL) LL
+      keep_bytes (kept_in l x LL) LL
       (keep (kept_in l x LS) LS (keep (kept_in l x SS) SS (keep (kept_in l x SL) SL [])))
       ∙ ap (λ z. at LL ++ z)
-      (keep-bytes (kept_in l x LS) LS (keep (kept_in l x SS) SS (keep (kept_in l x SL) SL []))
+      (keep_bytes (kept_in l x LS) LS (keep (kept_in l x SS) SS (keep (kept_in l x SL) SL []))
       ∙ ap (λ z. at LS ++ z)
-      (keep-bytes (kept_in l x SS) SS (keep (kept_in l x SL) SL [])
-      ∙ ap (λ z. at SS ++ z) (keep-bytes (kept_in l x SL) SL [] ∙ append-nil (at SL))))
+      (keep_bytes (kept_in l x SS) SS (keep (kept_in l x SL) SL [])
+      ∙ ap (λ z. at SS ++ z) (keep_bytes (kept_in l x SL) SL [] ∙ append-nil (at SL))))
       ∙ sym (append_assoc (at LL) (at LS) (at SS ++ at SL))
 
 -- ## the operation's own row
@@ -126,62 +126,62 @@ module _ (l : Level) (vol : ℕ → Bool) {rows : List ℕ} {n : ℕ} {ops : Lis
     ps = placed l vol ops
 
     -- operation p at the level, behind its barriers
-    abbrev placedOp : ℕ → Placed Op
-    placedOp p = placed_at l (steps vol ops) ops p p
+    abbrev placed_op : ℕ → Placed Op
+    placed_op p = placed_at l (steps vol ops) ops p p
 
-    abbrev stepBytes : ℕ → List ℕ
-    stepBytes p = lane_bytes l (cells (start ps) (placedOp p ∷ []))
+    abbrev step_bytes : ℕ → List ℕ
+    step_bytes p = lane_bytes l (cells (start ps) (placed_op p ∷ []))
 
-    begins-at : (p : ℕ) → p ≤ n → beginning l plan p ≡ start ps p
-    begins-at p le =
+    begins_at : (p : ℕ) → p ≤ n → beginning l plan p ≡ start ps p
+    begins_at p le =
         ap (λ x. begin_in l x p) (known p (omega (arith, h.count)))
-        ∙ plan-begins vol ops (omega (arith, h.count)) l p (omega (arith, h.count))
+        ∙ plan_begins vol ops (omega (arith, h.count)) l p (omega (arith, h.count))
 
-    stand-at : (p : ℕ) → p < n → (placedOp p).before ≡ chosen (kept_in l (get_or plan p 0))
-    stand-at p lt = chosen_ext (λ b.
+    stand_at : (p : ℕ) → p < n → (placed_op p).before ≡ chosen (kept_in l (get_or plan p 0))
+    stand_at p lt = chosen_ext (λ b.
         sym (ap (λ x. kept_in l x b) (known p (omega (arith, h.count))) ∙ plan_kept vol ops l p b))
 
-    step_is : (p : ℕ) → p < n → step_rows l plan rows p ≡ stepBytes p
+    step_is : (p : ℕ) → p < n → step_rows l plan rows p ≡ step_bytes p
     step_is p lt =
         let o = get_or ops p no_op in
         let own : own_row l plan (drop (8 * p) rows) ≡ op_bytes (aim (start ps) o) =
-        own_of l plan (start ps) (drop (8 * p) rows) o (held-fields h p lt) (held_bytes h p lt)
+        own_of l plan (start ps) (drop (8 * p) rows) o (held_fields h p lt) (held_bytes h p lt)
         (λ t j.
         let in_lane = within p o t (at_some ops p no_op (omega (arith, h.count))) j in
-        (omega arith, begins-at t in_lane)) in
-        let bars : lane_bytes l (map barrier (placedOp p).before) ≡ barrier_rows l (get_or plan p 0) =
-        ap (λ bs. lane_bytes l (map barrier bs)) (stand-at p lt) ∙ barriers-bytes l (get_or plan p 0) in
+        (omega arith, begins_at t in_lane)) in
+        let bars : lane_bytes l (map barrier (placed_op p).before) ≡ barrier_rows l (get_or plan p 0) =
+        ap (λ bs. lane_bytes l (map barrier bs)) (stand_at p lt) ∙ barriers_bytes l (get_or plan p 0) in
         ap₂ (λ x y. x ++ y) (sym bars) (own ∙ sym (append-nil (op_bytes (aim (start ps) o))))
-        ∙ sym (bytes_append l (map barrier (placedOp p).before) (op (aim (start ps) o) ∷ []))
+        ∙ sym (bytes_append l (map barrier (placed_op p).before) (op (aim (start ps) o) ∷ []))
 
     -- the bytes of the first p operations
-    abbrev firstBytes : ℕ → List ℕ
-    firstBytes p = lane_bytes l (cells (start ps) (take p ps))
+    abbrev first_bytes : ℕ → List ℕ
+    first_bytes p = lane_bytes l (cells (start ps) (take p ps))
 
-    first-suc : (p : ℕ) → p < n → firstBytes (suc p) ≡ firstBytes p ++ stepBytes p
-    first-suc p lt =
+    first_suc : (p : ℕ) → p < n → first_bytes (suc p) ≡ first_bytes p ++ step_bytes p
+    first_suc p lt =
         let inside : p < length ps = omega (arith, placed_count l vol ops, h.count) in
         ap (λ xs. lane_bytes l (cells (start ps) xs)) (take-suc ps p nothing inside)
         ∙ ap (lane_bytes l) (cells_append (start ps) (take p ps) (get_or ps p nothing ∷ []))
         ∙ bytes_append l (cells (start ps) (take p ps)) (cells (start ps) (get_or ps p nothing ∷ []))
-        ∙ ap (λ x. firstBytes p ++ lane_bytes l (cells (start ps) (x ∷ [])))
+        ∙ ap (λ x. first_bytes p ++ lane_bytes l (cells (start ps) (x ∷ [])))
         (place_at l (steps vol ops) ops 0 p p (omega arith) (omega (arith, h.count)))
 
-    first-is : (p : ℕ) → p ≤ n → lane_rows l plan rows p ≡ firstBytes p
+    first_is : (p : ℕ) → p ≤ n → lane_rows l plan rows p ≡ first_bytes p
     unfolding in_turn
-    first-is zero le = refl
-    first-is (suc p) le =
-        ap₂ (λ x y. x ++ y) (first-is p (omega arith)) (step_is p (omega arith)) ∙ sym (first-suc p (omega arith))
+    first_is zero le = refl
+    first_is (suc p) le =
+        ap₂ (λ x y. x ++ y) (first_is p (omega arith)) (step_is p (omega arith)) ∙ sym (first_suc p (omega arith))
 
-    pub lane-held : lane_rows l plan rows n ≡ lane_bytes l (sheet ps)
-    lane-held =
-        first-is n (omega arith)
+    pub lane_held : lane_rows l plan rows n ≡ lane_bytes l (sheet ps)
+    lane_held =
+        first_is n (omega arith)
         ∙ ap (λ xs. lane_bytes l (cells (start ps) xs)) (take_all n ps (omega (arith, placed_count l vol ops, h.count)))
 
     -- the lane's end tells how many instructions it has
-    pub lane-counted : begin_in l (get_or plan n 0) n ≡ length (sheet ps)
-    lane-counted =
-        begins-at n (omega arith)
+    pub lane_counted : begin_in l (get_or plan n 0) n ≡ length (sheet ps)
+    lane_counted =
+        begins_at n (omega arith)
         ∙ ap (start ps) (sym h.count ∙ sym (placed_count l vol ops)) ∙ sym (lane_end ps)
 
 -- of LL and LS at most one stands before an operation, and of SS and SL
@@ -189,6 +189,6 @@ pub lane_single : (vol : ℕ → Bool) (ops : List Op) (plan : List ℕ) → Pla
 lane_single vol ops plan known p lt =
     let at : (b : Barrier) → bit (get_or plan p 0) (bit_of b) ≡ stands (steps vol ops) b p =
     λ b. ap (λ x. bit x (bit_of b)) (known p (omega arith)) ∙ plan_kept vol ops Level1 p b in (
-      ap₂ (λ x y. x && y) (at LL) (at LS) ∙ load-once (steps vol ops) p,
-      ap₂ (λ x y. x && y) (at SS) (at SL) ∙ store-once (steps vol ops) p,
+      ap₂ (λ x y. x && y) (at LL) (at LS) ∙ load_once (steps vol ops) p,
+      ap₂ (λ x y. x && y) (at SS) (at SL) ∙ store_once (steps vol ops) p,
     )

@@ -69,16 +69,16 @@ module _ (x : ℕ) where
   part3 : bit part 3 ≡ bit x 3
   part3 = let e : part / 8 % 2 ≡ x / 8 % 2 = omega arith in ap test e
 
-  part-fence : fence_in part ≡ fence_in x
-  part-fence =
+  part_fence : fence_in part ≡ fence_in x
+  part_fence =
       let e : part / 16 % 2 ≡ x / 16 % 2 = omega arith in
       ap₂ (λ u v. not (test u) && v) e part3
 
-  part-code : (l : Level) → store_code l part ≡ store_code l x
-  part-code Level0 = refl
-  part-code Level1 = λ i. cond (part2 i) 13 (cond (part3 i) 14 0)
-  part-code Level2 = λ i. cond (part-fence i) 15 0
-  part-code Level3 = λ i. cond (part2 i) 13 (cond (part-fence i) 14 0)
+  part_code : (l : Level) → store_code l part ≡ store_code l x
+  part_code Level0 = refl
+  part_code Level1 = λ i. cond (part2 i) 13 (cond (part3 i) 14 0)
+  part_code Level2 = λ i. cond (part_fence i) 15 0
+  part_code Level3 = λ i. cond (part2 i) 13 (cond (part_fence i) 14 0)
 
   module _ (one : Single x) where
     low0 : bit (x % 4) 0 ≡ bit x 0
@@ -88,26 +88,26 @@ module _ (x : ℕ) where
     low1 = let e : x % 4 / 2 % 2 ≡ x / 2 % 2 = omega arith in ap test e
 
     -- LL or LS at level 1
-    pub loads-rows : row_if (not (eqb (x % 4) 0)) (11 + x % 4 / 2) ≡ load_rows Level1 x
-    loads-rows =
+    pub loads_rows : row_if (not (eqb (x % 4) 0)) (11 + x % 4 / 2) ≡ load_rows Level1 x
+    loads_rows =
         either_row 11 (x % 4) (omega arith) (ap₂ (λ a b. a && b) low0 low1 ∙ one.0)
         ∙ (λ i. row_if (low0 i) 11 ++ row_if (low1 i) 12)
 
-    kept-once : (l : Level) → (kept_in l x SS && kept_in l x SL) ≡ false
-    kept-once Level0 = refl
-    kept-once Level1 = one.1
-    kept-once Level2 = refl
-    kept-once Level3 =
+    kept_once : (l : Level) → (kept_in l x SS && kept_in l x SL) ≡ false
+    kept_once Level0 = refl
+    kept_once Level1 = one.1
+    kept_once Level2 = refl
+    kept_once Level3 =
         by_test (λ t. (bit x 2 && (t && bit x 3)) ≡ false) one.1 (and-false (bit x 2)) (not (bit x 4))
 
     -- SS or SL, of a level's codes
-    pub stores-rows : (l : Level) {codes : ℕ} → CodesOf l codes
+    pub stores_rows : (l : Level) {codes : ℕ} → CodesOf l codes
         → row_if (not (eqb (codes / 2 ^ (8 * (x / 4 % 8)) % 256) 0)) (codes / 2 ^ (8 * (x / 4 % 8)) % 256)
         ≡ store_rows l x
-    stores-rows l ok =
-        ap (λ c. row_if (not (eqb c 0)) c) (ok.each (x / 4 % 8) (omega arith) ∙ part-code l)
+    stores_rows l ok =
+        ap (λ c. row_if (not (eqb c 0)) c) (ok.each (x / 4 % 8) (omega arith) ∙ part_code l)
         ∙ coded_row (kept_in l x SS) (kept_in l x SL) (barrier_code l SS) (barrier_code l SL) (stores_some l).0
-        (stores_some l).1 (kept-once l)
+        (stores_some l).1 (kept_once l)
 
 -- ## the row
 
@@ -135,21 +135,21 @@ module _ (lv : Level) (plan l : List ℕ) (k : ℕ) where
   code = sym (get_d_behind l k 0 k (omega arith))
 
   -- a SKIP's row, and any other's
-  pub own-skip : {t : ℕ} → get_or l k 0 ≡ 7 → t ≡ beginning lv plan (get_or l (k + 4) 0)
+  pub own_skip : {t : ℕ} → get_or l k 0 ≡ 7 → t ≡ beginning lv plan (get_or l (k + 4) 0)
       → take 4 s ++ quad_bytes t ≡ own_row lv plan s
   unfolding own_row
-  own-skip e et =
+  own_skip e et =
       let target = et ∙ ap (beginning lv plan) (get_d_behind l k 4 (k + 4) refl) in
       ap (λ n. take 4 s ++ quad_bytes n) target ∙ sym (ap (λ n. cond (eqb n 7) aimed (take 8 s)) (code ∙ e))
 
-  pub own-copy : ¬ get_or l k 0 ≡ 7 → take 8 s ≡ own_row lv plan s
+  pub own_copy : ¬ get_or l k 0 ≡ 7 → take 8 s ≡ own_row lv plan s
   unfolding own_row
-  own-copy h =
+  own_copy h =
       sym (ap (λ t. cond t aimed (take 8 s)) (ap (λ n. eqb n 7) code ∙ ne_eqb (get_or l k 0) 7 h))
 
-  pub own-length : k + 8 ≤ length l → length (own_row lv plan s) ≡ 8
+  pub own_length : k + 8 ≤ length l → length (own_row lv plan s) ≡ 8
   unfolding own_row
-  own-length h =
+  own_length h =
       cond_by (λ x. length x ≡ 8) (eqb (byte s 0) 7) aimed (take 8 s)
       (λ e. omega (
         arith,
@@ -163,4 +163,4 @@ pub step_length : (lv : Level) (plan rows : List ℕ) (p : ℕ) → 8 * p + 8 �
     → length (step_rows lv plan rows p) ≡ length (barrier_rows lv (get_or plan p 0)) + 8
 step_length lv plan rows p h =
     length-append (barrier_rows lv (get_or plan p 0)) (own_row lv plan (drop (8 * p) rows))
-    ∙ ap (λ n. length (barrier_rows lv (get_or plan p 0)) + n) (own-length lv plan rows (8 * p) h)
+    ∙ ap (λ n. length (barrier_rows lv (get_or plan p 0)) + n) (own_length lv plan rows (8 * p) h)

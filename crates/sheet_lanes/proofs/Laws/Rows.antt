@@ -41,24 +41,24 @@ module _ (rows : List ℕ) (ok : Short rows) where
     abbrev count : ℕ
     count = get_or p.count t 0
 
-    pub part-few : count ≤ 64
-    part-few = subst (λ (q : Parts). get_or q.count t 0 ≤ 64) (sym e) (ok.few t h)
+    pub part_few : count ≤ 64
+    part_few = subst (λ (q : Parts). get_or q.count t 0 ≤ 64) (sym e) (ok.few t h)
 
-    pub part-inside : from + 8 * count ≤ length rows
-    part-inside =
+    pub part_inside : from + 8 * count ≤ length rows
+    part_inside =
         subst (λ (q : Parts). get_or q.from t 0 + 8 * get_or q.count t 0 ≤ length rows) (sym e) (ok.inside t h)
 
     pub part_count : count ≡ count_in rows t
     part_count = ap (λ (q : Parts). get_or q.count t 0) e
 
-    pub part-plan : (m : ℕ) (plan : List ℕ) → PlanFor (drop from rows) count m plan
+    pub part_plan : (m : ℕ) (plan : List ℕ) → PlanFor (drop from rows) count m plan
         → PlanFor (drop (get_or (parts_in rows).from t 0) rows) (count_in rows t) m plan
-    part-plan m plan =
+    part_plan m plan =
         subst (λ (q : Parts). PlanFor (drop (get_or q.from t 0) rows) (get_or q.count t 0) m plan) e
 
-    pub part-text : (l : Level) (plan : List ℕ) → lane_rows l (plan_in rows plan t) (drop from rows) count
+    pub part_text : (l : Level) (plan : List ℕ) → lane_rows l (plan_in rows plan t) (drop from rows) count
         ≡ lane_text l rows plan t
-    part-text l plan =
+    part_text l plan =
         ap (λ (q : Parts). lane_rows l (plan_in rows plan t) (drop (get_or q.from t 0) rows) (get_or q.count t 0)) e
 
 -- ## the plans while they are written

@@ -18,11 +18,11 @@ use Rattle.text_listing.specs.Listing.{listing, printed, printed_by, sheet_text}
 use Rattle.text_listing.proofs.SheetListing.{accepted_text}
 
 module _ (s own : List ℕ) (big : 4112 ≤ length own) where
-  pub refusal-printed : {n r : ℕ} {after : List ℕ} → (Refuses n r, after) ≡ lower2 s own → refusal_line n r ≡ printed s
-  refusal-printed p = ap (printed_by listing) (sym (refuses-as Level2 s own (omega arith) p))
+  pub refusal_printed : {n r : ℕ} {after : List ℕ} → (Refuses n r, after) ≡ lower2 s own → refusal_line n r ≡ printed s
+  refusal_printed p = ap (printed_by listing) (sym (refuses-as Level2 s own (omega arith) p))
 
-  pub sheet-printed : {n : ℕ} {after : List ℕ} → (Wrote n, after) ≡ lower2 s own → sheet_text after (mask s) ≡ printed s
-  sheet-printed p =
+  pub sheet_printed : {n : ℕ} {after : List ℕ} → (Wrote n, after) ≡ lower2 s own → sheet_text after (mask s) ≡ printed s
+  sheet_printed p =
       let w = wrote_as Level2 s own (omega arith) p in
       let rest = drop (length (sheet_bytes Level2 w.kernel)) own in
       let same = ap (λ (k : Program). k.mask) (accepted_as s w.kernel w.accepts).1 in
@@ -34,25 +34,25 @@ module _ (s own : List ℕ) (big : 4112 ≤ length own) where
 
 module _ (text : Program → List ℕ) (s own : List ℕ) where
   -- an accepted file is answered as its text is written
-  accepted-printed : {a : WriteResult × List ℕ} (k : Program) → verdict s ≡ accepted k
+  accepted_printed : {a : WriteResult × List ℕ} (k : Program) → verdict s ≡ accepted k
       → a ≡ answer_by text (verdict s) own → a ≡ write_into (printed_by text (verdict s)) own
-  accepted-printed k e p = p ∙ ap (λ v. answer_by text v own) e ∙ sym (ap (λ v. write_into (printed_by text v) own) e)
+  accepted_printed k e p = p ∙ ap (λ v. answer_by text v own) e ∙ sym (ap (λ v. write_into (printed_by text v) own) e)
 
-  pub wrote-printed : {n : ℕ} {after : List ℕ} → (Wrote n, after) ≡ answer_by text (verdict s) own
+  pub wrote_printed : {n : ℕ} {after : List ℕ} → (Wrote n, after) ≡ answer_by text (verdict s) own
       → (Wrote n, after) ≡ write_into (printed_by text (verdict s)) own
-  wrote-printed p =
+  wrote_printed p =
       let w = wrote-any text s own p in
-      accepted-printed w.kernel w.accepts p
+      accepted_printed w.kernel w.accepts p
 
-  pub short-printed : {r : ℕ} {after : List ℕ} → (Refuses 9 r, after) ≡ answer_by text (verdict s) own
+  pub short_printed : {r : ℕ} {after : List ℕ} → (Refuses 9 r, after) ≡ answer_by text (verdict s) own
       → (Refuses 9 r, after) ≡ write_into (printed_by text (verdict s)) own
-  short-printed p =
+  short_printed p =
       let w = short-any text s own p in
-      accepted-printed w.0 w.1 p
+      accepted_printed w.0 w.1 p
 
-  pub refused-printed : {n r : ℕ} {after : List ℕ} → ¬ n ≡ 9 → (Refuses n r, after) ≡ answer_by text (verdict s) own
+  pub refused_printed : {n r : ℕ} {after : List ℕ} → ¬ n ≡ 9 → (Refuses n r, after) ≡ answer_by text (verdict s) own
       → (after ≡ own) × (refusal_line n r ≡ printed_by text (verdict s))
-  refused-printed other p =
+  refused_printed other p =
       let e = refuses-any text s own other p in (
         ap (λ (z : WriteResult × List ℕ). z.1) (p ∙ ap (λ v. answer_by text v own) e),
         ap (printed_by text) (sym e),

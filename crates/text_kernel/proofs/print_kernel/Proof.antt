@@ -5,7 +5,7 @@ use Rattle.sheet_format.specs.declared.Level.TheVariants.{Level2}
 use Rattle.sheet_format.specs.Bytes.{sheet_bytes, write_into}
 use Rattle.sheet_format.proofs.Answers.{answer-small}
 use Rattle.text_listing.specs.Listing.{sheet_text}
-use Rattle.text_kernel.proofs.Laws.Printed.{refusal-printed, sheet-printed}
+use Rattle.text_kernel.proofs.Laws.Printed.{refusal_printed, sheet_printed}
 use borrow.Author.Rules.{rules}
 use Rattle.text_kernel.proofs.print_kernel.Statement.{statement}
 use Rattle.text_kernel.proofs.print_kernel.Tie as tie
@@ -44,7 +44,7 @@ returns c =
     let l = c.before.before.before.before.before.before.before.before.lower2 in
     let s = c.before.before.before.before.before.before.before.before.before.before.before.before.args in
     r.list-refusal.ensures
-    ∙ ap (λ t. write_into t s.out.now) (refusal-printed s.file.now _ (omega arith)
+    ∙ ap (λ t. write_into t s.out.now) (refusal_printed s.file.now _ (omega arith)
     ((λ i. (sym r.before.before.before.answer.given.1 i, l.new.1.0)) ∙ l.ensures))
 
 returns-2 : tie.Need-returns-2
@@ -54,7 +54,7 @@ returns-2 c =
     let s = c.before.before.before.before.before.before.before.before.before.before.before.before.before.args in
     r.list-sheet.ensures
     ∙ ap (λ m. write_into (sheet_text l.new.1.0 m) s.out.now) r.before.before.word_at.ensures.0
-    ∙ ap (λ t. write_into t s.out.now) (sheet-printed s.file.now _ (omega arith)
+    ∙ ap (λ t. write_into t s.out.now) (sheet_printed s.file.now _ (omega arith)
     ((λ i. (sym r.before.before.before.before.enum_told.given.1 i, l.new.1.0)) ∙ l.ensures))
 
 pub print-kernel-spec : {M : Type 1} → statement M

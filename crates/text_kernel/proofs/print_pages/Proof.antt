@@ -6,7 +6,7 @@ use Rattle.sheet_format.specs.declared.WriteResult.TheVariants.{Refuses}
 use Rattle.sheet_format.specs.Bytes.{write_into}
 use Rattle.sheet_format.proofs.Answers.{told, answer-small}
 use Rattle.text_page.specs.Pages.{page_text}
-use Rattle.text_kernel.proofs.Laws.Printed.{wrote-printed, short-printed, refused-printed}
+use Rattle.text_kernel.proofs.Laws.Printed.{wrote_printed, short_printed, refused_printed}
 use borrow.Author.Rules.{rules}
 use Rattle.text_kernel.proofs.print_pages.Statement.{statement}
 use Rattle.text_kernel.proofs.print_pages.Tie as tie
@@ -17,7 +17,7 @@ returns c =
     let w = a.before.before.before.before in
     let s = w.before.before.before.before in
     let short = a.answer2.given.1 ∙ ap (λ n. Refuses n a.answer2.given.0.1.0) c.if1.true in
-    short-printed page_text s.args.file.now s.args.out.now (told short w.write-page.ensures)
+    short_printed page_text s.args.file.now s.args.out.now (told short w.write-page.ensures)
 
 -- the number and the record of a refusal are small
 few : (a : tie.After-answer2) → (a.answer2.given.0.0 ≤ 12) × (a.answer2.given.0.1.0 ≤ 256)
@@ -38,7 +38,7 @@ returns-2 c =
     let a = c.before in
     let w = a.before.before.before.before in
     let s = w.before.before.before.before in
-    wrote-printed page_text s.args.file.now s.args.out.now
+    wrote_printed page_text s.args.file.now s.args.out.now
     (told a.answer.given.1 w.write-page.ensures)
 
 returns-3 : tie.Need-returns-3
@@ -48,7 +48,7 @@ returns-3 c =
     let a = f.before.before in
     let w = a.before.before.before.before in
     let s = w.before.before.before.before in
-    let r = refused-printed page_text s.args.file.now s.args.out.now f.if1.false
+    let r = refused_printed page_text s.args.file.now s.args.out.now f.if1.false
     (told a.answer2.given.1 w.write-page.ensures) in
     l.list-refusal.ensures ∙ ap₂ write_into r.1 r.0
 

@@ -13,7 +13,7 @@ use Rattle.barrier_placement.specs.declared.cookbook.Barrier.TheVariants.{LL, LS
 use Rattle.sheet_format.specs.Layout.{Instr, op, barrier}
 use Rattle.sheet_format.specs.Read.{barrier_by, instr_by}
 use Rattle.sheet_format.specs.Put.{Puts}
-use Rattle.sheet_format.proofs.Laws.Codes.{by_code, other_code, word-codes, pair-codes, lock-codes, barrier-codes}
+use Rattle.sheet_format.proofs.Laws.Codes.{by_code, other_code, word_codes, pair_codes, lock_codes, barrier_codes}
 use Rattle.text_put.specs.Decimal.{decimal}
 use Rattle.text_put.specs.Words.{space}
 use Rattle.text_listing.specs.Line.{pair, instr_name, instr_text, line_of, first_line}
@@ -52,21 +52,21 @@ module _ (o a b c : ℕ) where
   abbrev Behind : List ℕ → Instr → Type 0
   Behind rest i = instr_name i ++ rest ≡ instr_text i
 
-  pub word-behind : (o ≡ 1) ⊎ (o ≡ 7) → Behind (space ∷ pair a c) (instr_by o a b c)
+  pub word_behind : (o ≡ 1) ⊎ (o ≡ 7) → Behind (space ∷ pair a c) (instr_by o a b c)
   unfolding instr_text
-  word-behind k = word-codes (Behind (space ∷ pair a c)) o a b c k refl refl
+  word_behind k = word_codes (Behind (space ∷ pair a c)) o a b c k refl refl
 
-  pub pair-behind : (o ≡ 1 → ⊥) → 1 ≤ o → o < 5 → Behind (space ∷ pair a b) (instr_by o a b c)
+  pub pair_behind : (o ≡ 1 → ⊥) → 1 ≤ o → o < 5 → Behind (space ∷ pair a b) (instr_by o a b c)
   unfolding instr_text
-  pair-behind n p q = pair-codes (Behind (space ∷ pair a b)) o a b c n p q refl refl refl
+  pair_behind n p q = pair_codes (Behind (space ∷ pair a b)) o a b c n p q refl refl refl
 
-  pub b-behind : 5 ≤ o → o < 7 → Behind (space ∷ decimal b) (instr_by o a b c)
+  pub b_behind : 5 ≤ o → o < 7 → Behind (space ∷ decimal b) (instr_by o a b c)
   unfolding instr_text
-  b-behind p q = lock-codes (Behind (space ∷ decimal b)) o a b c p q refl refl
+  b_behind p q = lock_codes (Behind (space ∷ decimal b)) o a b c p q refl refl
 
-  pub none-behind : (1 ≤ o → o < 8 → ⊥) → instr_name (instr_by o a b c) ≡ instr_text (instr_by o a b c)
+  pub none_behind : (1 ≤ o → o < 8 → ⊥) → instr_name (instr_by o a b c) ≡ instr_text (instr_by o a b c)
   unfolding instr_text
-  none-behind h = barrier-codes (λ i. instr_name i ≡ instr_text i) o a b c h refl
+  none_behind h = barrier_codes (λ i. instr_name i ≡ instr_text i) o a b c h refl
 
 pub pair_few : (a b : ℕ) → a < 2 ^ 32 → b < 2 ^ 32 → length (pair a b) ≤ 21
 pair_few a b ha hb =

@@ -65,89 +65,89 @@ before_total (n ∷ ns) b (suc t) = omega (arith, rows_length n b, before_total 
 
 -- ## of what the page writer is given
 module _ {k : Program} {sheet order : List ℕ} {n : ℕ} (g : Given k sheet order n) where
-  lanes-given : read_sheet sheet ≡ sheet_lanes Level2 k
-  lanes-given = ap read_sheet g.front ∙ lawful_back Level2 k g.behind g.lawful
+  lanes_given : read_sheet sheet ≡ sheet_lanes Level2 k
+  lanes_given = ap read_sheet g.front ∙ lawful_back Level2 k g.behind g.lawful
 
-  total-given : n ≡ total (sheet_lanes Level2 k)
-  total-given = g.counted ∙ lines_length k
+  total_given : n ≡ total (sheet_lanes Level2 k)
+  total_given = g.counted ∙ lines_length k
 
-  pub few-given : n ≤ 512
-  few-given = omega (arith, g.counted, lines_few k g.lawful)
+  pub few_given : n ≤ 512
+  few_given = omega (arith, g.counted, lines_few k g.lawful)
 
-  pub size-given : length (sheet_bytes Level2 k) ≡ 16 + 8 * n
-  size-given = omega (arith, sheet_size Level2 k, total-given)
+  pub size_given : length (sheet_bytes Level2 k) ≡ 16 + 8 * n
+  size_given = omega (arith, sheet_size Level2 k, total_given)
 
   -- a lane's rows
-  count-given : (t : ℕ) → t < 4 → length (get_or (sheet_lanes Level2 k) t []) ≡ get_or (parts_in sheet).count t 0
-  count-given t h =
-      ap (λ xs. length (get_or xs t [])) (sym lanes-given) ∙ ap length (lane_rows_lem sheet t h)
+  count_given : (t : ℕ) → t < 4 → length (get_or (sheet_lanes Level2 k) t []) ≡ get_or (parts_in sheet).count t 0
+  count_given t h =
+      ap (λ xs. length (get_or xs t [])) (sym lanes_given) ∙ ap length (lane_rows_lem sheet t h)
       ∙ rows_length (get_or (parts_in sheet).count t 0) (drop (get_or (parts_in sheet).from t 0) sheet)
 
   -- as many rows as lines
-  pub rows-given : get_or (parts_in sheet).from 3 0 + 8 * get_or (parts_in sheet).count 3 0 ≡ 16 + 8 * n
-  rows-given =
+  pub rows_given : get_or (parts_in sheet).from 3 0 + 8 * get_or (parts_in sheet).count 3 0 ≡ 16 + 8 * n
+  rows_given =
       let lanes : List (List Instr) = sheet_lanes Level2 k in
       let few : length lanes ≤ 4 = omega (arith, g.lawful.few_lanes, lanes_count k) in
       omega (
         arith,
-        total-given,
+        total_given,
         total_four lanes few,
-        count-given 0 (omega arith),
-        count-given 1 (omega arith),
-        count-given 2 (omega arith),
-        count-given 3 (omega arith),
+        count_given 0 (omega arith),
+        count_given 1 (omega arith),
+        count_given 2 (omega arith),
+        count_given 3 (omega arith),
       )
 
   -- the rows of the sheet are the lanes one behind the other
-  flat-given : read_rows n (drop 16 sheet) ≡ together (sheet_lanes Level2 k)
+  flat_given : read_rows n (drop 16 sheet) ≡ together (sheet_lanes Level2 k)
   unfolding read_sheet
-  flat-given =
-      ap (λ m. read_rows m (drop 16 sheet)) (total-given ∙ ap total (sym lanes-given))
-      ∙ rows_together (counts sheet) (drop 16 sheet) ∙ ap together lanes-given
+  flat_given =
+      ap (λ m. read_rows m (drop 16 sheet)) (total_given ∙ ap total (sym lanes_given))
+      ∙ rows_together (counts sheet) (drop 16 sheet) ∙ ap together lanes_given
 
   -- the rows before those of lane t
-  before-given : (t : ℕ) → before (counts sheet) t ≡ total (take t (sheet_lanes Level2 k))
+  before_given : (t : ℕ) → before (counts sheet) t ≡ total (take t (sheet_lanes Level2 k))
   unfolding read_sheet
-  before-given t = before_total (counts sheet) (drop 16 sheet) t ∙ ap (λ xs. total (take t xs)) lanes-given
+  before_given t = before_total (counts sheet) (drop 16 sheet) t ∙ ap (λ xs. total (take t xs)) lanes_given
 
   module _ {i t p : ℕ} (a : RowAt sheet i t p) where
-    place-given : i ≡ total (take t (sheet_lanes Level2 k)) + p
-    place-given = omega (arith, a.row, begins sheet t a.lane, before-given t)
+    place_given : i ≡ total (take t (sheet_lanes Level2 k)) + p
+    place_given = omega (arith, a.row, begins sheet t a.lane, before_given t)
 
     -- the instruction of row i
-    instr-given : get_elem? (get_or (sheet_lanes Level2 k) t []) p ≡ some (read_instr (drop (16 + 8 * i) sheet))
-    instr-given =
+    instr_given : get_elem? (get_or (sheet_lanes Level2 k) t []) p ≡ some (read_instr (drop (16 + 8 * i) sheet))
+    instr_given =
         let from : ℕ = get_or (parts_in sheet).from t 0 in
         let many : ℕ = get_or (parts_in sheet).count t 0 in
-        ap (λ xs. get_elem? (get_or xs t []) p) (sym lanes-given)
+        ap (λ xs. get_elem? (get_or xs t []) p) (sym lanes_given)
         ∙ ap (λ is. get_elem? is p) (lane_rows_lem sheet t a.lane)
         ∙ row_from many from sheet p a.position
         ∙ ap (λ m. some (read_instr (drop m sheet))) a.row
 
     -- and its record
-    record-given : (x : Instr) → get_elem? (get_or (sheet_lanes Level2 k) t []) p ≡ some x
+    record_given : (x : Instr) → get_elem? (get_or (sheet_lanes Level2 k) t []) p ≡ some x
         → instruction_line t p x (get_or (get_or k.records t []) (rank (get_or (sheet_lanes Level2 k) t []) p) 0)
         ≡ instruction_line t p x (get_or order (rank (read_rows n (drop 16 sheet)) i) 0)
-    record-given (barrier b) e = record_none t p b _ _
-    record-given (op o) e =
+    record_given (barrier b) e = record_none t p b _ _
+    record_given (op o) e =
         let lanes : List (List Instr) = sheet_lanes Level2 k in
         let same = g.lawful.same_lanes ∙ sym (lanes_count k) in
         ap (instruction_line t p (op o))
         (sym (order_at lanes k.records g.others same (lane_records k g.lawful) t p o e)
-        ∙ ap (λ q. get_or (lane_order k ++ g.others) (rank (together lanes) q) 0) (sym place-given)
-        ∙ ap₂ (λ l is. get_or l (rank is i) 0) (sym g.ordered) (sym flat-given))
+        ∙ ap (λ q. get_or (lane_order k ++ g.others) (rank (together lanes) q) 0) (sym place_given)
+        ∙ ap₂ (λ l is. get_or l (rank is i) 0) (sym g.ordered) (sym flat_given))
 
   -- row i has line i, with the record behind those of the operations before it
-  pub line-given : (i t p : ℕ) → RowAt sheet i t p
+  pub line_given : (i t p : ℕ) → RowAt sheet i t p
       → get_or (page_lines k) i []
       ≡ instruction_line t p (read_instr (drop (16 + 8 * i) sheet))
       (get_or order (rank (read_rows n (drop 16 sheet)) i) 0)
-  line-given i t p a =
+  line_given i t p a =
       let x : Instr = read_instr (drop (16 + 8 * i) sheet) in
-      let line = line_of k t p x (instr-given a) in
-      ap (λ j. get_or (page_lines k) j []) (place-given a)
+      let line = line_of k t p x (instr_given a) in
+      ap (λ j. get_or (page_lines k) j []) (place_given a)
       ∙ (some_at (page_lines k) (total (take t (sheet_lanes Level2 k)) + p) _ [] line).1
-      ∙ record-given a x (instr-given a)
+      ∙ record_given a x (instr_given a)
 
   -- one line more, laid behind those before it
   pub laid_next : {i t p next r at end : ℕ} {x : Instr} {out₀ out out' : List ℕ} → i < n → RowAt sheet i t p
@@ -156,7 +156,7 @@ module _ {k : Program} {sheet order : List ℕ} {n : ℕ} (g : Given k sheet ord
       → Puts out₀ 0 (paged 0 (take (i + 1) (page_lines k))) out' end
   laid_next {i} {t} {p} h a read behind is so new =
       let rec = is ∙ ap (λ j. get_or order j 0) behind in
-      let line = ap₂ (instruction_line t p) read rec ∙ sym (line-given i t p a) in
+      let line = ap₂ (instruction_line t p) read rec ∙ sym (line_given i t p a) in
       puts_as (paged_next (page_lines k) i (omega (arith, g.counted))) (puts_on so (puts_as (ap (headed i) line) new))
 
 -- the record behind those of one row more

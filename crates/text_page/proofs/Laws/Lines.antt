@@ -6,7 +6,7 @@ use mathlib.Core.Option.{some}
 use native.Mathlib.Omega.{arith}
 use lib.ListN.{length, get_or, get_elem?, take, drop, length-append}
 use lib.Seq.{get_or-drop}
-use Rattle.laws.proofs.Lists.{some_at, getElem?-left, at-behind}
+use Rattle.laws.proofs.Lists.{some_at, get_elem?_left, at_behind}
 use Rattle.file_format.specs.Accepted.{Program}
 use Rattle.file_format.specs.Lawful.{Lawful}
 use Rattle.sheet_format.specs.Layout.{Instr, rank}
@@ -14,16 +14,16 @@ use Rattle.sheet_format.specs.declared.Level.TheVariants.{Level2}
 use Rattle.sheet_format.specs.Levels.{sheet_lanes}
 use Rattle.sheet_format.proofs.Laws.Cells.{Each, each_append}
 use Rattle.sheet_format.proofs.Laws.Rows.{total}
-use Rattle.sheet_format.proofs.Sizes.{sheet_size, sheet-small}
+use Rattle.sheet_format.proofs.Sizes.{sheet_size, sheet_small}
 use Rattle.text_page.specs.Lines.{takes, instruction_line, lane_lines, lines_from, page_lines}
 use Rattle.text_page.proofs.Laws.Ranks.{rank_first}
 
 -- ## as many lines as instructions
 
-lane_length : (t p : ℕ) (rs : List ℕ) (is : List Instr) → length (lane_lines t p rs is) ≡ length is
+lane_length_lem : (t p : ℕ) (rs : List ℕ) (is : List Instr) → length (lane_lines t p rs is) ≡ length is
 unfolding lane_lines
-lane_length t p rs [] = refl
-lane_length t p rs (i ∷ is) = ap suc (lane_length t (suc p) (drop (takes i) rs) is)
+lane_length_lem t p rs [] = refl
+lane_length_lem t p rs (i ∷ is) = ap suc (lane_length_lem t (suc p) (drop (takes i) rs) is)
 
 from_length : (t : ℕ) (rss : List (List ℕ)) (xs : List (List Instr)) → length (lines_from t rss xs) ≡ total xs
 unfolding lines_from
@@ -32,7 +32,7 @@ from_length t rss (x ∷ xs) =
     omega (
       arith,
       length-append (lane_lines t 0 (get_or rss 0 []) x) (lines_from (suc t) (drop 1 rss) xs),
-      lane_length t 0 (get_or rss 0 []) x,
+      lane_length_lem t 0 (get_or rss 0 []) x,
       from_length (suc t) (drop 1 rss) xs,
     )
 
@@ -41,7 +41,7 @@ unfolding page_lines
 lines_length k = from_length 0 k.records (sheet_lanes Level2 k)
 
 pub lines_few : (k : Program) → Lawful k → length (page_lines k) ≤ 512
-lines_few k w = omega (arith, lines_length k, sheet_size Level2 k, sheet-small Level2 k w)
+lines_few k w = omega (arith, lines_length k, sheet_size Level2 k, sheet_small Level2 k w)
 
 -- ## each line is an instruction's, so what holds of those holds of every line
 
@@ -94,16 +94,16 @@ from_at s rss (x ∷ xs) zero p i e =
     let line = lane_at_lem s 0 rs x p i e in
     let found = some_at (lane_lines s 0 rs x) p _ [] line in
     rw (first, lane)
-    (getElem?-left (lane_lines s 0 rs x) (lines_from (suc s) (drop 1 rss) xs) [] p found.0
+    (get_elem?_left (lane_lines s 0 rs x) (lines_from (suc s) (drop 1 rss) xs) [] p found.0
     ∙ ap some found.1 ∙ ap (λ q. some (instruction_line s q i (get_or rs (rank x p) 0))) first)
 from_at s rss (x ∷ xs) (suc t) p i e =
     let here : List (List ℕ) = lane_lines s 0 (get_or rss 0 []) x in
     let there : List (List ℕ) = lines_from (suc s) (drop 1 rss) xs in
     let on : length x + total (take t xs) + p ≡ length here + (total (take t xs) + p) =
-    omega (arith, lane_length s 0 (get_or rss 0 []) x) in
+    omega (arith, lane_length_lem s 0 (get_or rss 0 []) x) in
     let lane : suc s + t ≡ s + suc t = omega arith in
     let next : 1 + t ≡ suc t = omega arith in
-    ap (get_elem? (here ++ there)) on ∙ at-behind here there (total (take t xs) + p)
+    ap (get_elem? (here ++ there)) on ∙ at_behind here there (total (take t xs) + p)
     ∙ from_at (suc s) (drop 1 rss) xs t p i e
     ∙ ap₂ (λ l (rs : List ℕ). some (instruction_line l p i (get_or rs (rank (get_or xs t []) p) 0))) lane
     (get_or-drop 1 rss t [] ∙ ap (λ n. get_or rss n []) next)

@@ -16,10 +16,10 @@ use Rattle.sheet_format.specs.declared.WriteResult.{WriteResult}
 use Rattle.sheet_format.specs.declared.WriteResult.TheVariants.{Wrote, Refuses}
 use Rattle.sheet_format.specs.Bytes.{sheet_bytes, over, write_into, answer_by, lower_by}
 use Rattle.sheet_format.specs.Put.{Puts}
-use Rattle.sheet_format.proofs.Laws.Put.{puts_as, measured-whole}
-use Rattle.sheet_format.proofs.Laws.Written.{short-untouched, written_all}
+use Rattle.sheet_format.proofs.Laws.Put.{puts_as, measured_whole}
+use Rattle.sheet_format.proofs.Laws.Written.{short_untouched, written_all}
 use Rattle.sheet_format.proofs.Answers.{refuses-as, wrote_as}
-use Rattle.sheet_format.proofs.Sizes.{sheet_size, sheet-small}
+use Rattle.sheet_format.proofs.Sizes.{sheet_size, sheet_small}
 use Rattle.text_page.specs.Lines.{page_lines}
 use Rattle.text_page.specs.Pages.{heading_line, page_count, page_text, write_page}
 use Rattle.text_page.specs.Given.{paged, Given}
@@ -28,74 +28,74 @@ use Rattle.text_page.proofs.Laws.Pages.{pages_paged, pages_none, pages_length}
 use Rattle.text_page.proofs.Laws.Lines.{lines_length, lines_each}
 
 module _ {k : Program} {sheet order : List ℕ} {n : ℕ} (g : Given k sheet order n) where
-  text-length : length (page_text k) ≡ 33 * (n + page_count n)
+  text_length : length (page_text k) ≡ 33 * (n + page_count n)
   unfolding page_text
-  text-length =
+  text_length =
       pages_length (page_lines k) (lines_each (λ l. length l ≡ 33) instruction_length k)
       ∙ ap (λ m. 33 * (m + page_count m)) (sym g.counted)
 
   module _ {size : ℕ} {buffer : List ℕ} (measured : size ≡ 33 * (n + page_count n)) where
-    pub short-given : length buffer < size → (Refuses 9 0, buffer) ≡ write_into (page_text k) buffer
-    short-given h = sym (short-untouched (page_text k) buffer (omega (arith, text-length)))
+    pub short_given : length buffer < size → (Refuses 9 0, buffer) ≡ write_into (page_text k) buffer
+    short_given h = sym (short_untouched (page_text k) buffer (omega (arith, text_length)))
 
     module _ (fits : size ≤ length buffer) {after : List ℕ} {end : ℕ} where
-      whole-given : Puts buffer 0 (page_text k) after end → (Wrote size, after) ≡ write_into (page_text k) buffer
-      whole-given p =
-          let is : end ≡ size = omega (arith, p.behind, text-length) in
-          ap (λ m. (Wrote m, after)) (sym is) ∙ measured-whole p (omega arith) p
+      whole_given : Puts buffer 0 (page_text k) after end → (Wrote size, after) ≡ write_into (page_text k) buffer
+      whole_given p =
+          let is : end ≡ size = omega (arith, p.behind, text_length) in
+          ap (λ m. (Wrote m, after)) (sym is) ∙ measured_whole p (omega arith) p
 
       -- a heading alone, and lines
-      pub alone-given : n ≡ 0 → Puts buffer 0 (heading_line 1) after end
+      pub alone_given : n ≡ 0 → Puts buffer 0 (heading_line 1) after end
           → (Wrote size, after) ≡ write_into (page_text k) buffer
       unfolding page_text
-      alone-given z p = whole-given (puts_as (sym (pages_none (page_lines k) (sym g.counted ∙ z))) p)
+      alone_given z p = whole_given (puts_as (sym (pages_none (page_lines k) (sym g.counted ∙ z))) p)
 
-      pub laid-given : ¬ n ≡ 0 → Puts buffer 0 (paged 0 (page_lines k)) after end
+      pub laid_given : ¬ n ≡ 0 → Puts buffer 0 (paged 0 (page_lines k)) after end
           → (Wrote size, after) ≡ write_into (page_text k) buffer
       unfolding page_text
-      laid-given some p = whole-given (puts_as (sym (pages_paged (page_lines k) (omega (arith, g.counted)))) p)
+      laid_given some p = whole_given (puts_as (sym (pages_paged (page_lines k) (omega (arith, g.counted)))) p)
 
 -- ## what lowering leaves in a buffer that takes every level 2 sheet
 
 module _ (s own : List ℕ) (big : 4112 ≤ length own) where
-  pub refused-page : {n r : ℕ} {after : List ℕ} → (Refuses n r, after) ≡ lower_by Level2 (verdict s) own
+  pub refused_page : {n r : ℕ} {after : List ℕ} → (Refuses n r, after) ≡ lower_by Level2 (verdict s) own
       → (out : List ℕ) → (Refuses n r, out) ≡ write_page s out
-  refused-page p out = sym (ap (λ v. answer_by page_text v out) (refuses-as Level2 s own (omega arith) p))
+  refused_page p out = sym (ap (λ v. answer_by page_text v out) (refuses-as Level2 s own (omega arith) p))
 
   module _ {n : ℕ} {after : List ℕ} (p : (Wrote n, after) ≡ lower_by Level2 (verdict s) own) where
-    pub accepted-page : verdict s ≡ accepted (program_of s)
-    accepted-page =
+    pub accepted_page : verdict s ≡ accepted (program_of s)
+    accepted_page =
         let w = wrote_as Level2 s own (omega arith) p in
         w.accepts ∙ ap accepted (sym (accepted_as s w.kernel w.accepts).1)
 
-    lawful-page : Lawful (program_of s)
-    lawful-page = accepted_lawful s (program_of s) accepted-page
+    lawful_page : Lawful (program_of s)
+    lawful_page = accepted_lawful s (program_of s) accepted_page
 
-    written-page : ◌≡◌ {A = WriteResult × List ℕ} (Wrote n, after)
+    written_page : ◌≡◌ {A = WriteResult × List ℕ} (Wrote n, after)
         (Wrote (length (sheet_bytes Level2 (program_of s))), over (sheet_bytes Level2 (program_of s)) own)
-    written-page =
-        let small = sheet-small Level2 (program_of s) lawful-page in
-        p ∙ ap (λ v. lower_by Level2 v own) accepted-page
+    written_page =
+        let small = sheet_small Level2 (program_of s) lawful_page in
+        p ∙ ap (λ v. lower_by Level2 v own) accepted_page
         ∙ written_all (sheet_bytes Level2 (program_of s)) own (omega (arith, small))
 
-    pub sized-page : n ≡ 16 + 8 * length (page_lines (program_of s))
-    sized-page =
+    pub sized_page : n ≡ 16 + 8 * length (page_lines (program_of s))
+    sized_page =
         let whole : Wrote n ≡ Wrote (length (sheet_bytes Level2 (program_of s))) =
-        ap (λ (z : WriteResult × List ℕ). z.0) written-page in
+        ap (λ (z : WriteResult × List ℕ). z.0) written_page in
         let size : n ≡ length (sheet_bytes Level2 (program_of s)) = cc in
         omega (arith, sheet_size Level2 (program_of s), lines_length (program_of s))
 
     -- and the records in the order of the lanes
-    pub given-page : {order : List ℕ}
+    pub given_page : {order : List ℕ}
         → (verdict s ≡ accepted (program_of s) → take (record_count s) order ≡ lane_order (program_of s))
         → Given (program_of s) after order ((n - 16) / 8)
-    given-page {order} ordered = record {
-      lawful = lawful-page;
+    given_page {order} ordered = record {
+      lawful = lawful_page;
       behind = drop (length (sheet_bytes Level2 (program_of s))) own;
-      front = ap (λ (z : WriteResult × List ℕ). z.1) written-page;
+      front = ap (λ (z : WriteResult × List ℕ). z.1) written_page;
       others = drop (record_count s) order;
       ordered =
           sym (take-append-drop (record_count s) order)
-          ∙ ap (λ x. x ++ drop (record_count s) order) (ordered accepted-page);
-      counted = omega (arith, sized-page);
+          ∙ ap (λ x. x ++ drop (record_count s) order) (ordered accepted_page);
+      counted = omega (arith, sized_page);
     }

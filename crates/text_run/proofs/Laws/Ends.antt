@@ -10,7 +10,7 @@ use lib.Seq.{sets}
 use borrow.Author.Tests.{le-ltb, eqb-true}
 use Rattle.file_format.specs.Fields.{byte}
 use Rattle.file_format.specs.Accepted.{Program}
-use Rattle.file_format.proofs.Laws.Rules.{four_lanes}
+use Rattle.file_format.proofs.Laws.Rules.{four_lanes_lem}
 use Rattle.file_format.proofs.Laws.Stored.{lane_count_lem}
 use Rattle.file_verdict.specs.Verdict.{Verdict, refused, accepted, verdict}
 use Rattle.file_verdict.proofs.Laws.Verdict.{sound, accepted_as}
@@ -29,7 +29,7 @@ use Rattle.machine_course.specs.Stands.{answer_by}
 use Rattle.lanes_answers.specs.Calls.{run_file_by}
 use Rattle.text_run.specs.States.{state_text, answer_text}
 use Rattle.text_run.specs.Runs.{tell_end_by}
-use Rattle.text_run.proofs.Runs.{end-told}
+use Rattle.text_run.proofs.Runs.{end_told}
 
 -- a state record over as many bytes
 pub record_over : (a : Answer) (b : List ℕ) → length b ≤ 2280 → over (state_bytes a) b ≡ state_bytes a
@@ -43,7 +43,7 @@ counts_of : (s : List ℕ) (k : Program) → verdict s ≡ accepted k
     → (byte s 0 ≡ length k.lanes) × (byte s 1 ≡ k.locations) × (byte s 2 ≡ k.locks)
 counts_of s k v =
     let is = accepted_as s k v in
-    let few = four_lanes s (sound s is.0).0.fields.header in (
+    let few = four_lanes_lem s (sound s is.0).0.fields.header in (
       sym (lane_count_lem s few) ∙ ap (λ (x : Program). length x.lanes) is.1,
       ap (λ (x : Program). x.locations) is.1,
       ap (λ (x : Program). x.locks) is.1,
@@ -69,8 +69,8 @@ module _ (m : Machine) (s moves : List ℕ) where
 
   module _ (w : Program → ℕ × List ℕ) (buffer : List ℕ) {after : List ℕ} where
     -- something is written only of a run that takes place
-    takes-place : {n : ℕ} → (Wrote n, after) ≡ answered w buffer (verdict s) → Ran w after
-    takes-place {n} = go (verdict s) refl
+    takes_place : {n : ℕ} → (Wrote n, after) ≡ answered w buffer (verdict s) → Ran w after
+    takes_place {n} = go (verdict s) refl
       where
         by : (k : Program) → verdict s ≡ accepted k → (t u : Bool) → odd_bytes moves ≡ t
             → eqb (answer k).number 0 ≡ u
@@ -88,10 +88,10 @@ module _ (m : Machine) (s moves : List ℕ) where
         go (accepted k) e p = by k e (odd_bytes moves) (eqb (answer k).number 0) refl refl p
 
     -- a refusal is the same whatever would be written
-    refused-alike : {n r : ℕ} (w' : Program → ℕ × List ℕ) (out : List ℕ) (v : Verdict)
+    refused_alike : {n r : ℕ} (w' : Program → ℕ × List ℕ) (out : List ℕ) (v : Verdict)
         → (Refuses n r, after) ≡ answered w buffer v → (Refuses n r, out) ≡ answered w' out v
-    refused-alike w' out (refused q p) e = λ i. ((e i).0, out)
-    refused-alike {n} {r} w' out (accepted k) e = by (odd_bytes moves) (eqb (answer k).number 0) e
+    refused_alike w' out (refused q p) e = λ i. ((e i).0, out)
+    refused_alike {n} {r} w' out (accepted k) e = by (odd_bytes moves) (eqb (answer k).number 0) e
       where
         by : (t u : Bool)
             → ◌≡◌ {A = WriteResult × List ℕ} (Refuses n r, after)
@@ -126,14 +126,14 @@ module _ (m : Machine) (s moves : List ℕ) where
         → (Refuses n r, after) ≡ run_file_by m (verdict s) moves buffer
         → (Refuses n r, out) ≡ tell_end_by m (verdict s) moves out
     end_refused out p =
-        refused-alike (records buffer) buffer (texts out) out (verdict s) (p ∙ answers (verdict s))
+        refused_alike (records buffer) buffer (texts out) out (verdict s) (p ∙ answers (verdict s))
         ∙ sym (tells out (verdict s))
 
     module _ (few : length moves < 2 ^ 32) (out : List ℕ) {n size : ℕ} {end after : List ℕ}
         (p : (Wrote n, end) ≡ run_file_by m (verdict s) moves buffer)
         (q : Puts out 0 (state_text end (byte s 0) (byte s 1) (byte s 2)) after size) where
       ran : Ran (records buffer) end
-      ran = takes-place (records buffer) buffer (p ∙ answers (verdict s))
+      ran = takes_place (records buffer) buffer (p ∙ answers (verdict s))
 
       abbrev k : Program
       k = ran.kernel
@@ -147,18 +147,18 @@ module _ (m : Machine) (s moves : List ℕ) where
           let bytes : end ≡ state_bytes (answer_by m s (moves_in moves)) =
           ran.written ∙ record_over (answer k) buffer (omega arith) ∙ ap state_bytes (sym is) in
           (λ i. state_text (bytes i) (counts.0 i) (counts.1 i) (counts.2 i))
-          ∙ end-told s k ran.accepts m (moves_in moves) (omega (arith, moves_length moves)) ∙ ap answer_text is
+          ∙ end_told s k ran.accepts m (moves_in moves) (omega (arith, moves_length moves)) ∙ ap answer_text is
 
-      pub end-wrote : (Wrote size, after) ≡ tell_end_by m (verdict s) moves out
-      end-wrote =
+      pub end_wrote : (Wrote size, after) ≡ tell_end_by m (verdict s) moves out
+      end_wrote =
           let laid = puts_as text q in
           let whole : size ≡ length (answer_text (answer k)) = omega (arith, laid.behind) in
           (λ i. (Wrote (whole i), laid.bytes i))
           ∙ sym (ap (λ v. tell_end_by m v moves out) ran.accepts ∙ rw (ran.even, ran.zero) refl)
 
   -- text that is told is of a run that took place
-  pub told-ran : (out : List ℕ) {n : ℕ} {after : List ℕ} → (Wrote n, after) ≡ tell_end_by m (verdict s) moves out
+  pub told_ran : (out : List ℕ) {n : ℕ} {after : List ℕ} → (Wrote n, after) ≡ tell_end_by m (verdict s) moves out
       → (answer_by m s (moves_in moves)).number ≡ 0
-  told-ran out p =
-      let r = takes-place (texts out) out (p ∙ tells out (verdict s)) in
+  told_ran out p =
+      let r = takes_place (texts out) out (p ∙ tells out (verdict s)) in
       ap (λ v. (run_by m s v (moves_in moves)).number) r.accepts ∙ eqb-true (answer r.kernel).number 0 r.zero

@@ -10,9 +10,9 @@ use Rattle.machine_record.specs.Fields.{entry_in}
 use Rattle.text_run.specs.Lanes.{entry_text}
 
 module _ (s : List ℕ) (from : ℕ) {place : ℕ} (p : place ≡ byte s (from + 1)) where
-  pub entry-store : {value : ℕ} → byte s from ≡ 1 → value ≡ quad s (from + 4)
+  pub entry_store : {value : ℕ} → byte s from ≡ 1 → value ≡ quad s (from + 4)
       → named location_word place ++ named value_word value ≡ entry_text (entry_in s from)
-  entry-store e v = rw (eq-eqb (byte s from) 1 e, p, v) refl
+  entry_store e v = rw (eq-eqb (byte s from) 1 e, p, v) refl
 
-  pub entry-release : (byte s from ≡ 1 → ⊥) → named release_word place ≡ entry_text (entry_in s from)
-  entry-release e = rw (ne_eqb (byte s from) 1 e, p) refl
+  pub entry_release : (byte s from ≡ 1 → ⊥) → named release_word place ≡ entry_text (entry_in s from)
+  entry_release e = rw (ne_eqb (byte s from) 1 e, p) refl

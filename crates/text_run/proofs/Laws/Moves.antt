@@ -20,9 +20,9 @@ use Rattle.text_run.specs.Moves.{loaded_text, carried_text}
 
 module _ (a b w : ℕ) (f : Fields) (t : ℕ) where
   -- code 3 is LOAD
-  pub loaded-value : {o value : ℕ} → o ≡ 3 → value ≡ f.register t a
+  pub loaded_value : {o value : ℕ} → o ≡ 3 → value ≡ f.register t a
       → named value_word value ≡ loaded_text (instr_by o a b w) f t
-  loaded-value e v = rw (e, v) refl
+  loaded_value e v = rw (e, v) refl
 
   abbrev None : Instr → Type 0
   None i = [] ≡ loaded_text i f t
@@ -31,8 +31,8 @@ module _ (a b w : ℕ) (f : Fields) (t : ℕ) where
   either true x y p q = p refl
   either false x y p q = q
 
-  pub loaded-none : (o : ℕ) → (o ≡ 3 → ⊥) → None (instr_by o a b w)
-  loaded-none o n3 =
+  pub loaded_none : (o : ℕ) → (o ≡ 3 → ⊥) → None (instr_by o a b w)
+  loaded_none o n3 =
       either (eqb o 1) _ _ (λ e. refl)
       (either (eqb o 2) _ _ (λ e. refl)
       (either (eqb o 3) _ _ (λ e. absurd (n3 (eqb-true o 3 e)))

@@ -21,19 +21,19 @@ module _ (s : List ℕ) (i : ℕ) (h : i < length s) where
   here : drop i s ≡ get_or s i 0 ∷ drop (i + 1) s
   here = rw (add-one, drop-cons s i 0) refl
 
-  pub malformed-line : (n : ℕ) (p : Place) → get_or s i 0 ≡ 10 → is_wrong p ≡ true → malformed_from n p (drop i s) ≡ n
+  pub malformed_line : (n : ℕ) (p : Place) → get_or s i 0 ≡ 10 → is_wrong p ≡ true → malformed_from n p (drop i s) ≡ n
   unfolding malformed_from
-  malformed-line n p e w = rw (here, eq-eqb (get_or s i 0) 10 e, w) refl
+  malformed_line n p e w = rw (here, eq-eqb (get_or s i 0) 10 e, w) refl
 
-  pub malformed-next : (n : ℕ) (p : Place) → get_or s i 0 ≡ 10 → is_wrong p ≡ false
+  pub malformed_next : (n : ℕ) (p : Place) → get_or s i 0 ≡ 10 → is_wrong p ≡ false
       → malformed_from n p (drop i s) ≡ malformed_from (n + 1) Blank (drop (i + 1) s)
   unfolding malformed_from
-  malformed-next n p e w = rw (here, eq-eqb (get_or s i 0) 10 e, w, add-one n) refl
+  malformed_next n p e w = rw (here, eq-eqb (get_or s i 0) 10 e, w, add-one n) refl
 
-  pub malformed-on : (n : ℕ) (p : Place) → (get_or s i 0 ≡ 10 → ⊥)
+  pub malformed_on : (n : ℕ) (p : Place) → (get_or s i 0 ≡ 10 → ⊥)
       → malformed_from n p (drop i s) ≡ malformed_from n (after p (get_or s i 0)) (drop (i + 1) s)
   unfolding malformed_from
-  malformed-on n p e = rw (here, ne_eqb (get_or s i 0) 10 e) refl
+  malformed_on n p e = rw (here, ne_eqb (get_or s i 0) 10 e) refl
 
   pub moves_next : (p : Place) → get_or s i 0 ≡ 10
       → moves_from p (drop i s) ≡ move_at p ++ moves_from Blank (drop (i + 1) s)
@@ -47,13 +47,13 @@ module _ (s : List ℕ) (i : ℕ) (h : i < length s) where
 
 -- the last line ends with the text
 module _ (s : List ℕ) (i : ℕ) (h : length s ≤ i) where
-  pub malformed-end : (n : ℕ) (p : Place) → malformed_from n p (drop i s) ≡ cond (is_wrong p) n 0
+  pub malformed_end : (n : ℕ) (p : Place) → malformed_from n p (drop i s) ≡ cond (is_wrong p) n 0
   unfolding malformed_from
-  malformed-end n p = rw (drop_of_length-le s h) refl
+  malformed_end n p = rw (drop_of_length-le s h) refl
 
-  pub moves-end : (p : Place) → moves_from p (drop i s) ≡ move_at p
+  pub moves_end : (p : Place) → moves_from p (drop i s) ≡ move_at p
   unfolding moves_from
-  moves-end p = rw (drop_of_length-le s h) refl
+  moves_end p = rw (drop_of_length-le s h) refl
 
 -- The moves that are left, laid from `at` on, make the moves of the whole text.
 abbrev pub Finishes : List ℕ → List ℕ → Place → ℕ → List ℕ → ℕ → Type 0
@@ -61,21 +61,21 @@ Finishes s buffer p i out at =
     (n : List ℕ) (k : ℕ) → Puts out at (moves_from p (drop i s)) n k → Puts buffer 0 (moves_of s) n k
 
 module _ (s buffer : List ℕ) (i : ℕ) where
-  pub finish-next : (p : Place) {out out' : List ℕ} {at at' : ℕ} → i < length s → get_or s i 0 ≡ 10
+  pub finish_next : (p : Place) {out out' : List ℕ} {at at' : ℕ} → i < length s → get_or s i 0 ≡ 10
       → Finishes s buffer p i out at → Puts out at (move_at p) out' at' → Finishes s buffer Blank (i + 1) out' at'
-  finish-next p h e f q n k r = f n k (puts_as (sym (moves_next s i h p e)) (puts_on q r))
+  finish_next p h e f q n k r = f n k (puts_as (sym (moves_next s i h p e)) (puts_on q r))
 
-  pub finish-on : (p : Place) {out : List ℕ} {at : ℕ} → i < length s → (get_or s i 0 ≡ 10 → ⊥)
+  pub finish_on : (p : Place) {out : List ℕ} {at : ℕ} → i < length s → (get_or s i 0 ≡ 10 → ⊥)
       → Finishes s buffer p i out at → Finishes s buffer (after p (get_or s i 0)) (i + 1) out at
-  finish-on p h e f n k r = f n k (puts_as (sym (moves_on s i h p e)) r)
+  finish_on p h e f n k r = f n k (puts_as (sym (moves_on s i h p e)) r)
 
-  pub finish-end : (p : Place) {out out' : List ℕ} {at at' : ℕ} → length s ≤ i → Finishes s buffer p i out at
+  pub finish_end : (p : Place) {out out' : List ℕ} {at at' : ℕ} → length s ≤ i → Finishes s buffer p i out at
       → Puts out at (move_at p) out' at' → Puts buffer 0 (moves_of s) out' at'
-  finish-end p h f q = f _ _ (puts_as (sym (moves-end s i h p)) q)
+  finish_end p h f q = f _ _ (puts_as (sym (moves_end s i h p)) q)
 
   -- where the next move is laid
-  pub finish-room : (p : Place) (out : List ℕ) (at : ℕ) → Finishes s buffer p i out at → at ≤ length s
-  finish-room p out at f =
+  pub finish_room : (p : Place) (out : List ℕ) (at : ℕ) → Finishes s buffer p i out at → at ≤ length s
+  finish_room p out at f =
       let rest : List ℕ = moves_from p (drop i s) in
       let whole = f (sets out at rest) (at + length rest) (record { bytes = refl; behind = refl }) in
       omega (arith, whole.behind, moves_few s)

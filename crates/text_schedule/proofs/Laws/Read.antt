@@ -17,8 +17,8 @@ use Rattle.text_schedule.specs.declared.whole.Read.TheVariants.{Moves, Malformed
 use Rattle.text_schedule.specs.Text.{malformed_from, moves_of, read_into}
 
 module _ (text buffer : List ℕ) {line : ℕ} (e : line ≡ malformed_from 1 Blank text) where
-  pub read-malformed : (line ≡ 0 → ⊥) → (Malformed line, buffer) ≡ read_into text buffer
-  read-malformed h =
+  pub read_malformed : (line ≡ 0 → ⊥) → (Malformed line, buffer) ≡ read_into text buffer
+  read_malformed h =
       let test : eqb (malformed_from 1 Blank text) 0 ≡ false = ne_eqb _ _ (λ z. h (e ∙ z)) in
       rw test (ap (λ n. (Malformed n, buffer)) e)
 
@@ -27,15 +27,15 @@ module _ (text buffer : List ℕ) {line : ℕ} (e : line ≡ malformed_from 1 Bl
     none : eqb (malformed_from 1 Blank text) 0 ≡ true
     none = eq-eqb _ _ (sym e ∙ z)
 
-    pub read-long : length buffer < size → (TooLong, buffer) ≡ read_into text buffer
-    read-long h =
+    pub read_long : length buffer < size → (TooLong, buffer) ≡ read_into text buffer
+    read_long h =
         let more : length buffer < length (moves_of text) = omega (arith, p.behind) in
         let short : ltb (length buffer) (length (moves_of text)) ≡ true = lt-ltb _ _ more in
         rw (none, short) refl
 
-    pub read-moves : {after : List ℕ} {end : ℕ} → size ≤ length buffer → Puts buffer 0 (moves_of text) after end
+    pub read_moves : {after : List ℕ} {end : ℕ} → size ≤ length buffer → Puts buffer 0 (moves_of text) after end
         → (Moves end, after) ≡ read_into text buffer
-    read-moves {after} {end} h q =
+    read_moves {after} {end} h q =
         let fits : length (moves_of text) ≤ length buffer = omega (arith, p.behind) in
         let room : ltb (length buffer) (length (moves_of text)) ≡ false = le-ltb _ _ fits in
         let whole : end ≡ length (moves_of text) = omega (arith, q.behind) in
@@ -61,7 +61,7 @@ module _ (text buffer : List ℕ) {after : List ℕ} {size : ℕ} where
       )
   front_by false u p = let z : ◌≡◌ {A = ℕ} 0 1 = cc (ap (λ x. x.0) p) in absurd (omega arith)
 
-  pub read-front : {r : Read} → r ≡ Moves size → (r, after) ≡ read_into text buffer → Front text after size
-  read-front e p =
+  pub read_front : {r : Read} → r ≡ Moves size → (r, after) ≡ read_into text buffer → Front text after size
+  read_front e p =
       front_by (eqb (malformed_from 1 Blank text) 0) (ltb (length buffer) (length (moves_of text)))
       ((λ i. (sym e i, after)) ∙ p)

@@ -20,10 +20,10 @@ use Rattle.barrier_placement.specs.Steps.{steps}
 use Rattle.barrier_placement.proofs.Laws.Pass.{stands_here, turn}
 use Rattle.sheet_rows.specs.declared.read.Row.{Row}
 use Rattle.sheet_rows.specs.Lanes.{fields_of, Holds}
-use Rattle.sheet_rows.proofs.Laws.Lanes.{held-fields}
+use Rattle.sheet_rows.proofs.Laws.Lanes.{held_fields}
 use Rattle.barrier_pass.specs.Known.{known_of}
 use Rattle.barrier_pass.proofs.Laws.Known.{step_is}
-use Rattle.barrier_pass.proofs.Laws.Plan.{Placing, placing-none, placing-on, placing-end}
+use Rattle.barrier_pass.proofs.Laws.Plan.{Placing, placing_none, placing_on, placing_end}
 use borrow.Author.Rules.{rules}
 use Rattle.barrier_pass.proofs.place.place_lane.Statement.{statement}
 use Rattle.barrier_pass.proofs.place.place_lane.Tie as tie
@@ -45,7 +45,7 @@ loop-holds c =
       refl,
       omega arith,
       λ j h. refl,
-      λ ops h. placing-none (is_volatile a.mask) ops a.plan.now,
+      λ ops h. placing_none (is_volatile a.mask) ops a.plan.now,
     )
 
 whole-row-requires : tie.Need-whole-row-requires invariant-loop decreases-loop
@@ -109,7 +109,7 @@ loop-again c =
           let o = get_or ops l.p no_op in
           let t = steps vol ops in
           let below : l.p < a.n = omega arith in
-          let row : w.whole_row.result ≡ fields_of o = w.whole_row.ensures ∙ held-fields h l.p below in
+          let row : w.whole_row.result ≡ fields_of o = w.whole_row.ensures ∙ held_fields h l.p below in
           let known : s.before.Known-of.result ≡ known_of (at t l.p) =
           s.before.Known-of.ensures.0 o (ap (λ (r : Row). r.code) row) (ap (λ (r : Row). r.b) row)
           ∙ ap known_of (step_is vol h l.p below) in
@@ -121,7 +121,7 @@ loop-again c =
           λ b. s.stands_at.ensures.0 (at t l.p) b known
           ∙ stands_here t b (placing.reached b) (omega (arith, few)) refl in
           rw (wrote.0, wrote.1.0)
-          (placing-on vol ops placing room stood start.requires.0.1 (omega (arith, h.count)) low turned
+          (placing_on vol ops placing room stood start.requires.0.1 (omega (arith, h.count)) low turned
           (λ b. turn t b (placing.reached b) (omega (arith, few)) refl c.before.before.before.raises.result
           (turned b)
           (c.before.before.before.raises.ensures (at t l.p) b known)
@@ -147,7 +147,7 @@ returns c =
             let placing : Placing (is_volatile a.args.mask) ops l.due l.brought l.plan l.at n =
             subst (λ q. Placing (is_volatile a.args.mask) ops l.due l.brought l.plan l.at q) last
             (l.invariant.5 ops h) in
-            placing-end (is_volatile a.args.mask) ops placing room h.count p le,
+            placing_end (is_volatile a.args.mask) ops placing room h.count p le,
         λ p past. get_or-set_other l.plan n p l.at 0 (λ e. omega arith) ∙ l.invariant.4 p past,
       ),
     )

@@ -5,7 +5,7 @@ use mathlib.Core.Bool.{Bool}
 use mir.Val.{bool_byte}
 use Rattle.laws.proofs.Bools.{by_test}
 use Rattle.file_format.specs.Accepted.{is_volatile}
-use Rattle.barrier_pass.proofs.Laws.Known.{known-entry, known_small}
+use Rattle.barrier_pass.proofs.Laws.Known.{known_entry, known_small}
 use borrow.Author.Rules.{rules}
 use Rattle.barrier_pass.proofs.steps.known_of.Statement.{statement}
 use Rattle.barrier_pass.proofs.steps.known_of.Tie as tie
@@ -36,7 +36,7 @@ returns : tie.Need-returns
 returns c =
     let v = c.before in
     let a = v.before in (
-      λ o ec eb. rw (a.requires, v.is-volatile.ensures, ec, eb) (known-entry (is_volatile a.args.mask) o),
+      λ o ec eb. rw (a.requires, v.is-volatile.ensures, ec, eb) (known_entry (is_volatile a.args.mask) o),
       rw a.requires (known_small _ (inside a.args.code v.is-volatile.result)),
     )
 

@@ -4,7 +4,7 @@ use mathlib.Core.Path.{◌≡◌, refl}
 use mathlib.Core.Bool.{true, false}
 use native.Mathlib.Omega.{arith}
 use lib.ListN.{length-take}
-use Rattle.text_schedule.proofs.Laws.Read.{read-front}
+use Rattle.text_schedule.proofs.Laws.Read.{read_front}
 use borrow.Author.Rules.{rules}
 use Rattle.console.proofs.schedules.read_text.Statement.{statement}
 use Rattle.console.proofs.schedules.read_text.Tie as tie
@@ -21,7 +21,7 @@ returns c =
     let a = c.before.answer.given in
     let r = c.before.before.before.before.before in
     let s = r.before.before.before.before.args in
-    let front = read-front s.text.now s.moves.now a.1 r.read-schedule.ensures in
+    let front = read_front s.text.now s.moves.now a.1 r.read-schedule.ensures in
     ((front.0, omega (arith, front.0, length-take a.0.0 r.read-schedule.new.1.0)), λ e. front.1)
 
 say-malformed-requires : tie.Need-say-malformed-requires

@@ -4,10 +4,10 @@ use native.Mathlib.Omega.{arith}
 use borrow.Author.Rules.{rules}
 use Rattle.file_format.specs.Structured.{Fielded}
 use Rattle.file_format.specs.Accepted.{program_of}
-use Rattle.file_format.proofs.Laws.Rules.{few-records}
+use Rattle.file_format.proofs.Laws.Rules.{few_records}
 use Rattle.file_verdict.specs.Verdict.{number_of}
 use Rattle.file_verdict.proofs.Laws.Verdict.{sound, accepted_as}
-use Rattle.file_accept.proofs.Laws.Checks.{fields-passed, fields-refused, fields-kept, not-accepted}
+use Rattle.file_accept.proofs.Laws.Checks.{fields_passed, fields_refused, fields_kept, not_accepted}
 use Rattle.file_accept.proofs.accept.accept.Statement.{statement}
 use Rattle.file_accept.proofs.accept.accept.Tie as tie
 
@@ -22,20 +22,20 @@ returns c =
     let n = c.before in
     let is = n.before.field-refusal.ensures in
     let number = n.number_of_lem.ensures ∙ ap number_of is in
-    let answer = is ∙ sym (fields-refused _ (λ z. c.if1.true (number ∙ z))) in
-    (answer, λ v. absurd (not-accepted _ answer (omega (arith, n.number_of_lem.ensures, c.if1.true)) v))
+    let answer = is ∙ sym (fields_refused _ (λ z. c.if1.true (number ∙ z))) in
+    (answer, λ v. absurd (not_accepted _ answer (omega (arith, n.number_of_lem.ensures, c.if1.true)) v))
 
 -- checks 1 to 4 have passed
 passed : (c : tie.Else1) → Fielded c.before.before.before.before.before.args.file.now
 passed c =
-    fields-passed _
+    fields_passed _
     (sym (ap number_of c.before.before.field-refusal.ensures) ∙ sym c.before.number_of_lem.ensures ∙ c.if1.false)
 
 linked-refusal-requires : tie.Need-linked-refusal-requires
 linked-refusal-requires c κs =
     let i = c.before.before.before in
     let f = passed i in
-    let few = few-records _ f.header in
+    let few = few_records _ f.header in
     (f, (i.before.before.before.before.before.requires f, ((omega arith, omega arith), refl)))
 
 returns-2 : tie.Need-returns-2
@@ -43,7 +43,7 @@ returns-2 c =
     let l = c.before.before.before.before in
     let i = l.before.before.before.before in
     let s = i.before.before.before.before.before.args.file.now in (
-      l.linked-refusal.ensures.0 ∙ sym (fields-kept s (passed i)),
+      l.linked-refusal.ensures.0 ∙ sym (fields_kept s (passed i)),
       λ v. let st = (sound s (accepted_as s (program_of s) v).0).0 in
           (l.linked-refusal.ensures.1.0 st.linkage st.chains st.targets).0,
     )

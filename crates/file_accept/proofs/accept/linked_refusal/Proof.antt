@@ -10,9 +10,9 @@ use Rattle.file_format.specs.Linkage.{bad_linkage, chain_too_long}
 use Rattle.file_format.specs.Structured.{Structured}
 use Rattle.sheet_format.specs.declared.Level.TheVariants.{Level0}
 use Rattle.sheet_format.specs.Bytes.{sheet_bytes}
-use Rattle.file_rows.proofs.Laws.Whole.{chains-counted}
+use Rattle.file_rows.proofs.Laws.Whole.{chains_counted}
 use Rattle.file_accept.proofs.Laws.Checks.{refuses5, refuses6, refuses7, past7}
-use Rattle.file_accept.proofs.Laws.Order.{front-is-lane-order}
+use Rattle.file_accept.proofs.Laws.Order.{front_is_lane_order}
 use borrow.Author.Rules.{rules}
 use Rattle.file_accept.proofs.accept.linked_refusal.Statement.{statement}
 use Rattle.file_accept.proofs.accept.linked_refusal.Tie as tie
@@ -53,7 +53,7 @@ counted : (s : tie.Else3) → length (sheet_bytes Level0 (program_of (file (firs
     ≡ 16 + 8 * record_count (file (first (second s)))
 counted s =
     let f = first (second s) in
-    chains-counted (structured s) ((walk f).link.ensures.1 (linked f))
+    chains_counted (structured s) ((walk f).link.ensures.1 (linked f))
 
 -- ## the needs
 
@@ -126,7 +126,7 @@ returns-4 c =
       c.lock-refusal.ensures ∙ past7 _ ok.linkage ok.chains ok.targets,
       (
         λ z5 z6 z7. (w.write-chains.ensures, counted s),
-        λ z5 z6 z7. front-is-lane-order ok ((walk f).link.ensures.1 (linked f)),
+        λ z5 z6 z7. front_is_lane_order ok ((walk f).link.ensures.1 (linked f)),
       ),
     )
 

@@ -3,19 +3,19 @@ use Prim.Native.Nat.{ℕ}
 use mathlib.Core.Path.{sym, ap, ◌∙◌}
 use native.Mathlib.Omega.{arith}
 use lib.ListN.{length-replicate}
-use Rattle.file_format.proofs.Laws.Rules.{few-records}
+use Rattle.file_format.proofs.Laws.Rules.{few_records}
 use Rattle.file_verdict.specs.Verdict.{number_of, record_of}
 use Rattle.sheet_format.specs.declared.WriteResult.TheVariants.{Refuses}
-use Rattle.sheet_format.proofs.Laws.Loaded.{refused_by, accepted-by}
+use Rattle.sheet_format.proofs.Laws.Loaded.{refused_by, accepted_by}
 use Rattle.sheet_format.specs.declared.Level.TheVariants.{Level0}
 use Rattle.sheet_format.specs.Bytes.{sheet_bytes}
-use Rattle.file_accept.proofs.Laws.Copied.{size_small, rows_room, part-counted, answer-short, answer-copied}
+use Rattle.file_accept.proofs.Laws.Copied.{size_small, rows_room, part_counted, answer_short, answer_copied}
 use borrow.Author.Rules.{rules}
 use Rattle.file_accept.proofs.output.chain_file.Statement.{statement}
 use Rattle.file_accept.proofs.output.chain_file.Tie as tie
 
 accept-requires : tie.Need-accept-requires
-accept-requires c κs = λ f. omega (arith, few-records _ f.header)
+accept-requires c κs = λ f. omega (arith, few_records _ f.header)
 
 number-of-requires : tie.Need-number-of-requires
 number-of-requires c κs = search rules
@@ -38,7 +38,7 @@ size-of-requires c κs =
     let n = i.before in
     let a = n.before.before.before.before.before.before.args in
     let number = n.number_of_lem.ensures ∙ ap number_of n.before.before.accept.ensures.0 in
-    let ok = accepted-by a.file.now (omega (arith, number, i.if1.false)) in
+    let ok = accepted_by a.file.now (omega (arith, number, i.if1.false)) in
     let front = n.before.before.accept.ensures.1 ok in
     size_small a.file.now ok _ _ front
 
@@ -48,9 +48,9 @@ returns-2 c =
     let n = i.before in
     let a = n.before.before.before.before.before.before.args in
     let number = n.number_of_lem.ensures ∙ ap number_of n.before.before.accept.ensures.0 in
-    let ok = accepted-by a.file.now (omega (arith, number, i.if1.false)) in
+    let ok = accepted_by a.file.now (omega (arith, number, i.if1.false)) in
     let front = n.before.before.accept.ensures.1 ok in
-    answer-short a.file.now ok _ _ front c.before.type_size.ensures a.out.now c.if2.true
+    answer_short a.file.now ok _ _ front c.before.type_size.ensures a.out.now c.if2.true
 
 array-share-prefix-rows : tie.Need-array-share-prefix-rows
 array-share-prefix-rows c =
@@ -58,7 +58,7 @@ array-share-prefix-rows c =
     let n = i.before in
     let a = n.before.before.before.before.before.before.args in
     let number = n.number_of_lem.ensures ∙ ap number_of n.before.before.accept.ensures.0 in
-    let ok = accepted-by a.file.now (omega (arith, number, i.if1.false)) in
+    let ok = accepted_by a.file.now (omega (arith, number, i.if1.false)) in
     let front = n.before.before.accept.ensures.1 ok in
     omega (
       arith,
@@ -73,9 +73,9 @@ slice-aggregate-copy c =
     let n = i.before in
     let a = n.before.before.before.before.before.before.args in
     let number = n.number_of_lem.ensures ∙ ap number_of n.before.before.accept.ensures.0 in
-    let ok = accepted-by a.file.now (omega (arith, number, i.if1.false)) in
+    let ok = accepted_by a.file.now (omega (arith, number, i.if1.false)) in
     let front = n.before.before.accept.ensures.1 ok in
-    part-counted a.file.now ok _ _ front c.before.before.type_size.ensures (length-replicate {A = ℕ} 2064 0)
+    part_counted a.file.now ok _ _ front c.before.before.type_size.ensures (length-replicate {A = ℕ} 2064 0)
 
 copy-requires : tie.Need-copy-requires
 copy-requires c κs =
@@ -84,12 +84,12 @@ copy-requires c κs =
     let n = i.before in
     let a = n.before.before.before.before.before.before.args in
     let number = n.number_of_lem.ensures ∙ ap number_of n.before.before.accept.ensures.0 in
-    let ok = accepted-by a.file.now (omega (arith, number, i.if1.false)) in
+    let ok = accepted_by a.file.now (omega (arith, number, i.if1.false)) in
     let front = n.before.before.accept.ensures.1 ok in
     omega (
       arith,
       c.before.before.if2.false,
-      part-counted a.file.now ok _ _ front size.type_size.ensures (length-replicate {A = ℕ} 2064 0),
+      part_counted a.file.now ok _ _ front size.type_size.ensures (length-replicate {A = ℕ} 2064 0),
     )
 
 returns-3 : tie.Need-returns-3
@@ -99,9 +99,9 @@ returns-3 c =
     let n = i.before in
     let a = n.before.before.before.before.before.before.args in
     let number = n.number_of_lem.ensures ∙ ap number_of n.before.before.accept.ensures.0 in
-    let ok = accepted-by a.file.now (omega (arith, number, i.if1.false)) in
+    let ok = accepted_by a.file.now (omega (arith, number, i.if1.false)) in
     let front = n.before.before.accept.ensures.1 ok in
-    answer-copied a.file.now ok _ _ front size.type_size.ensures a.out.now
+    answer_copied a.file.now ok _ _ front size.type_size.ensures a.out.now
     c.before.before.before.before.before.if2.false c.before.before.copy.ensures.1
 
 pub chain-file-spec : {M : Type 1} → statement M

@@ -4,7 +4,7 @@ use mathlib.Core.Path.{◌≡◌, sym, ap, subst, ◌∙◌}
 use native.Mathlib.Omega.{arith}
 use lib.ListN.{length, get_or}
 use Rattle.file_chains.specs.Ordered.{landing_in}
-use Rattle.file_rows.proofs.Laws.Row.{record-skip, record-other}
+use Rattle.file_rows.proofs.Laws.Row.{record_skip, record_other}
 use borrow.Author.Rules.{rules}
 use Rattle.file_rows.proofs.chain.put_record.Statement.{statement}
 use Rattle.file_rows.proofs.chain.put_record.Tie as tie
@@ -38,7 +38,7 @@ returns c =
     let at = a.args.at in
     let lands =
     ap (landing_in a.args.place.now a.args.begin a.args.n) c.before.whole_word.ensures.0 in
-    record-skip s a.args.out.now a.args.r at copy.copy-eight.ensures i.if1.true
+    record_skip s a.args.out.now a.args.r at copy.copy-eight.ensures i.if1.true
     (c.landing.ensures ∙ lands)
 
 returns-2 : tie.Need-returns-2
@@ -46,7 +46,7 @@ returns-2 c =
     let copy = c.before.before.before.before in
     let a = copy.before.before.before.before.before in
     let s = a.args.s.now in
-    record-other s a.args.out.now a.args.r a.args.at copy.copy-eight.ensures _ c.if1.false
+    record_other s a.args.out.now a.args.r a.args.at copy.copy-eight.ensures _ c.if1.false
 
 pub put-record-spec : {M : Type 1} → statement M
 put-record-spec =

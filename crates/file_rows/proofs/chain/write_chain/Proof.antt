@@ -12,7 +12,7 @@ use Rattle.sheet_format.proofs.Laws.Put.{puts_none, puts_as, puts_end, puts_leng
 use Rattle.sheet_rows.specs.Lanes.{op_rows}
 use Rattle.file_rows.specs.Records.{record_row, RecordIn}
 use Rattle.file_rows.proofs.Laws.Lane.{row_put, rows_all}
-use Rattle.file_rows.proofs.Laws.Records.{in_order, in-file, in-room, counted-in, record-in, row_in}
+use Rattle.file_rows.proofs.Laws.Records.{in_order, in_file, in_room, counted_in, record_in, row_in}
 use borrow.Author.Rules.{rules}
 use Rattle.file_rows.proofs.chain.write_chain.Statement.{statement}
 use Rattle.file_rows.proofs.chain.write_chain.Tie as tie
@@ -32,21 +32,21 @@ loop-holds : tie.Need-loop-init invariant-loop decreases-loop
 loop-holds c = (omega arith, puts_end puts_none (omega arith))
 
 add-j : tie.Need-overflow-add-j invariant-loop decreases-loop
-add-j c = omega (arith, in-file c.before.before.before.before.before.before.requires.1)
+add-j c = omega (arith, in_file c.before.before.before.before.before.before.requires.1)
 
 mul-put-record : tie.Need-overflow-mul-put-record invariant-loop decreases-loop
-mul-put-record c = omega (arith, in-file c.before.before.before.before.before.before.before.requires.1)
+mul-put-record c = omega (arith, in_file c.before.before.before.before.before.before.before.requires.1)
 
 add-put-record : tie.Need-overflow-add-put-record invariant-loop decreases-loop
-add-put-record c = omega (arith, in-file c.before.before.before.before.before.before.before.requires.1)
+add-put-record c = omega (arith, in_file c.before.before.before.before.before.before.before.requires.1)
 
 mul-wide-word : tie.Need-overflow-mul-wide-word invariant-loop decreases-loop
-mul-wide-word c = omega (arith, in-file c.before.before.before.before.before.before.before.requires.1)
+mul-wide-word c = omega (arith, in_file c.before.before.before.before.before.before.before.requires.1)
 
 shared-slice-read-wide-word : tie.Need-shared-slice-read-wide-word invariant-loop decreases-loop
 shared-slice-read-wide-word c =
     let a = c.before.before.before.before.before.before.before.before in
-    omega (arith, in-room a.requires.1)
+    omega (arith, in_room a.requires.1)
 
 wide-word-requires : tie.Need-wide-word-requires invariant-loop decreases-loop
 wide-word-requires c κs = search rules
@@ -58,13 +58,13 @@ put-record-requires c κs =
     let below : l.p < a.args.end - a.args.begin = c.before.before.before.loop-test.true in (
       omega (arith, puts_length l.invariant.1, a.requires.0),
       subst (RecordIn a.args.s.now a.args.place.now a.args.begin (a.args.end - a.args.begin))
-          (sym c.wide_word.ensures.0) (record-in a.requires.1 l.p below),
+          (sym c.wide_word.ensures.0) (record_in a.requires.1 l.p below),
     )
 
 add-p : tie.Need-overflow-add-p invariant-loop decreases-loop
 add-p c =
     let test = c.before.before.before.before.before.before in
-    omega (arith, in-file test.before.before.before.before.before.before.requires.1)
+    omega (arith, in_file test.before.before.before.before.before.before.requires.1)
 
 loop-less : tie.Need-loop-smaller invariant-loop decreases-loop
 loop-less c = omega (arith, c.before.before.before.before.before.before.loop-test.true)
@@ -88,7 +88,7 @@ loop-again c =
     (sym w.wide_word.ensures.0) in (
       omega (arith, below),
       row_put (ops_of s records) (16 + 8 * begin) l.p (16 + 8 * (begin + l.p)) l.invariant.1
-          (omega (arith, all, counted-in a.requires.1, below)) (omega arith) same
+          (omega (arith, all, counted_in a.requires.1, below)) (omega arith) same
           c.before.before.put_record.ensures,
     )
 
@@ -105,7 +105,7 @@ returns c =
     let all = ops_from_length s 0 records in
     let past : n ≤ l.p = c.loop-test.false in
     puts_end
-    (puts_as (rows_all (ops_of s records) l.p (omega (arith, all, counted-in a.requires.1))) l.invariant.1)
+    (puts_as (rows_all (ops_of s records) l.p (omega (arith, all, counted_in a.requires.1))) l.invariant.1)
     (omega (arith, in_order a.requires.1))
 
 pub write-chain-spec : {M : Type 1} → statement M

@@ -1,7 +1,7 @@
 -- `file_rows::whole::write_chains` meets its contract: the header with the lanes' counts, and the lanes.
 use native.Mathlib.Omega.{arith}
 use Rattle.sheet_format.proofs.Laws.Put.{laid_length}
-use Rattle.file_rows.proofs.Laws.Whole.{chains-from}
+use Rattle.file_rows.proofs.Laws.Whole.{chains_from}
 use borrow.Author.Rules.{rules}
 use Rattle.file_rows.proofs.whole.write_chains.Statement.{statement}
 use Rattle.file_rows.proofs.whole.write_chains.Tie as tie
@@ -63,7 +63,7 @@ returns c =
     let first = counts.before.before.before.before.before.before.before.before in
     let at = first.before.before.before in
     let a = at.before.before.before.before.before.before.before in
-    chains-from a.requires.1.0 a.requires.1.1 at.byte_at.ensures first.before.before.byte-at2.ensures
+    chains_from a.requires.1.0 a.requires.1.1 at.byte_at.ensures first.before.before.byte-at2.ensures
     first.before.byte-at3.ensures at.before.before.word_at.ensures.0 a.args.out.now a.requires.0
     first.put_first.ensures counts.put-counts.ensures lanes.write-lanes.ensures
 

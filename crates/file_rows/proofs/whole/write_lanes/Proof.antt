@@ -5,14 +5,14 @@ use native.Mathlib.Omega.{arith}
 use lib.ListN.{get_or}
 use lib.Seq.{sets}
 use Rattle.file_chains.specs.Ordered.{begin_of}
-use Rattle.file_chains.proofs.Laws.Places.{end-inside}
+use Rattle.file_chains.proofs.Laws.Places.{end_inside}
 use Rattle.sheet_format.specs.Put.{Puts, in_turn}
 use Rattle.sheet_format.proofs.Laws.Put.{puts_as, puts_length}
-use Rattle.sheet_format.proofs.Laws.Turn.{turn-none, turn_on}
+use Rattle.sheet_format.proofs.Laws.Turn.{turn_none, turn_on_lem}
 use Rattle.sheet_rows.specs.Lanes.{op_rows}
 use Rattle.file_rows.specs.Chains.{chain_at}
 use Rattle.file_rows.specs.Records.{LaneIn}
-use Rattle.file_rows.proofs.Laws.Records.{ops-in}
+use Rattle.file_rows.proofs.Laws.Records.{ops_in}
 use borrow.Author.Rules.{rules}
 use Rattle.file_rows.proofs.whole.write_lanes.Statement.{statement}
 use Rattle.file_rows.proofs.whole.write_lanes.Tie as tie
@@ -25,7 +25,7 @@ abbrev decreases-loop : tie.decreases-loop
 decreases-loop out₀ s order place ends begin₀ t₀ out begin t = 4 - t
 
 loop-holds : tie.Need-loop-init invariant-loop decreases-loop
-loop-holds c = (omega arith, refl, turn-none _)
+loop-holds c = (omega arith, refl, turn_none _)
 
 write-chain-requires : tie.Need-write-chain-requires invariant-loop decreases-loop
 write-chain-requires c κs =
@@ -42,7 +42,7 @@ write-chain-requires c κs =
       from = l.invariant.1;
       to = refl;
     } in
-    let inside = end-inside a.requires.1.1 l.t test.loop-test.true in
+    let inside = end_inside a.requires.1.1 l.t test.loop-test.true in
     (omega (arith, inside, puts_length l.invariant.2, a.requires.0), lane)
 
 add-t : tie.Need-overflow-add-t invariant-loop decreases-loop
@@ -70,8 +70,8 @@ loop-again c =
     let one : l.t + 1 ≡ suc l.t = omega arith in (
       omega (arith, test.loop-test.true),
       sym (ap (begin_of ends) one),
-      turn_on (chain_at s) l.t l.invariant.2
-          (puts_as (ap op_rows (ops-in lane)) c.before.before.write-chain.ensures),
+      turn_on_lem (chain_at s) l.t l.invariant.2
+          (puts_as (ap op_rows (ops_in lane)) c.before.before.write-chain.ensures),
     )
 
 same_length : tie.Need-same-length invariant-loop decreases-loop

@@ -1,6 +1,6 @@
 -- `lanerun::tell::run_and_tell` meets its contract: lines are told only of a run that is not refused.
 use mathlib.Core.Path.{sym, ◌∙◌}
-use Rattle.text_run.proofs.Laws.Ends.{told-ran}
+use Rattle.text_run.proofs.Laws.Ends.{told_ran}
 use borrow.Author.Rules.{rules}
 use Rattle.lanerun.proofs.tell.run_and_tell.Statement.{statement}
 use Rattle.lanerun.proofs.tell.run_and_tell.Tie as tie
@@ -16,7 +16,7 @@ tell-moves-requires c κs =
     let t = c.before.before.before.before in
     let s = t.before.before.before.before.before in (
       s.requires,
-      told-ran s.args.machine s.args.file.now s.args.moves.now t.before.before.large-buffer.result
+      told_ran s.args.machine s.args.file.now s.args.moves.now t.before.before.large-buffer.result
           ((λ i. (sym c.before.answer.given.1 i, t.tell-end.new.1.1.1.0)) ∙ t.tell-end.ensures),
     )
 

@@ -4,7 +4,7 @@ use Prim.Native.Nat.{◌-◌, ◌/◌, ◌≤◌}
 use native.Mathlib.Omega.{arith}
 use lib.ListN.{length}
 use Rattle.machine_spec.specs.Moves.{moves_in}
-use Rattle.lanerun.proofs.Laws.Told.{CameTo, can_record, can-move, moved, between, one_more}
+use Rattle.lanerun.proofs.Laws.Told.{CameTo, can_record, can_move, moved, between, one_more}
 use borrow.Author.Rules.{rules}
 use Rattle.lanerun.proofs.tell.tell_moves.Statement.{statement}
 use Rattle.lanerun.proofs.tell.tell_moves.Tie as tie
@@ -52,7 +52,7 @@ fold-move-requires : tie.Need-fold-move-requires invariant-loop decreases-loop
 fold-move-requires c κs =
     let l = c.before.before.before.before.before in
     let s = l.before.before.before.before.before.before.before.before.before.before in
-    can-move s.args.moves.now s.requires.0 l.loop.invariant.1
+    can_move s.args.moves.now s.requires.0 l.loop.invariant.1
 
 record-of-requires-2 : tie.Need-record-of-requires-2 invariant-loop decreases-loop
 record-of-requires-2 c κs =

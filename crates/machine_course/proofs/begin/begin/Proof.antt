@@ -1,7 +1,7 @@
 -- `machine_course::begin::begin` meets its contract.
 use mathlib.Core.Path.{sym, ◌∙◌}
-use Rattle.machine_start.proofs.Laws.Files.{file-verdict, file-accepted}
-use Rattle.machine_course.proofs.Laws.Begins.{begins_refused, begins-accepted}
+use Rattle.machine_start.proofs.Laws.Files.{file_verdict, file_accepted}
+use Rattle.machine_course.proofs.Laws.Begins.{begins_refused, begins_accepted}
 use borrow.Author.Rules.{rules}
 use Rattle.machine_course.proofs.begin.begin.Statement.{statement}
 use Rattle.machine_course.proofs.begin.begin.Tie as tie
@@ -28,7 +28,7 @@ returns : tie.Need-returns
 returns c =
     let p = c.before.before.before.before.before.before in
     let a = p.before.before.before.args in
-    let v = file-verdict a.machine a.file.now a.rows.now p.before.before.before.requires.0
+    let v = file_verdict a.machine a.file.now a.rows.now p.before.before.before.requires.0
     ((λ i. (sym c.before.before.before.before.answer.given.1 i, p.program-of.new.1.1.0)) ∙ p.program-of.ensures) in
     begins_refused a.machine a.file.now v c.before.start-refused.ensures c.blocked.ensures
 
@@ -36,12 +36,12 @@ returns-2 : tie.Need-returns-2
 returns-2 c =
     let p = c.before.before.before.before.before.before.before.before.before.before in
     let a = p.before.before.before.args in
-    let b = file-accepted a.machine a.file.now a.rows.now p.before.before.before.requires.0
+    let b = file_accepted a.machine a.file.now a.rows.now p.before.before.before.requires.0
     ((λ i. (
       sym c.before.before.before.before.before.before.before.before.enum_told.given.1 i,
       p.program-of.new.1.1.0,
     )) ∙ p.program-of.ensures) in
-    begins-accepted a.machine b p.before.before.before.requires.0
+    begins_accepted a.machine b p.before.before.before.requires.0
     c.before.before.before.word_at.ensures.0 c.underway.ensures
     c.before.before.before.before.start-rows.ensures
 

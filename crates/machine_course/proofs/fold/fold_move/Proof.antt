@@ -4,14 +4,14 @@ use native.Mathlib.Omega.{arith}
 use borrow.Author.Tests.{not-true, not-false}
 use Rattle.machine_spec.specs.Schedule.{move}
 use Rattle.machine_course.proofs.Laws.Legal.{allowed}
-use Rattle.machine_course.proofs.Laws.Folds.{still-refused, lane-few, can-move, lies-inside, code-stops}
-use Rattle.machine_course.proofs.Laws.Folds.{code-moves}
+use Rattle.machine_course.proofs.Laws.Folds.{still_refused, lane_few, can_move, lies_inside, code_stops}
+use Rattle.machine_course.proofs.Laws.Folds.{code_moves}
 use borrow.Author.Rules.{rules}
 use Rattle.machine_course.proofs.fold.fold_move.Statement.{statement}
 use Rattle.machine_course.proofs.fold.fold_move.Tie as tie
 
 returns : tie.Need-returns
-returns c = λ s m mvs so. still-refused so (move c.before.before.args.lane c.before.before.args.choice)
+returns c = λ s m mvs so. still_refused so (move c.before.before.args.lane c.before.before.args.choice)
     c.if1.true
 
 wide-requires : tie.Need-wide-requires
@@ -34,7 +34,7 @@ returns-2 c =
     let st = c.before.before.before.before.before.before.before.before.before in
     let mv = move st.args.lane st.args.choice in
     λ s m mvs so.
-    code-stops so mv c.before.before.before.before.before.before.before.if1.false
+    code_stops so mv c.before.before.before.before.before.before.before.if1.false
     c.before.before.before.before.before.limit-of.ensures
     (c.before.before.before.before.legal-move.ensures ∙ ap (λ n. allowed n
     c.before.before.before.before.before.limit-of.result mv)
@@ -46,7 +46,7 @@ array-read-move-lane c =
     let st = c.before.before.before.before.before.before.before.before.before.before.before in
     omega (
       arith,
-      lane-few st.requires.stands (move st.args.lane st.args.choice)
+      lane_few st.requires.stands (move st.args.lane st.args.choice)
           c.before.before.before.before.before.before.before.before.before.if1.false
           c.before.before.before.before.before.before.before.limit-of.ensures
           (c.before.before.before.before.before.before.legal-move.ensures ∙ ap
@@ -60,7 +60,7 @@ array-read-move-lane-2 c =
     let st = c.before.before.before.before.before.before.before.before.before.before.before in
     omega (
       arith,
-      lane-few st.requires.stands (move st.args.lane st.args.choice)
+      lane_few st.requires.stands (move st.args.lane st.args.choice)
           c.before.before.before.before.before.before.before.before.before.if1.false
           c.before.before.before.before.before.before.before.limit-of.ensures
           (c.before.before.before.before.before.before.legal-move.ensures ∙ ap
@@ -78,9 +78,9 @@ move-lane-requires c κs =
     c.before.before.before.before.before.before.before.before.before.wide.ensures in
     let good = not-false _ c.before.before.before.before.before.before.if2.false in
     let so = st.requires.stands in (
-      can-move so mv c.before.before.before.before.before.before.before.before.before.before.if1.false
+      can_move so mv c.before.before.before.before.before.before.before.before.before.before.if1.false
           c.before.before.before.before.before.before.before.before.limit-of.ensures test good,
-      lies-inside so mv c.before.before.before.before.before.before.before.before.before.before.if1.false
+      lies_inside so mv c.before.before.before.before.before.before.before.before.before.before.if1.false
           c.before.before.before.before.before.before.before.before.limit-of.ensures test good,
     )
 
@@ -96,7 +96,7 @@ returns-3 c =
     (λ n. allowed n l.limit-of.result mv) l.before.wide.ensures in
     let good = not-false _ c.before.before.before.before.before.before.before.before.if2.false in
     λ s m mvs so.
-    code-moves so mv l.before.before.if1.false l.limit-of.ensures test good c.before.move-lane.ensures
+    code_moves so mv l.before.before.if1.false l.limit-of.ensures test good c.before.move-lane.ensures
     c.count.ensures
 
 pub fold-move-spec : {M : Type 1} → statement M

@@ -3,7 +3,7 @@ use Prim.Native.Nat.{◌-◌, ◌≤◌}
 use mathlib.Core.Path.{◌≡◌, refl, sym, subst, ◌∙◌}
 use native.Mathlib.Omega.{arith}
 use lib.ListN.{length, length-set}
-use Rattle.machine_lane.proofs.Laws.Flags.{Flagged, flagged-all, flagged_on}
+use Rattle.machine_lane.proofs.Laws.Flags.{Flagged, flagged_all, flagged_on}
 use borrow.Author.Rules.{rules}
 use Rattle.machine_lane.proofs.flags.flags_of.Statement.{statement}
 use Rattle.machine_lane.proofs.flags.flags_of.Tie as tie
@@ -35,7 +35,7 @@ returns c =
     let s = c.before.before in
     let last : l.x ≡ 16 = omega (arith, c.loop-test.false) in (
       sym l.invariant.1,
-      flagged-all s.args.mask l.flags (subst (Flagged s.args.mask l.flags) last l.invariant.2) l.invariant.1
+      flagged_all s.args.mask l.flags (subst (Flagged s.args.mask l.flags) last l.invariant.2) l.invariant.1
           s.requires,
     )
 

@@ -12,7 +12,7 @@ use Rattle.machine_lane.specs.Lanes.{entries_of}
 use Rattle.machine_record.specs.Lanes.{place_bytes, entries_bytes}
 use Rattle.machine_record.proofs.LaneSizes.{place_length}
 use Rattle.machine_record.proofs.Laws.Entries.{place_is}
-use Rattle.sheet_format.proofs.Laws.Turn.{turn-none, turn_on, turn_end}
+use Rattle.sheet_format.proofs.Laws.Turn.{turn_none, turn_on_lem, turn_end}
 use borrow.Author.Tests.{ltb-true}
 use borrow.Author.Rules.{rules}
 use Rattle.machine_record.proofs.lane.write_entries.Statement.{statement}
@@ -27,7 +27,7 @@ abbrev decreases-loop : tie.decreases-loop
 decreases-loop out₀ at len marks cells values next₀ i₀ out next i = 64 - i
 
 loop-holds : tie.Need-loop-init invariant-loop decreases-loop
-loop-holds c = (omega arith, turn-none _)
+loop-holds c = (omega arith, turn_none _)
 
 mark-at-requires : tie.Need-mark-at-requires invariant-loop decreases-loop
 mark-at-requires c κs = omega (arith, c.before.loop-test.true)
@@ -60,7 +60,7 @@ loop-again c =
     let place = ap₂ place_bytes c.before.before.before.mark-at.ensures
     (place_is a.t3 a.t4 a.len l.i full whole c5.loop-test.true) in (
       omega (arith, c5.loop-test.true),
-      turn_on (λ k. place_bytes (mark_at a.marks k) (get_elem? es k)) l.i l.invariant.1
+      turn_on_lem (λ k. place_bytes (mark_at a.marks k) (get_elem? es k)) l.i l.invariant.1
           (puts_as place c.before.before.write-place.ensures),
     )
 

@@ -6,7 +6,7 @@ use lib.ListN.{get_or}
 use Rattle.sheet_format.specs.Bytes.{quad_bytes}
 use Rattle.sheet_format.specs.Put.{Puts, in_turn}
 use Rattle.sheet_format.proofs.Laws.Put.{puts_as, puts_length}
-use Rattle.sheet_format.proofs.Laws.Turn.{turn-none, turn_on, turn_end}
+use Rattle.sheet_format.proofs.Laws.Turn.{turn_none, turn_on_lem, turn_end}
 use borrow.Author.Rules.{rules}
 use Rattle.machine_record.proofs.put.put_table.Statement.{statement}
 use Rattle.machine_record.proofs.put.put_table.Tie as tie
@@ -19,7 +19,7 @@ abbrev decreases-loop : tie.decreases-loop
 decreases-loop out₀ at words n next₀ i₀ out next i = n - i
 
 loop-holds : tie.Need-loop-init invariant-loop decreases-loop
-loop-holds c = (omega arith, turn-none _)
+loop-holds c = (omega arith, turn_none _)
 
 word-at-requires : tie.Need-word-at-requires invariant-loop decreases-loop
 word-at-requires c κs = search rules
@@ -41,7 +41,7 @@ loop-again c =
     let words = c6.before.before.before.args.words.now in
     let l = c6.loop in (
       omega (arith, c.before.before.before.before.before.loop-test.true),
-      turn_on (λ i. quad_bytes (get_or words i 0)) l.i l.invariant.1
+      turn_on_lem (λ i. quad_bytes (get_or words i 0)) l.i l.invariant.1
           (puts_as (ap quad_bytes c.before.before.before.word_at.ensures) c.before.before.put-quad.ensures),
     )
 

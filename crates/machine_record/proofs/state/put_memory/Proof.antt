@@ -6,7 +6,7 @@ use lib.ListN.{get_or}
 use Rattle.sheet_format.specs.Bytes.{quad_bytes}
 use Rattle.sheet_format.specs.Put.{Puts, in_turn}
 use Rattle.sheet_format.proofs.Laws.Put.{puts_as, puts_length}
-use Rattle.sheet_format.proofs.Laws.Turn.{turn-none, turn_on, turn_end}
+use Rattle.sheet_format.proofs.Laws.Turn.{turn_none, turn_on_lem, turn_end}
 use Rattle.machine_state.specs.States.{state_in}
 use borrow.Author.Rules.{rules}
 use Rattle.machine_record.proofs.state.put_memory.Statement.{statement}
@@ -20,7 +20,7 @@ abbrev decreases-loop : tie.decreases-loop
 decreases-loop out₀ at state next₀ x₀ out next x = 16 - x
 
 loop-holds : tie.Need-loop-init invariant-loop decreases-loop
-loop-holds c = (omega arith, turn-none _)
+loop-holds c = (omega arith, turn_none _)
 
 memory-at-requires : tie.Need-memory-at-requires invariant-loop decreases-loop
 memory-at-requires c κs = search rules
@@ -49,7 +49,7 @@ loop-again : tie.Need-loop-preserved invariant-loop decreases-loop
 loop-again c =
     let l = c.before.before.before.before.before.before.before.loop in (
       omega (arith, c.before.before.before.before.before.before.loop-test.true),
-      turn_on (λ i. quad_bytes (get_or (state_in c.before.before.before.before.before.before.before.before.before.args.state.now).memory i 0)) l.x l.invariant.1
+      turn_on_lem (λ i. quad_bytes (get_or (state_in c.before.before.before.before.before.before.before.before.before.args.state.now).memory i 0)) l.x l.invariant.1
           (puts_as (ap quad_bytes (c.before.before.before.wide.ensures
           ∙ c.before.before.before.before.memory-at.ensures)) c.before.before.put-quad.ensures),
     )

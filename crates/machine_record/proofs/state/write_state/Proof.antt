@@ -7,7 +7,7 @@ use Rattle.sheet_format.proofs.Laws.Put.{puts_as, puts_length}
 use Rattle.machine_spec.specs.State.{lane_at}
 use Rattle.machine_state.specs.States.{state_in}
 use Rattle.machine_record.specs.Lanes.{state_lane}
-use Rattle.sheet_format.proofs.Laws.Turn.{turn-none, turn_on}
+use Rattle.sheet_format.proofs.Laws.Turn.{turn_none, turn_on_lem}
 use Rattle.machine_record.proofs.Laws.Lanes.{lane_room, record_put}
 use borrow.Author.Rules.{rules}
 use Rattle.machine_record.proofs.state.write_state.Statement.{statement}
@@ -27,7 +27,7 @@ write-head-requires c κs = (
 )
 
 loop-holds : tie.Need-loop-init invariant-loop decreases-loop
-loop-holds c = (omega arith, turn-none _)
+loop-holds c = (omega arith, turn_none _)
 
 write-lane-at-requires : tie.Need-write-lane-at-requires invariant-loop decreases-loop
 write-lane-at-requires c κs =
@@ -46,7 +46,7 @@ loop-again : tie.Need-loop-preserved invariant-loop decreases-loop
 loop-again c =
     let l = c.before.before.before.before.before.loop in (
       omega (arith, c.before.before.before.before.loop-test.true),
-      turn_on (λ k. state_lane (lane_at (state_in c.before.before.before.before.before.before.before.before.before.before.before.args.state.now) k)) l.t l.invariant.1
+      turn_on_lem (λ k. state_lane (lane_at (state_in c.before.before.before.before.before.before.before.before.before.before.before.args.state.now) k)) l.t l.invariant.1
           c.before.before.write-lane-at.ensures,
     )
 

@@ -3,7 +3,7 @@ use Prim.Native.Nat.{ℕ, ◌≤◌, ◌<◌, ◌-◌}
 use mathlib.Core.Path.{◌≡◌, sym, ◌∙◌}
 use native.Mathlib.Omega.{arith}
 use Rattle.laws.proofs.Numbers.{below_more}
-use Rattle.machine_run.proofs.Laws.Finished.{pending_count, all-drained, one-pending}
+use Rattle.machine_run.proofs.Laws.Finished.{pending_count, all_drained, one_pending}
 use borrow.Author.Rules.{rules}
 use Rattle.machine_run.proofs.judge.drained.Statement.{statement}
 use Rattle.machine_run.proofs.judge.drained.Tie as tie
@@ -31,7 +31,7 @@ count-requires c κs =
 returns : tie.Need-returns invariant-loop decreases-loop
 returns c =
     let s = c.before.before.before.before.before.before in
-    one-pending s.args.state.now s.requires.0 s.requires.1 c.before.before.before.loop.t
+    one_pending s.args.state.now s.requires.0 s.requires.1 c.before.before.before.loop.t
     (omega (arith, c.before.before.loop-test.true, c.before.before.before.before.wide.ensures))
     (λ z. c.if1.true (c.before.count.ensures.0 ∙ z))
 
@@ -50,7 +50,7 @@ loop-again c =
 returns-2 : tie.Need-returns-2 invariant-loop decreases-loop
 returns-2 c =
     let s = c.before.before.before.before in
-    all-drained s.args.state.now s.requires.0 s.requires.1
+    all_drained s.args.state.now s.requires.0 s.requires.1
     (λ t h. c.before.loop.invariant.1 t (omega (arith, c.loop-test.false, c.before.before.wide.ensures)))
 
 pub drained-spec : {M : Type 1} → statement M

@@ -4,7 +4,7 @@ use native.Mathlib.Omega.{arith}
 use lib.ListN.{get_or}
 use Rattle.laws.proofs.Numbers.{below_more}
 use Rattle.machine_state.specs.States.{lane_of}
-use Rattle.machine_run.proofs.Laws.Finished.{position, all-ended, one-goes-on}
+use Rattle.machine_run.proofs.Laws.Finished.{position, all_ended, one_goes_on}
 use borrow.Author.Rules.{rules}
 use Rattle.machine_run.proofs.judge.ended.Statement.{statement}
 use Rattle.machine_run.proofs.judge.ended.Tie as tie
@@ -52,7 +52,7 @@ returns : tie.Need-returns invariant-loop decreases-loop
 returns c =
     let s = c.before.before.before.before.before.before.before.before in
     λ prog counts.
-    one-goes-on s.args.state.now s.requires.0 s.requires.1 prog counts
+    one_goes_on s.args.state.now s.requires.0 s.requires.1 prog counts
     c.before.before.before.before.before.loop.t
     (omega (
       arith,
@@ -82,7 +82,7 @@ returns-2 : tie.Need-returns-2 invariant-loop decreases-loop
 returns-2 c =
     let s = c.before.before.before.before in
     λ prog counts.
-    all-ended s.args.state.now s.requires.0 s.requires.1 prog counts
+    all_ended s.args.state.now s.requires.0 s.requires.1 prog counts
     (λ t h. c.before.loop.invariant.1 t (omega (arith, c.loop-test.false, c.before.before.wide.ensures)))
 
 pub ended-spec : {M : Type 1} → statement M

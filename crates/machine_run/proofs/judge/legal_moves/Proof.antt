@@ -6,7 +6,7 @@ use native.Mathlib.Omega.{arith}
 use lib.ListN.{length, drop}
 use Rattle.machine_spec.specs.Schedule.{legal}
 use Rattle.machine_spec.specs.Moves.{moves_in}
-use Rattle.machine_run.proofs.Laws.Legal.{legal-more, legal-all}
+use Rattle.machine_run.proofs.Laws.Legal.{legal_more, legal_all}
 use borrow.Author.Rules.{rules}
 use Rattle.machine_run.proofs.judge.legal_moves.Statement.{statement}
 use Rattle.machine_run.proofs.judge.legal_moves.Tie as tie
@@ -38,7 +38,7 @@ loop-again c =
     let test = c.before.before.before.loop-test.true in (
       omega (arith, test),
       l.invariant.1,
-      rw c.legal-move.ensures (rw (twice-more l.k) (legal-more a.n a.limit a.moves.now (2 * l.k)
+      rw c.legal-move.ensures (rw (twice-more l.k) (legal_more a.n a.limit a.moves.now (2 * l.k)
           l.legal (omega (arith, test, l.invariant.1)) ∙ l.invariant.2)),
     )
 
@@ -46,7 +46,7 @@ returns : tie.Need-returns invariant-loop decreases-loop
 returns c =
     let a = c.before.before.before.args in
     let l = c.before.loop in
-    legal-all a.n a.limit a.moves.now (2 * l.k) l.legal (omega (arith, c.loop-test.false, l.invariant.1))
+    legal_all a.n a.limit a.moves.now (2 * l.k) l.legal (omega (arith, c.loop-test.false, l.invariant.1))
     ∙ l.invariant.2
 
 pub legal-moves-spec : {M : Type 1} → statement M

@@ -12,8 +12,8 @@ use Rattle.machine_spec.specs.Moves.{moves_in}
 use Rattle.machine_spec.proofs.Laws.Moves.{moves_at, moves_length}
 use Rattle.machine_run.specs.Runs.{RunnableBy, Ends}
 use Rattle.machine_state.specs.States.{Sized}
-use Rattle.machine_run.proofs.Laws.Runs.{lane_below, lane-moves, inside, Counted}
-use Rattle.machine_run.proofs.Laws.Runs.{counted_few, run-refused, run-counted, ends-all}
+use Rattle.machine_run.proofs.Laws.Runs.{lane_below, lane_moves, inside, Counted}
+use Rattle.machine_run.proofs.Laws.Runs.{counted_few, run_refused, run_counted, ends_all}
 use borrow.Author.Rules.{rules}
 use Rattle.machine_run.proofs.run.run_bytes.Statement.{statement}
 use Rattle.machine_run.proofs.run.run_bytes.Tie as tie
@@ -69,7 +69,7 @@ move-lane-requires c κs =
     let test = c.before.before.before.before.before.before.before.loop-test in
     let at = moves_at s.args.moves.now l.k (omega arith) in
     let runs = s.requires.1.runs in
-    (lane-moves runs l.k _ at _ _ _ l.invariant.0 (l.invariant.5 _ runs), inside runs l.k _ at)
+    (lane_moves runs l.k _ at _ _ _ l.invariant.0 (l.invariant.5 _ runs), inside runs l.k _ at)
 
 add_done : tie.Need-overflow-add-done invariant-loop decreases-loop
 add_done c =
@@ -83,7 +83,7 @@ returns c =
     let s = c.before.before.before.before.before.before.before.before.before.before.before.before.before.before.before in
     let test = c.before.before.before.before.before.before.before.before.before.before.loop-test in
     let at = moves_at s.args.moves.now l.k (omega arith) in
-    λ prog h. run-refused h l.k _ at _ _ _ _ _ l.invariant.0 c.before.before.move-lane.ensures (l.invariant.5 prog h)
+    λ prog h. run_refused h l.k _ at _ _ _ _ _ l.invariant.0 c.before.before.move-lane.ensures (l.invariant.5 prog h)
     c.before.before.before.before.before.before.position.ensures c.enum-told3.given.1
 
 add-k : tie.Need-overflow-add-k invariant-loop decreases-loop
@@ -109,7 +109,7 @@ loop-again c =
       omega arith,
       l.invariant.3,
       l.invariant.4,
-      λ prog h. run-counted h l.k _ at _ _ _ _ _ l.invariant.0 made (l.invariant.5 prog h) _ counted l.invariant.1 refl,
+      λ prog h. run_counted h l.k _ at _ _ _ _ _ l.invariant.0 made (l.invariant.5 prog h) _ counted l.invariant.1 refl,
     )
 
 returns-2 : tie.Need-returns-2 invariant-loop decreases-loop
@@ -119,7 +119,7 @@ returns-2 c =
     let b = s.args.moves.now in
     let all : length (moves_in b) ≤ l.k = omega (arith, moves_length b) in
     let last : l.k ≡ length b / 2 = omega arith in
-    λ prog h. rw (← last) (ends-all _ _ _ prog _ l.k _ _ all (l.invariant.5 prog h))
+    λ prog h. rw (← last) (ends_all _ _ _ prog _ l.k _ _ all (l.invariant.5 prog h))
 
 pub run-bytes-spec : {M : Type 1} → statement M
 run-bytes-spec =

@@ -9,7 +9,7 @@ use Rattle.machine_spec.specs.Entries.{append_entry}
 use Rattle.machine_lane.specs.declared.lane.Lane.{Lane}
 use Rattle.machine_lane.specs.Lanes.{lane_in, placed_at, with_pending, entry_of}
 use Rattle.machine_state.specs.States.{stored_in, lane_of}
-use Rattle.machine_state.proofs.Laws.States.{became, then_became, pending-count}
+use Rattle.machine_state.proofs.Laws.States.{became, then_became, pending_count_lem}
 use borrow.Author.Rules.{rules}
 use Rattle.machine_state.proofs.held.issue.Statement.{statement}
 use Rattle.machine_state.proofs.held.issue.Tie as tie
@@ -23,7 +23,7 @@ put-newest-requires c κs =
     let s = c.before.before.before.before in
     let own = c.before.before.take in
     let more = c.before.append.ensures.len ∙ ap (λ (l : Lane). suc l.len) own.ensures in
-    let few = pending-count s.args.state.now s.args.t s.requires.0 in
+    let few = pending_count_lem s.args.state.now s.args.t s.requires.0 in
     (s.requires.0, more, omega (arith, more, few, s.requires.1))
 
 returns : tie.Need-returns

@@ -4,7 +4,7 @@ use mathlib.Core.Path.{◌≡◌, ap, ◌∙◌}
 use native.Mathlib.Omega.{arith}
 use Rattle.machine_state.specs.States.{HEAD, HIGHMARKS, with_word}
 use Rattle.machine_state.proofs.Laws.States.{came}
-use Rattle.machine_state.proofs.Laws.Writes.{marks-set}
+use Rattle.machine_state.proofs.Laws.Writes.{marks_set}
 use borrow.Author.Rules.{rules}
 use Rattle.machine_state.proofs.held.set_marks.Statement.{statement}
 use Rattle.machine_state.proofs.held.set_marks.Tie as tie
@@ -17,7 +17,7 @@ returns c =
     let whole : m % 2 ^ 32 + 2 ^ 32 * (m / 2 ^ 32) ≡ m = omega arith in
     came (c.put-word2.ensures
     ∙ ap (λ x. with_word x a.t HEAD HIGHMARKS (m / 2 ^ 32)) c.before.before.put_word.ensures)
-    (marks-set a.state.now a.t s.requires (m % 2 ^ 32) (m / 2 ^ 32) m whole)
+    (marks_set a.state.now a.t s.requires (m % 2 ^ 32) (m / 2 ^ 32) m whole)
 
 pub set-marks-spec : {M : Type 1} → statement M
 set-marks-spec =

@@ -4,7 +4,7 @@ use mathlib.Core.Bool.{not}
 use Rattle.machine_spec.specs.Marks.{no_mark}
 use Rattle.machine_lane.specs.Lanes.{flags, entry_of}
 use Rattle.machine_state.specs.States.{VALUES, word_at, lane_of}
-use Rattle.machine_state.proofs.Laws.States.{pending-low}
+use Rattle.machine_state.proofs.Laws.States.{pending_low}
 use Rattle.machine_state.proofs.Laws.Rules.{pso_may, pending_at, none_older}
 use borrow.Author.Rules.{rules}
 use Rattle.machine_state.proofs.rules.may_commit.Statement.{statement}
@@ -13,7 +13,7 @@ use Rattle.machine_state.proofs.rules.may_commit.Tie as tie
 word-at-requires : tie.Need-word-at-requires
 word-at-requires c κs =
     let s = c.before.before.before in
-    let low = pending-low s.args.state.now s.args.t s.requires.0 s.args.index s.requires.1 in
+    let low = pending_low s.args.state.now s.args.t s.requires.0 s.args.index s.requires.1 in
     search rules
 
 is-sync-requires : tie.Need-is-sync-requires
@@ -55,12 +55,12 @@ returns-3 c =
 no-mark-requires : tie.Need-no-mark-requires
 no-mark-requires c κs =
     let s = c.before.before.before.before.before.before.before in
-    pending-low s.args.state.now s.args.t s.requires.0 s.args.index s.requires.1
+    pending_low s.args.state.now s.args.t s.requires.0 s.args.index s.requires.1
 
 word-at-requires-2 : tie.Need-word-at-requires-2
 word-at-requires-2 c κs =
     let s = c.before.before.before.before.before.before.before.before.before in
-    let low = pending-low s.args.state.now s.args.t s.requires.0 s.args.index s.requires.1 in
+    let low = pending_low s.args.state.now s.args.t s.requires.0 s.args.index s.requires.1 in
     search rules
 
 returns-4 : tie.Need-returns-4

@@ -7,7 +7,7 @@ use lib.ListN.{length, take, drop, length-take}
 use Rattle.machine_spec.specs.Entries.{same_target, any_same}
 use Rattle.machine_lane.specs.Lanes.{entry_of}
 use Rattle.machine_state.specs.States.{lane_of}
-use Rattle.machine_state.proofs.Laws.States.{pending-count}
+use Rattle.machine_state.proofs.Laws.States.{pending_count_lem}
 use Rattle.machine_state.proofs.Laws.Searches.{found, next, past, same_at}
 use borrow.Author.Rules.{rules}
 use Rattle.machine_state.proofs.search.has_older.Statement.{statement}
@@ -28,7 +28,7 @@ word-at-requires : tie.Need-word-at-requires invariant-loop decreases-loop
 word-at-requires c κs =
     let s = c.before.before in
     let low : s.args.n ≤ 64 =
-    omega (arith, pending-count s.args.state.now s.args.t s.requires.0, s.requires.1) in
+    omega (arith, pending_count_lem s.args.state.now s.args.t s.requires.0, s.requires.1) in
     search rules
 
 returns : tie.Need-returns invariant-loop decreases-loop

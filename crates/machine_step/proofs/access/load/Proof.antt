@@ -7,7 +7,7 @@ use Rattle.machine_lane.specs.Lanes.{flags}
 use Rattle.machine_state.specs.States.{lane_of}
 use Rattle.machine_lane.proofs.Laws.Lanes.{lane_eq}
 use Rattle.machine_state.proofs.Laws.States.{became}
-use Rattle.machine_step.proofs.Laws.Turns.{kept, not_permitted, took-does}
+use Rattle.machine_step.proofs.Laws.Turns.{kept, not_permitted, took_does}
 use Rattle.machine_step.proofs.access.load.Statement.{statement}
 use Rattle.machine_step.proofs.access.load.Tie as tie
 
@@ -46,7 +46,7 @@ returns-2 c =
     let test = granted c8.may_load.ensures c4.before.before.before.if1.false in
     let seen = sees a.machine (flags a.volatile.now) (lane_of w a.t).pending a.x in
     let value = c4.sees.ensures ∙ ap seen c4.before.memory-at.ensures in
-    rw test (took-does w w _ a.t _ _ (kept w h)
+    rw test (took_does w w _ a.t _ _ (kept w h)
     (became (lane_eq c.before.before.next-position.ensures refl (ap (set (lane_of w a.t).regs a.a) value)
     refl)
     c.write-register.ensures) _)

@@ -5,7 +5,7 @@ use Rattle.machine_spec.specs.Entries.{write, append_entry}
 use Rattle.machine_state.specs.States.{lane_of}
 use Rattle.machine_lane.proofs.Laws.Lanes.{lane_eq}
 use Rattle.machine_state.proofs.Laws.States.{became}
-use Rattle.machine_step.proofs.Laws.Turns.{kept, took-does, write_of}
+use Rattle.machine_step.proofs.Laws.Turns.{kept, took_does, write_of}
 use Rattle.machine_step.proofs.access.store.Statement.{statement}
 use Rattle.machine_step.proofs.access.store.Tie as tie
 
@@ -26,7 +26,7 @@ returns c =
     let h = s.requires.lies.sized in
     let entry = write_of a.x _ s.requires.asked.0
     ∙ ap (write a.x) c.before.before.before.before.register.ensures in
-    λ m f. took-does w w _ a.t _ _ (kept w h)
+    λ m f. took_does w w _ a.t _ _ (kept w h)
     (became (lane_eq c.before.before.next-position.ensures refl refl
     (ap (λ e. append_entry (lane_of w a.t).pending (some e)) entry)) c.issue.ensures) _
 

@@ -8,7 +8,7 @@ use Rattle.machine_lane.specs.Lanes.{entry_of, lane_in, with_pending}
 use Rattle.machine_state.specs.States.{state_in}
 use Rattle.machine_state.proofs.Laws.States.{became, then_became, shared}
 use Rattle.machine_step.proofs.Laws.Turns.{same_lane}
-use Rattle.machine_step.proofs.Laws.Commits.{shifted, commit-past, commit-waits, commit-does}
+use Rattle.machine_step.proofs.Laws.Commits.{shifted, commit_past, commit_waits, commit_does}
 use Rattle.machine_step.proofs.commit.commit.Statement.{statement}
 use Rattle.machine_step.proofs.commit.commit.Tie as tie
 
@@ -19,7 +19,7 @@ returns : tie.Need-returns
 returns c =
     let s = c.before.before.before.before in
     let a = s.args in
-    commit-past a.machine _ a.state.now a.t a.index
+    commit_past a.machine _ a.state.now a.t a.index
     (omega (arith, c.if1.true, c.before.count.ensures.0)) s.requires.sized
 
 may-commit-requires : tie.Need-may-commit-requires
@@ -30,7 +30,7 @@ returns-2 c =
     let c3 = c.before.before.before in
     let s = c3.before.before.before.before in
     let a = s.args in
-    commit-waits a.machine _ a.state.now a.t a.index
+    commit_waits a.machine _ a.state.now a.t a.index
     (omega (arith, c3.if1.false, c3.before.count.ensures.0))
     (denied c.before.may-commit.ensures c.if2.true) s.requires.sized
 
@@ -84,7 +84,7 @@ returns-3 c =
     ∙ ap rest c11.take.ensures in
     let listed = became (ap₂ with_pending (same_lane settled s.requires.lane) left)
     c.before.before.put-list.ensures in
-    commit-does a.machine _ w a.t a.index _ _
+    commit_does a.machine _ w a.t a.index _ _
     (omega (arith, c16.if1.false, c16.before.count.ensures.0))
     (granted c11.before.before.before.may-commit.ensures c11.before.before.if2.false) settled
     (then_became listed (became (ap shifted listed.lane) c.shift-marks.ensures))

@@ -8,7 +8,7 @@ use Rattle.machine_lane.specs.Lanes.{flags, placed_at}
 use Rattle.machine_state.specs.States.{lane_of, state_in}
 use Rattle.machine_lane.proofs.Laws.Lanes.{lane_eq}
 use Rattle.machine_state.proofs.Laws.States.{became, shared}
-use Rattle.machine_step.proofs.Laws.Turns.{not_permitted, took-does, same_lane}
+use Rattle.machine_step.proofs.Laws.Turns.{not_permitted, took_does, same_lane}
 use Rattle.machine_step.proofs.guard.lock.Statement.{statement}
 use Rattle.machine_step.proofs.guard.lock.Tie as tie
 
@@ -60,7 +60,7 @@ returns-3 c =
     let words = shared refl (ap (set (state_in w).locks a.l) (add-one a.t))
     c.before.before.set-lock.ensures in
     let next = c4.next-position.ensures in
-    rw (test, free) (took-does w _ _ a.t _ _ words
+    rw (test, free) (took_does w _ _ a.t _ _ words
     (became (ap (λ l. placed_at l c4.next-position.result) (same_lane words s.requires.lies.lane) ∙ lane_eq next refl
     refl refl) c.go.ensures) _)
 

@@ -5,7 +5,7 @@ use Rattle.machine_spec.specs.Entries.{append_entry}
 use Rattle.machine_state.specs.States.{lane_of}
 use Rattle.machine_lane.proofs.Laws.Lanes.{lane_eq}
 use Rattle.machine_state.proofs.Laws.States.{became}
-use Rattle.machine_step.proofs.Laws.Turns.{kept, took_refusal, took-does, release_of}
+use Rattle.machine_step.proofs.Laws.Turns.{kept, took_refusal, took_does, release_of}
 use Rattle.machine_step.proofs.guard.unlock.Statement.{statement}
 use Rattle.machine_step.proofs.guard.unlock.Tie as tie
 
@@ -35,7 +35,7 @@ returns-2 c =
     let h = s.requires.lies.sized in
     let c4 = c.before.before.before.before in
     let test = eq-eqb _ _ (sym c4.before.lock-at.ensures ∙ c4.if1.false ∙ add-one a.t) in
-    λ m f. rw test (took-does w w _ a.t _ _ (kept w h)
+    λ m f. rw test (took_does w w _ a.t _ _ (kept w h)
     (became (lane_eq c.before.before.next-position.ensures refl refl
     (ap (λ e. append_entry (lane_of w a.t).pending (some e)) (release_of a.l 0))) c.issue.ensures) _)
 

@@ -3,7 +3,7 @@ use Rattle.std.proofs.Common.{◌+◌, ◌%◌, ◌^◌, set, refl, ap, ◌∙�
 use Rattle.machine_state.specs.States.{lane_of}
 use Rattle.machine_lane.proofs.Laws.Lanes.{lane_eq}
 use Rattle.machine_state.proofs.Laws.States.{became}
-use Rattle.machine_step.proofs.Laws.Turns.{kept, took-does}
+use Rattle.machine_step.proofs.Laws.Turns.{kept, took_does}
 use Rattle.machine_step.proofs.local.add.Statement.{statement}
 use Rattle.machine_step.proofs.local.add.Tie as tie
 
@@ -32,7 +32,7 @@ returns c =
     let sum = c4.wrapping-add-u32.ensures
     ∙ ap₂ (λ x y. (x + y) % (2 ^ 32)) c4.before.before.before.register.ensures c4.before.register2.ensures
     in
-    λ m f. took-does w w _ a.t _ _ (kept w h)
+    λ m f. took_does w w _ a.t _ _ (kept w h)
     (became (lane_eq c.before.before.next-position.ensures refl (ap (set (lane_of w a.t).regs a.a) sum)
     refl)
     c.write-register.ensures) _

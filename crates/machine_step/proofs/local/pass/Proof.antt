@@ -4,7 +4,7 @@ use Rattle.laws.proofs.Bools.{denied, granted}
 use Rattle.machine_lane.specs.Lanes.{placed_at}
 use Rattle.machine_lane.proofs.Laws.Lanes.{lane_eq}
 use Rattle.machine_state.proofs.Laws.States.{became, then_became}
-use Rattle.machine_step.proofs.Laws.Turns.{kept, took_wait, took-passes}
+use Rattle.machine_step.proofs.Laws.Turns.{kept, took_wait, took_passes}
 use Rattle.machine_step.proofs.local.pass.Statement.{statement}
 use Rattle.machine_step.proofs.local.pass.Tie as tie
 
@@ -42,7 +42,7 @@ returns-2 c =
     let left = c.before.before.leave-mark.ensures in
     let gone = ap (λ l. placed_at l c4.next-position.result) left.lane
     ∙ lane_eq c4.next-position.ensures refl refl refl in
-    λ f. rw test (took-passes w w _ a.t _ _ (kept w h) (then_became left (became gone c.go.ensures)))
+    λ f. rw test (took_passes w w _ a.t _ _ (kept w h) (then_became left (became gone c.go.ensures)))
 
 pub pass_spec : {M : Type 1} → statement M
 pass_spec =

@@ -2,7 +2,7 @@
 use Rattle.std.proofs.Common.{refl, rules}
 use Rattle.machine_lane.proofs.Laws.Lanes.{lane_eq}
 use Rattle.machine_state.proofs.Laws.States.{became}
-use Rattle.machine_step.proofs.Laws.Turns.{kept, took-does}
+use Rattle.machine_step.proofs.Laws.Turns.{kept, took_does}
 use Rattle.machine_step.proofs.local.set.Statement.{statement}
 use Rattle.machine_step.proofs.local.set.Tie as tie
 
@@ -18,7 +18,7 @@ returns c =
     let a = s.args in
     let w = a.state.now in
     let h = s.requires.lies.sized in
-    λ m f. took-does w w _ a.t _ _ (kept w h)
+    λ m f. took_does w w _ a.t _ _ (kept w h)
     (became (lane_eq c.before.before.next-position.ensures refl refl refl) c.write-register.ensures) _
 
 pub set_spec : {M : Type 1} → statement M

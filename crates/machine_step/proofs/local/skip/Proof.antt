@@ -2,7 +2,7 @@
 use Rattle.std.proofs.Common.{sym, refl, ◌∙◌, rules, eq-eqb, ne_eqb}
 use Rattle.machine_lane.proofs.Laws.Lanes.{lane_eq}
 use Rattle.machine_state.proofs.Laws.States.{became}
-use Rattle.machine_step.proofs.Laws.Turns.{kept, took-does}
+use Rattle.machine_step.proofs.Laws.Turns.{kept, took_does}
 use Rattle.machine_step.proofs.local.skip.Statement.{statement}
 use Rattle.machine_step.proofs.local.skip.Tie as tie
 
@@ -19,7 +19,7 @@ returns c =
     let w = a.state.now in
     let h = s.requires.lies.sized in
     let test = eq-eqb _ 0 (sym c.before.before.before.register.ensures ∙ c.before.before.if1.true) in
-    λ m f. rw test (took-does w w _ a.t _ _ (kept w h) c.go.ensures _)
+    λ m f. rw test (took_does w w _ a.t _ _ (kept w h) c.go.ensures _)
 
 next-position-requires : tie.Need-next-position-requires
 next-position-requires c κs = search rules
@@ -35,7 +35,7 @@ returns-2 c =
     let h = s.requires.lies.sized in
     let c4 = c.before.before.before.before in
     let test = ne_eqb _ 0 (λ e. c4.if1.false (c4.before.register.ensures ∙ e)) in
-    λ m f. rw test (took-does w w _ a.t _ _ (kept w h)
+    λ m f. rw test (took_does w w _ a.t _ _ (kept w h)
     (became (lane_eq c.before.before.next-position.ensures refl refl refl) c.go2.ensures) _)
 
 pub skip-spec : {M : Type 1} → statement M

@@ -5,7 +5,7 @@ use Rattle.sheet_format.specs.Read.{read_rows}
 use Rattle.sheet_rows.proofs.Laws.Read.{row_from}
 use Rattle.machine_lane.specs.Lanes.{flags}
 use Rattle.machine_step.proofs.Laws.Codes.{of_row, ready_as, carried_as}
-use Rattle.machine_step.proofs.Laws.Programs.{row_past, ready_at, made-carry, made-wait}
+use Rattle.machine_step.proofs.Laws.Programs.{row_past, ready_at, made_carry, made_wait}
 use Rattle.machine_step.proofs.step.carry_next.Statement.{statement}
 use Rattle.machine_step.proofs.step.carry_next.Tie as tie
 
@@ -23,7 +23,7 @@ returns c =
     let prog = read_rows a.count b in
     let p = c.before.wide.result in
     let at = ap (get_elem? prog) (sym (c.before.wide.ensures ∙ c.before.before.position.ensures)) in
-    made-wait a.machine (flags a.volatile.now) prog _ a.t (at ∙ row_past a.count b p c.if1.true)
+    made_wait a.machine (flags a.volatile.now) prog _ a.t (at ∙ row_past a.count b p c.if1.true)
     s.requires.0.lies.sized
 
 row-at-requires : tie.Need-row-at-requires
@@ -50,7 +50,7 @@ returns-2 c =
     let at = ap (get_elem? prog) (sym (c.before.before.before.before.wide.ensures ∙ c.before.before.before.before.before.position.ensures)) in
     let here = at ∙ row_from a.count a.first a.sheet.now p c.before.before.before.if1.false in
     let f = flags a.volatile.now in
-    made-carry a.machine f prog _ a.t here
+    made_carry a.machine f prog _ a.t here
     (carried_as a.machine f (of_row c.before.before.row_at.ensures) c.carry.ensures)
 
 pub carry-next-spec : {M : Type 1} → statement M

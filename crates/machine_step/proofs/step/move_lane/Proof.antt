@@ -2,7 +2,7 @@
 use Rattle.std.proofs.Common.{drop, rules}
 use Rattle.sheet_format.specs.Read.{read_rows}
 use Rattle.machine_lane.specs.Lanes.{flags}
-use Rattle.machine_step.proofs.Laws.Programs.{made-commit, made_as}
+use Rattle.machine_step.proofs.Laws.Programs.{made_commit, made_as}
 use Rattle.machine_step.proofs.step.move_lane.Statement.{statement}
 use Rattle.machine_step.proofs.step.move_lane.Tie as tie
 
@@ -23,7 +23,7 @@ returns-2 : tie.Need-returns-2
 returns-2 c =
     let a = c.before.before.before.before.before.args in
     let prog = read_rows a.count (drop a.first a.sheet.now) in
-    made-commit a.machine (flags a.volatile.now) prog _ a.t a.choice c.before.before.if1.false
+    made_commit a.machine (flags a.volatile.now) prog _ a.t a.choice c.before.before.if1.false
     c.commit.ensures
 
 pub move-lane-spec : {M : Type 1} → statement M

@@ -4,7 +4,7 @@ use mathlib.Core.Path.{sym, ap, subst, ◌∙◌}
 use native.Mathlib.Omega.{arith}
 use lib.ListN.{length, get_or}
 use Rattle.laws.proofs.Parts.{take_rest, part_length}
-use Rattle.sheet_format.proofs.Laws.Part.{part-behind, part-before}
+use Rattle.sheet_format.proofs.Laws.Part.{part_behind, part_before}
 use Rattle.sheet_rows.specs.Lanes.{Holds}
 use borrow.Author.Rules.{rules}
 use Rattle.sheet_lanes.proofs.plan.plan_at.Statement.{statement}
@@ -29,14 +29,14 @@ returns c =
     let g = a.args in
     let inside : g.place ≤ length g.plan.now = omega (arith, a.requires.1.2) in
     let part = f.place-lane.new.1.1.1.1.1.0 in
-    let behind = part-behind g.plan.now part g.place inside in (
+    let behind = part_behind g.plan.now part g.place inside in (
       λ ops h p le.
           ap (λ z. get_or z p 0) behind
           ∙ f.place-lane.ensures.1.0 ops
           (subst (λ z. Holds z g.n ops) (sym (take_rest g.first g.rows.now)) h) p (omega (arith, h.count)),
       (
         f.place-lane.ensures.0 ∙ sym (ap (λ z. get_or z g.n 0) behind),
-        λ i lt. part-before g.plan.now part g.place inside i lt,
+        λ i lt. part_before g.plan.now part g.place inside i lt,
       ),
     )
 

@@ -4,7 +4,7 @@ use mathlib.Core.Path.{◌≡◌, refl, ap, subst, ◌∙◌}
 use native.Mathlib.Omega.{arith}
 use lib.ListN.{length, get_or, drop, length-set}
 use Rattle.sheet_lanes.specs.Rows.{PlanFor, plan_from, plan_in, PlansTo}
-use Rattle.sheet_lanes.proofs.Laws.Rows.{part-few, part-inside, part_count, part-plan}
+use Rattle.sheet_lanes.proofs.Laws.Rows.{part_few, part_inside, part_count, part_plan}
 use Rattle.sheet_lanes.proofs.Laws.Rows.{plan_next, plan_room, plans_none, plans_on}
 use borrow.Author.Rules.{rules}
 use Rattle.sheet_lanes.proofs.plan.plan_lanes.Statement.{statement}
@@ -29,8 +29,8 @@ plan-at-requires c κs =
     let w = c.before.before.before.before.before.before.before in
     let k = w.before in
     let s = k.before.before.before in
-    let few = part-few s.args.rows.now s.requires.0 s.requires.1 l.t (omega arith) in
-    let inside = part-inside s.args.rows.now s.requires.0 s.requires.1 l.t (omega arith) in
+    let few = part_few s.args.rows.now s.requires.0 s.requires.1 l.t (omega arith) in
+    let inside = part_inside s.args.rows.now s.requires.0 s.requires.1 l.t (omega arith) in
     let room = plan_room s.args.rows.now l.t (omega arith) s.requires.2 in
     let many = part_count s.args.rows.now s.requires.0 s.requires.1 l.t (omega arith) in (
       (k.known-table.ensures, w.width-table.ensures),
@@ -42,14 +42,14 @@ add-place c =
     let f = c.before.before in
     let l = f.before.before.before.before.before.loop in
     let s = f.before.before.before.before.before.before.before.before.before.before.before.before in
-    omega (arith, l.invariant.5, part-few s.args.rows.now s.requires.0 s.requires.1 l.t (omega arith))
+    omega (arith, l.invariant.5, part_few s.args.rows.now s.requires.0 s.requires.1 l.t (omega arith))
 
 add-place-2 : tie.Need-overflow-add-place-2 invariant-loop decreases-loop
 add-place-2 c =
     let f = c.before.before in
     let l = f.before.before.before.before.before.loop in
     let s = f.before.before.before.before.before.before.before.before.before.before.before.before in
-    omega (arith, l.invariant.5, part-few s.args.rows.now s.requires.0 s.requires.1 l.t (omega arith))
+    omega (arith, l.invariant.5, part_few s.args.rows.now s.requires.0 s.requires.1 l.t (omega arith))
 
 loop-less : tie.Need-loop-smaller invariant-loop decreases-loop
 loop-less c = omega arith
@@ -64,7 +64,7 @@ loop-again c =
     let put = f.plan-at.ensures in
     let e = s.requires.1 in
     let many = part_count rows s.requires.0 e l.t (omega arith) in
-    let few = part-few rows s.requires.0 e l.t (omega arith) in
+    let few = part_few rows s.requires.0 e l.t (omega arith) in
     let there : drop l.place plan ≡ plan_in rows plan l.t = ap (λ n. drop n plan) l.invariant.3 in (
       omega arith,
       f.plan-at.auto.1.1.1.1.1.1.0 ∙ l.invariant.1,
@@ -72,7 +72,7 @@ loop-again c =
       omega (arith, l.invariant.3, plan_next rows l.t, many),
       plans_on rows s.args.mask l.plan plan l.ends l.t f.plan-at.result l.invariant.4
           (omega (arith, l.invariant.2)) (λ i h. put.1.1 i (omega (arith, l.invariant.3)))
-          (part-plan rows s.requires.0 e l.t (omega arith) s.args.mask (plan_in rows plan l.t)
+          (part_plan rows s.requires.0 e l.t (omega arith) s.args.mask (plan_in rows plan l.t)
           (subst (PlanFor (drop (get_or s.args.parts.from l.t 0) rows) (get_or s.args.parts.count l.t 0)
           s.args.mask) there put.0))
           (put.1.0 ∙ ap (λ z. get_or z (get_or s.args.parts.count l.t 0) 0) there

@@ -7,8 +7,8 @@ use native.Mathlib.Omega.{arith}
 use lib.Dec.{eqb}
 use lib.ListN.{length-append}
 use Rattle.sheet_lanes.specs.Put.{load_rows, store_rows}
-use Rattle.sheet_lanes.proofs.Laws.Begins.{begins_length, begins-row, begins_as}
-use Rattle.sheet_lanes.proofs.Laws.Put.{stores-rows}
+use Rattle.sheet_lanes.proofs.Laws.Begins.{begins_length, begins_row, begins_as}
+use Rattle.sheet_lanes.proofs.Laws.Put.{stores_rows}
 use borrow.Author.Rules.{rules}
 use Rattle.sheet_lanes.proofs.steps.put_barriers.Statement.{statement}
 use Rattle.sheet_lanes.proofs.steps.put_barriers.Tie as tie
@@ -34,8 +34,8 @@ returns c =
     let l = s.args.level in
     let code : ℕ = s.args.codes / 2 ^ (8 * (x / 4 % 8)) % 256 in
     let put = g.put-barrier.ensures in
-    begins_as (ap (λ z. load_rows l x ++ z) (stores-rows x s.requires.0 l s.requires.2))
-    (begins-row f.put-loads.ensures (not (eqb code 0)) code put.0 put.1)
+    begins_as (ap (λ z. load_rows l x ++ z) (stores_rows x s.requires.0 l s.requires.2))
+    (begins_row f.put-loads.ensures (not (eqb code 0)) code put.0 put.1)
 
 pub put-barriers-spec : {M : Type 1} → statement M
 put-barriers-spec =

@@ -5,9 +5,9 @@ use mathlib.Core.Bool.{not}
 use lib.Dec.{eqb}
 use Rattle.sheet_format.specs.declared.Level.{Level}
 use Rattle.sheet_lanes.specs.Put.{load_rows}
-use Rattle.sheet_lanes.proofs.Laws.Begins.{begins_none, begins-row, begins_as}
+use Rattle.sheet_lanes.proofs.Laws.Begins.{begins_none, begins_row, begins_as}
 use Rattle.sheet_lanes.proofs.Laws.Level.{no_loads}
-use Rattle.sheet_lanes.proofs.Laws.Put.{loads-rows}
+use Rattle.sheet_lanes.proofs.Laws.Put.{loads_rows}
 use borrow.Author.Rules.{rules}
 use Rattle.sheet_lanes.proofs.steps.put_loads.Statement.{statement}
 use Rattle.sheet_lanes.proofs.steps.put_loads.Tie as tie
@@ -23,8 +23,8 @@ returns c =
     let x = s.args.set in
     let put = f.put-barrier.ensures in
     let none = begins_none {l = s.args.out.now} {i = s.args.at} in
-    let one = begins-row none (not (eqb (x % 4) 0)) (11 + x % 4 / 2) put.0 put.1 in
-    begins_as (loads-rows x s.requires.0 ∙ ap (λ (m : Level). load_rows m x) (sym t.enum_told.given.1)) one
+    let one = begins_row none (not (eqb (x % 4) 0)) (11 + x % 4 / 2) put.0 put.1 in
+    begins_as (loads_rows x s.requires.0 ∙ ap (λ (m : Level). load_rows m x) (sym t.enum_told.given.1)) one
 
 returns-2 : tie.Need-returns-2
 returns-2 c =

@@ -7,7 +7,7 @@ use lib.Seq.{sets, take-take, length-take-le}
 use Rattle.laws.proofs.Bytes.{eight_taken}
 use Rattle.sheet_format.specs.Bytes.{quad_bytes}
 use Rattle.sheet_lanes.specs.Put.{beginning}
-use Rattle.sheet_lanes.proofs.Laws.Put.{half_over, own-skip, own-copy}
+use Rattle.sheet_lanes.proofs.Laws.Put.{half_over, own_skip, own_copy}
 use mathlib.Core.List.{◌++◌}
 use borrow.Author.Rules.{rules}
 use Rattle.sheet_lanes.proofs.steps.put_own.Statement.{statement}
@@ -35,7 +35,7 @@ returns c =
     (length-take-le 8 s (omega (arith, length-drop a.args.from rows, a.requires.1))) refl
     ∙ ap (λ z. sets out a.args.at (z ++ quad_bytes b.beginning.result)) (take-take 4 8 s (omega arith))
     ∙ ap (sets out a.args.at)
-    (own-skip a.args.level a.args.plan.now rows a.args.from t.if1.true target)
+    (own_skip a.args.level a.args.plan.now rows a.args.from t.if1.true target)
 
 returns-2 : tie.Need-returns-2
 returns-2 c =
@@ -43,7 +43,7 @@ returns-2 c =
     let a = k.before.before.before.before.before in
     k.copy-eight.ensures
     ∙ ap (sets a.args.out.now a.args.at) (eight_taken a.args.rows.now a.args.from a.requires.1
-    ∙ own-copy a.args.level a.args.plan.now a.args.rows.now a.args.from c.if1.false)
+    ∙ own_copy a.args.level a.args.plan.now a.args.rows.now a.args.from c.if1.false)
 
 pub put-own-spec : {M : Type 1} → statement M
 put-own-spec =

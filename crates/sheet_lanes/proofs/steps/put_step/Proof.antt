@@ -1,8 +1,8 @@
 -- `sheet_lanes::steps::put_step` meets its contract.
 use Prim.Native.Nat.{◌*◌}
 use native.Mathlib.Omega.{arith}
-use Rattle.sheet_lanes.proofs.Laws.Begins.{begins_length, begins-last}
-use Rattle.sheet_lanes.proofs.Laws.Put.{own-length, step_length}
+use Rattle.sheet_lanes.proofs.Laws.Begins.{begins_length, begins_last}
+use Rattle.sheet_lanes.proofs.Laws.Put.{own_length, step_length}
 use borrow.Author.Rules.{rules}
 use Rattle.sheet_lanes.proofs.steps.put_step.Statement.{statement}
 use Rattle.sheet_lanes.proofs.steps.put_step.Tie as tie
@@ -32,8 +32,8 @@ returns : tie.Need-returns
 returns c =
     let f = c.before.before.before.before.before.before in
     let s = f.before.before.before.before.before.before in
-    let eight = own-length s.args.level s.args.plan.now s.args.rows.now (8 * s.args.p) s.requires.0.0 in
-    begins-last f.put-barriers.ensures _ eight c.before.before.put-own.ensures
+    let eight = own_length s.args.level s.args.plan.now s.args.rows.now (8 * s.args.p) s.requires.0.0 in
+    begins_last f.put-barriers.ensures _ eight c.before.before.put-own.ensures
 
 pub put-step-spec : {M : Type 1} → statement M
 put-step-spec =

@@ -5,10 +5,10 @@ use native.Mathlib.Omega.{arith}
 use lib.ListN.{length, get_or, drop}
 use Rattle.sheet_format.specs.Put.{Puts, in_turn}
 use Rattle.sheet_format.proofs.Laws.Put.{puts_as, puts_length}
-use Rattle.sheet_format.proofs.Laws.Turn.{turn-none, turn_on, turn-fits}
+use Rattle.sheet_format.proofs.Laws.Turn.{turn_none, turn_on_lem, turn_fits}
 use Rattle.sheet_lanes.specs.Put.{lane_rows, SingleTo}
 use Rattle.sheet_lanes.specs.Rows.{plan_from, plan_in, lane_text}
-use Rattle.sheet_lanes.proofs.Laws.Rows.{part-few, part-inside, part_count, part-text}
+use Rattle.sheet_lanes.proofs.Laws.Rows.{part_few, part_inside, part_count, part_text}
 use Rattle.sheet_lanes.proofs.Laws.Rows.{plan_next, plan_room}
 use borrow.Author.Rules.{rules}
 use Rattle.sheet_lanes.proofs.whole.write_lanes.Statement.{statement}
@@ -23,7 +23,7 @@ abbrev decreases-loop : tie.decreases-loop
 decreases-loop level out₀ rows plan codes from count at₀ place₀ t₀ out at place t = 4 - t
 
 loop-holds : tie.Need-loop-init invariant-loop decreases-loop
-loop-holds c = (omega arith, refl, turn-none _, omega arith)
+loop-holds c = (omega arith, refl, turn_none _, omega arith)
 
 put-lane-requires : tie.Need-put-lane-requires invariant-loop decreases-loop
 put-lane-requires c κs =
@@ -38,10 +38,10 @@ put-lane-requires c κs =
     let there : plan_in rows plan l.t ≡ drop l.place plan = ap (λ n. drop n plan) (sym l.invariant.1) in
     let count = get_or g.parts.count l.t 0 in
     let size = ap length (ap (λ x. lane_rows g.level x (drop (get_or g.parts.from l.t 0) rows) count) (sym there)
-    ∙ part-text rows ok.0 ok.1 l.t (omega arith) g.level plan) in
-    let fits = turn-fits (lane_text g.level rows plan) 4 l.t s.requires.1.1 (omega arith) l.invariant.2 in (
+    ∙ part_text rows ok.0 ok.1 l.t (omega arith) g.level plan) in
+    let fits = turn_fits (lane_text g.level rows plan) 4 l.t s.requires.1.1 (omega arith) l.invariant.2 in (
       (
-        part-inside rows ok.0 ok.1 l.t (omega arith),
+        part_inside rows ok.0 ok.1 l.t (omega arith),
         omega (arith, plan_room rows l.t (omega arith) ok.2, l.invariant.1, many),
         k.codes-of.ensures,
       ),
@@ -56,14 +56,14 @@ add-place c =
     let f = c.before.before in
     let l = f.before.before.before.loop in
     let s = f.before.before.before.before.before.before.before.before.before.before in
-    omega (arith, l.invariant.3, part-few s.args.rows.now s.requires.0.0 s.requires.0.1 l.t (omega arith))
+    omega (arith, l.invariant.3, part_few s.args.rows.now s.requires.0.0 s.requires.0.1 l.t (omega arith))
 
 add-place-2 : tie.Need-overflow-add-place-2 invariant-loop decreases-loop
 add-place-2 c =
     let f = c.before.before in
     let l = f.before.before.before.loop in
     let s = f.before.before.before.before.before.before.before.before.before.before in
-    omega (arith, l.invariant.3, part-few s.args.rows.now s.requires.0.0 s.requires.0.1 l.t (omega arith))
+    omega (arith, l.invariant.3, part_few s.args.rows.now s.requires.0.0 s.requires.0.1 l.t (omega arith))
 
 loop-less : tie.Need-loop-smaller invariant-loop decreases-loop
 loop-less c = omega arith
@@ -81,11 +81,11 @@ loop-again c =
     let count = get_or g.parts.count l.t 0 in
     let lane = drop (get_or g.parts.from l.t 0) rows in
     let text = ap (λ n. lane_rows g.level (drop n plan) lane count) l.invariant.1
-    ∙ part-text rows ok.0 ok.1 l.t (omega arith) g.level plan in (
+    ∙ part_text rows ok.0 ok.1 l.t (omega arith) g.level plan in (
       omega arith,
       omega (arith, l.invariant.1, plan_next rows l.t, many),
-      turn_on (lane_text g.level rows plan) l.t l.invariant.2 (puts_as text f.put_lane.ensures),
-      omega (arith, l.invariant.3, part-few rows ok.0 ok.1 l.t (omega arith)),
+      turn_on_lem (lane_text g.level rows plan) l.t l.invariant.2 (puts_as text f.put_lane.ensures),
+      omega (arith, l.invariant.3, part_few rows ok.0 ok.1 l.t (omega arith)),
     )
 
 same_length : tie.Need-same-length invariant-loop decreases-loop

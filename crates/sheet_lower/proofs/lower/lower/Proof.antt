@@ -2,7 +2,7 @@
 use native.Mathlib.Omega.{arith}
 use Rattle.file_format.specs.Structured.{Fielded}
 use borrow.Author.Rules.{rules}
-use Rattle.sheet_lower.proofs.Laws.Early.{fielded, refused-early}
+use Rattle.sheet_lower.proofs.Laws.Early.{fielded, refused_early}
 use Rattle.sheet_lower.proofs.lower.lower.Statement.{statement}
 use Rattle.sheet_lower.proofs.lower.lower.Tie as tie
 
@@ -14,7 +14,7 @@ returns : tie.Need-returns
 returns c =
     let n = c.before.before in
     let a = n.before.before.before.before.args in
-    refused-early a.file.now n.before.field-refusal.ensures n.number_of_lem.ensures c.before.if1.true
+    refused_early a.file.now n.before.field-refusal.ensures n.number_of_lem.ensures c.before.if1.true
     c.record_of.ensures a.level a.out.now
 
 lower-short-requires : tie.Need-lower-short-requires

@@ -8,12 +8,12 @@ use Rattle.file_format.specs.Accepted.{program_of}
 use Rattle.file_format.specs.Structured.{Structured}
 use Rattle.file_verdict.specs.Verdict.{number_of, record_of, verdict, accepted}
 use Rattle.file_verdict.proofs.Laws.Verdict.{sound, accepted_as}
-use Rattle.file_accept.proofs.Laws.Checks.{fields-kept, not-accepted}
+use Rattle.file_accept.proofs.Laws.Checks.{fields_kept, not_accepted}
 use Rattle.sheet_format.specs.declared.WriteResult.TheVariants.{Refuses}
 use Rattle.sheet_format.specs.declared.Level.{Level}
 use Rattle.sheet_format.specs.Bytes.{sheet_bytes}
-use Rattle.sheet_format.proofs.Laws.Loaded.{refused_by, accepted-by, answered-by}
-use Rattle.sheet_format.proofs.Laws.Written.{written-length, answer-short, answer-full}
+use Rattle.sheet_format.proofs.Laws.Loaded.{refused_by, accepted_by, answered_by}
+use Rattle.sheet_format.proofs.Laws.Written.{written_length, answer_short, answer_full}
 use Rattle.sheet_lower.specs.Sheet.{sheet_of}
 use borrow.Author.Rules.{rules}
 use Rattle.sheet_lower.proofs.lower.lower_in.Statement.{statement}
@@ -38,8 +38,8 @@ level s = (start s).args.level
 
 ok : (s : tie.Else1) → verdict (file s) ≡ accepted (program_of (file s))
 ok s =
-    let answer = (judged s).linked-refusal.ensures.0 ∙ sym (fields-kept (file s) (start s).requires.0) in
-    accepted-by (file s) (omega (arith, s.before.number_of_lem.ensures ∙ ap number_of answer, s.if1.false))
+    let answer = (judged s).linked-refusal.ensures.0 ∙ sym (fields_kept (file s) (start s).requires.0) in
+    accepted_by (file s) (omega (arith, s.before.number_of_lem.ensures ∙ ap number_of answer, s.if1.false))
 
 structured : (s : tie.Else1) → Structured (file s)
 structured s = (sound (file s) (accepted_as (file s) (program_of (file s)) (ok s)).0).0
@@ -57,13 +57,13 @@ returns c =
     let x = n.before.before.before.before.before.before.before in
     let a = x.before.before.before.before.before.before.before.before.before.before in
     let file = a.args.file.now in
-    let answer = x.linked-refusal.ensures.0 ∙ sym (fields-kept file a.requires.0) in
+    let answer = x.linked-refusal.ensures.0 ∙ sym (fields_kept file a.requires.0) in
     let number = n.number_of_lem.ensures ∙ ap number_of answer in
     let record_is = c.record_of.ensures ∙ ap record_of answer in
     let some = c.before.if1.true in (
       (λ i. (Refuses (number i) (record_is i), a.args.out.now))
           ∙ sym (refused_by file (sheet_bytes a.args.level) a.args.out.now (omega (arith, number, some))),
-      λ v. absurd (not-accepted file answer (omega (arith, n.number_of_lem.ensures, some)) v),
+      λ v. absurd (not_accepted file answer (omega (arith, n.number_of_lem.ensures, some)) v),
     )
 
 write-sheet-requires : tie.Need-write-sheet-requires
@@ -91,10 +91,10 @@ returns-2 c =
     let s = w.before.before.before.before in
     let put = w.write-sheet.ensures in
     let bytes = sheet_of (level s) (file s) in
-    let long = ap length put.1 ∙ written-length bytes (out s) in
+    let long = ap length put.1 ∙ written_length bytes (out s) in
     let st = structured s in (
-      answer-short bytes (out s) put.1 (omega (arith, put.0, long, c.if2.true))
-          ∙ answered-by (file s) (ok s) (sheet_bytes (level s)) (out s),
+      answer_short bytes (out s) put.1 (omega (arith, put.0, long, c.if2.true))
+          ∙ answered_by (file s) (ok s) (sheet_bytes (level s)) (out s),
       λ v. (judged s).linked-refusal.ensures.1.1 st.linkage st.chains st.targets,
     )
 
@@ -104,10 +104,10 @@ returns-3 c =
     let s = w.before.before.before.before in
     let put = w.write-sheet.ensures in
     let bytes = sheet_of (level s) (file s) in
-    let long = ap length put.1 ∙ written-length bytes (out s) in
+    let long = ap length put.1 ∙ written_length bytes (out s) in
     let st = structured s in (
-      answer-full bytes (out s) put.1 put.0 (omega (arith, put.0, long, c.if2.false))
-          ∙ answered-by (file s) (ok s) (sheet_bytes (level s)) (out s),
+      answer_full bytes (out s) put.1 put.0 (omega (arith, put.0, long, c.if2.false))
+          ∙ answered_by (file s) (ok s) (sheet_bytes (level s)) (out s),
       λ v. (judged s).linked-refusal.ensures.1.1 st.linkage st.chains st.targets,
     )
 

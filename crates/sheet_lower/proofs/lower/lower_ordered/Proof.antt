@@ -1,7 +1,7 @@
 -- `sheet_lower::lower::lower_ordered` meets its contract.
 use Rattle.file_format.specs.Structured.{Fielded}
 use borrow.Author.Rules.{rules}
-use Rattle.sheet_lower.proofs.Laws.Early.{fielded, refused-early, unaccepted-early}
+use Rattle.sheet_lower.proofs.Laws.Early.{fielded, refused_early, unaccepted_early}
 use Rattle.sheet_lower.proofs.lower.lower_ordered.Statement.{statement}
 use Rattle.sheet_lower.proofs.lower.lower_ordered.Tie as tie
 
@@ -19,8 +19,8 @@ returns c =
     let is = n.before.field-refusal.ensures in
     let number = n.number_of_lem.ensures in
     let some = c.before.if1.true in (
-      refused-early a.file.now is number some c.record_of.ensures a.level a.out.now,
-      λ v. absurd (unaccepted-early a.file.now is number some v),
+      refused_early a.file.now is number some c.record_of.ensures a.level a.out.now,
+      λ v. absurd (unaccepted_early a.file.now is number some v),
     )
 
 lower-long-requires : tie.Need-lower-long-requires

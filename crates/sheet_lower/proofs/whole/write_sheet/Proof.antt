@@ -8,14 +8,14 @@ use Rattle.file_format.specs.Fields.{mask}
 use Rattle.file_format.specs.Accepted.{program_of}
 use Rattle.sheet_format.specs.declared.Level.{Level}
 use Rattle.sheet_format.proofs.Laws.Put.{laid_length}
-use Rattle.sheet_format.proofs.Laws.Written.{short-untouched}
+use Rattle.sheet_format.proofs.Laws.Written.{short_untouched}
 use Rattle.sheet_rows.specs.declared.parts.Parts.{Parts}
 use Rattle.sheet_rows.specs.Rows.{parts_in}
 use Rattle.barrier_pass.specs.Plan.{begin_in}
 use Rattle.barrier_pass.proofs.Laws.Read.{begin_small}
 use Rattle.sheet_lanes.specs.Rows.{count_in}
 use Rattle.sheet_lower.specs.Sheet.{sheet_of}
-use Rattle.sheet_lower.proofs.Laws.Sheet.{chains-short, plans-size, plans-single, size-by, room_by, sheet-put}
+use Rattle.sheet_lower.proofs.Laws.Sheet.{chains_short, plans_size, plans_single, size_by, room_by, sheet_put}
 use borrow.Author.Rules.{rules}
 use Rattle.sheet_lower.proofs.whole.write_sheet.Statement.{statement}
 use Rattle.sheet_lower.proofs.whole.write_sheet.Tie as tie
@@ -24,9 +24,9 @@ plan-lanes-requires : tie.Need-plan-lanes-requires
 plan-lanes-requires c κs =
     let a = c.before.before.before.before.before.before.before in
     let s = a.args.s.now in (
-      chains-short s a.requires.0 a.requires.1.0,
+      chains_short s a.requires.0 a.requires.1.0,
       c.before.parts-of.ensures,
-      omega (arith, plans-size s a.requires.0 a.requires.1.0, a.requires.1.1),
+      omega (arith, plans_size s a.requires.0 a.requires.1.0, a.requires.1.1),
     )
 
 -- ## behind the plans: the sizes of the lanes
@@ -72,7 +72,7 @@ small s t h e =
       arith,
       e,
       begin_small (level s) (get_or (ends s) t 0) (count_in (rows s) t)
-          ((chains-short (file s) (start s).requires.0 (start s).requires.1.0).few t h),
+          ((chains_short (file s) (start s).requires.0 (start s).requires.1.0).few t h),
     )
 
 module _ (s : tie.After-begin-in4) where
@@ -101,7 +101,7 @@ module _ (s : tie.After-begin-in4) where
       + (s.before.begin-in3.result + s.begin-in4.result)))
       ≡ length (sheet_of (level s) (file s))
   size =
-      size-by (file s) (start s).pre.0 (start s).pre.1.0 (masked s) (planned s).plan-lanes.ensures (level s)
+      size_by (file s) (start s).pre.0 (start s).pre.1.0 (masked s) (planned s).plan-lanes.ensures (level s)
       ea eb ec ed
 
 -- ## the needs
@@ -124,7 +124,7 @@ add-total-4 c = omega (arith, all_small c)
 returns : tie.Need-returns
 returns c =
     let s = c.before in
-    let short = short-untouched (sheet_of (level s) (file s)) (start s).args.out.now
+    let short = short_untouched (sheet_of (level s) (file s)) (start s).args.out.now
     (omega (arith, size s, c.if1.true)) in
     (size s, ap (λ x. x.1) (sym short))
 
@@ -144,12 +144,12 @@ write-lanes-requires c κs =
     let first = laid_length _ _ _ f.put_first.ensures in
     let counts = laid_length _ _ _ n.put-counts.ensures in (
       (
-        chains-short (file s) a.pre.0 a.pre.1.0,
+        chains_short (file s) a.pre.0 a.pre.1.0,
         parts s,
-        omega (arith, plans-size (file s) a.pre.0 a.pre.1.0, a.pre.1.1, q.kept.1.1.1.0),
+        omega (arith, plans_size (file s) a.pre.0 a.pre.1.0, a.pre.1.1, q.kept.1.1.1.0),
       ),
       (
-        plans-single (file s) a.pre.0 a.pre.1.0 (masked s) q.ensures,
+        plans_single (file s) a.pre.0 a.pre.1.0 (masked s) q.ensures,
         omega (arith, size s, room, (tested f).if1.false, first, counts),
       ),
     )
@@ -172,7 +172,7 @@ returns-2 c =
     let a = start s in
     let n = f.before.before.before in (
       size s,
-      sheet-put (file s) a.pre.0 a.pre.1.0 (masked s) (planned s).plan-lanes.ensures (level s) (ea s) (eb s)
+      sheet_put (file s) a.pre.0 a.pre.1.0 (masked s) (planned s).plan-lanes.ensures (level s) (ea s) (eb s)
           (ec s) (ed s) n.before.before.byte_at.ensures n.before.byte-at2.ensures n.byte-at3.ensures
           f.before.before.level-number.ensures (f.before.mask_at.ensures (program_of (file s)) (masked s))
           a.args.out.now (omega (arith, size s, (tested f).if1.left)) f.put_first.ensures

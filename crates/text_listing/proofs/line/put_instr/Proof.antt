@@ -2,7 +2,7 @@
 use mathlib.Core.Logic.{inl, inr}
 use native.Mathlib.Omega.{arith}
 use Rattle.sheet_format.proofs.Laws.Put.{puts_as, puts_on}
-use Rattle.text_listing.proofs.Laws.Line.{name_end, word-behind, pair-behind, b-behind, none-behind}
+use Rattle.text_listing.proofs.Laws.Line.{name_end, word_behind, pair_behind, b_behind, none_behind}
 use borrow.Author.Rules.{rules}
 use Rattle.text_listing.proofs.line.put_instr.Statement.{statement}
 use Rattle.text_listing.proofs.line.put_instr.Tie as tie
@@ -21,7 +21,7 @@ returns c =
     let m = c.before.before.before.before.before in
     let n = m.before.before.before in
     let x = n.before.before.before.args in
-    puts_as (word-behind x.o x.a x.b x.c m.match.keys1)
+    puts_as (word_behind x.o x.a x.b x.c m.match.keys1)
     (puts_on (n.put-name.ensures x.a x.b x.c) c.before.before.put_two.ensures)
 
 put-two-requires-2 : tie.Need-put-two-requires-2
@@ -38,7 +38,7 @@ returns-2 c =
     let x = n.before.before.before.args in
     let left = m.match.rest.1 in
     puts_as
-    (pair-behind x.o x.a x.b x.c (λ e. left (inl e)) i.before.if1.false i.if2.true)
+    (pair_behind x.o x.a x.b x.c (λ e. left (inl e)) i.before.if1.false i.if2.true)
     (puts_on (n.put-name.ensures x.a x.b x.c) c.before.before.put-two2.ensures)
 
 put-one-requires : tie.Need-put-one-requires
@@ -52,21 +52,21 @@ returns-3 c =
     let i = c.before.before.before.before.before in
     let n = i.before.before.before.before.before.before in
     let x = n.before.before.before.args in
-    puts_as (b-behind x.o x.a x.b x.c i.before.if2.false i.if3.true)
+    puts_as (b_behind x.o x.a x.b x.c i.before.if2.false i.if3.true)
     (puts_on (n.put-name.ensures x.a x.b x.c) c.before.before.put_one.ensures.1)
 
 returns-4 : tie.Need-returns-4
 returns-4 c =
     let n = c.before.before.before.before in
     let x = n.before.before.before.args in
-    puts_as (none-behind x.o x.a x.b x.c (λ p q. omega arith)) (n.put-name.ensures x.a x.b x.c)
+    puts_as (none_behind x.o x.a x.b x.c (λ p q. omega arith)) (n.put-name.ensures x.a x.b x.c)
 
 returns-5 : tie.Need-returns-5
 returns-5 c =
     let m = c.before.before.before in
     let n = m.before.before.before in
     let x = n.before.before.before.args in
-    puts_as (none-behind x.o x.a x.b x.c (λ p q. m.match.rest.1 (inr (omega arith))))
+    puts_as (none_behind x.o x.a x.b x.c (λ p q. m.match.rest.1 (inr (omega arith))))
     (n.put-name.ensures x.a x.b x.c)
 
 pub put-instr-spec : {M : Type 1} → statement M

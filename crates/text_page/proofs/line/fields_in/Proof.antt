@@ -6,7 +6,7 @@ use mathlib.Core.List.{List}
 use native.Mathlib.Omega.{arith}
 use lib.ListN.{drop}
 use Rattle.sheet_format.specs.Layout.{Instr}
-use Rattle.sheet_format.proofs.Laws.Codes.{word-codes, pair-codes, lock-codes, barrier-codes}
+use Rattle.sheet_format.proofs.Laws.Codes.{word_codes, pair_codes, lock_codes, barrier_codes}
 use Rattle.text_page.specs.Columns.{in_column, in_columns}
 use Rattle.text_page.specs.Lines.{columns, field_texts}
 use borrow.Author.Rules.{rules}
@@ -21,14 +21,14 @@ returns : tie.Need-returns
 unfolding in_columns
 returns c =
     let a = c.before.before.before.args in
-    barrier-codes (Laid a.line.now _ a.rec) a.code a.a a.b a.word (λ p q. omega arith) refl
+    barrier_codes (Laid a.line.now _ a.rec) a.code a.a a.b a.word (λ p q. omega arith) refl
 
 returns-2 : tie.Need-returns-2
 unfolding in_columns
 returns-2 c =
     let m = c.before.before.before in
     let a = m.before.before.args in
-    barrier-codes (Laid a.line.now _ a.rec) a.code a.a a.b a.word
+    barrier_codes (Laid a.line.now _ a.rec) a.code a.a a.b a.word
     (λ p q. m.match.rest.1 (inr (omega arith))) refl
 
 returns-3 : tie.Need-returns-3
@@ -38,7 +38,7 @@ returns-3 c =
     let m = w.before.before in
     let a = m.before.before.args in
     let laid = w.pair-in.ensures in
-    word-codes (Laid a.line.now _ a.rec) a.code a.a a.b a.word m.match.keys1 laid laid
+    word_codes (Laid a.line.now _ a.rec) a.code a.a a.b a.word m.match.keys1 laid laid
 
 returns-4 : tie.Need-returns-4
 unfolding in_column in_columns
@@ -48,7 +48,7 @@ returns-4 c =
     let m = i.before.before in
     let a = m.before.before.args in
     let laid = w.pair-in2.ensures in
-    pair-codes (Laid a.line.now _ a.rec) a.code a.a a.b a.word (λ e. m.match.rest.1 (inl e))
+    pair_codes (Laid a.line.now _ a.rec) a.code a.a a.b a.word (λ e. m.match.rest.1 (inl e))
     i.before.if1.false i.if2.true laid laid laid
 
 returns-5 : tie.Need-returns-5
@@ -58,7 +58,7 @@ returns-5 c =
     let i = w.before.before in
     let a = i.before.before.before.before.before.args in
     let laid = w.lock-in.ensures in
-    lock-codes (Laid a.line.now _ a.rec) a.code a.a a.b a.word i.before.if2.false
+    lock_codes (Laid a.line.now _ a.rec) a.code a.a a.b a.word i.before.if2.false
     i.if3.true laid laid
 
 pub fields-in-spec : {M : Type 1} → statement M

@@ -15,7 +15,7 @@ use Rattle.text_page.specs.Lines.{instruction_line, page_lines}
 use Rattle.text_page.specs.Given.{paged, Given}
 use Rattle.text_page.proofs.Laws.Columns.{instruction_length}
 use Rattle.text_page.proofs.Laws.Pages.{headed_few}
-use Rattle.text_page.proofs.Laws.Given.{few-given, rows-given, laid_next, record_next}
+use Rattle.text_page.proofs.Laws.Given.{few_given, rows_given, laid_next, record_next}
 use Rattle.text_page.proofs.Laws.Ranks.{rank_none}
 use borrow.Author.Rules.{rules}
 use Rattle.text_page.proofs.lines.put_lines.Statement.{statement}
@@ -34,7 +34,7 @@ abbrev start : tie.In-loop invariant-loop decreases-loop → tie.Start invariant
 start l = l.before.before.before.before.before.before
 
 few : (l : tie.In-loop invariant-loop decreases-loop) → (start l).args.n ≤ 512
-few l = few-given (start l).requires.1
+few l = few_given (start l).requires.1
 
 loop-holds : tie.Need-loop-init invariant-loop decreases-loop
 unfolding paged
@@ -82,7 +82,7 @@ loop-again c =
     let row = r.row_at.result in
     let read = ap (λ (y : Row). instr_by y.code y.a y.b y.word) r.row_at.ensures in
     let here = w.place_of.ensures.1 sheet a.before.parts-of.ensures
-    (omega (arith, rows-given s.pre.1, l.loop-test.true)) in
+    (omega (arith, rows_given s.pre.1, l.loop-test.true)) in
     let took = c.takes.ensures.1 row.a row.b row.word in
     let place = w.place_of.result in
     let x = instr_by row.code row.a row.b row.word in

@@ -4,7 +4,7 @@ use native.Mathlib.Omega.{arith}
 use Rattle.sheet_format.specs.Bytes.{answer_by}
 use Rattle.sheet_format.proofs.Answers.{told}
 use Rattle.text_page.specs.Pages.{page_text}
-use Rattle.text_page.proofs.Laws.Written.{refused-page, accepted-page, sized-page, given-page}
+use Rattle.text_page.proofs.Laws.Written.{refused_page, accepted_page, sized_page, given_page}
 use borrow.Author.Rules.{rules}
 use Rattle.text_page.proofs.write.write_page.Statement.{statement}
 use Rattle.text_page.proofs.write.write_page.Tie as tie
@@ -14,7 +14,7 @@ sub-put-pages c =
     let a = c.before.before.before in
     let l = a.before.before.before.before in
     let file = l.before.before.before.before.before.args.file.now in
-    omega (arith, sized-page file _ (omega arith) (told a.answer2.given.1 l.lower-ordered.ensures.0))
+    omega (arith, sized_page file _ (omega arith) (told a.answer2.given.1 l.lower-ordered.ensures.0))
 
 put-pages-requires : tie.Need-put-pages-requires
 put-pages-requires c κs =
@@ -22,14 +22,14 @@ put-pages-requires c κs =
     let l = a.before.before.before.before in
     let file = l.before.before.before.before.before.args.file.now in
     let wrote = told a.answer2.given.1 l.lower-ordered.ensures.0 in
-    (_, given-page file _ (omega arith) wrote l.lower-ordered.ensures.1)
+    (_, given_page file _ (omega arith) wrote l.lower-ordered.ensures.1)
 
 returns : tie.Need-returns
 returns c =
     let a = c.before in
     let l = a.before.before.before.before in
     let s = l.before.before.before.before.before in
-    refused-page s.args.file.now _ (omega arith) (told a.answer.given.1 l.lower-ordered.ensures.0)
+    refused_page s.args.file.now _ (omega arith) (told a.answer.given.1 l.lower-ordered.ensures.0)
     s.args.out.now
 
 returns-2 : tie.Need-returns-2
@@ -40,8 +40,8 @@ returns-2 c =
     let s = l.before.before.before.before.before in
     let file = s.args.file.now in
     let wrote = told a.answer2.given.1 l.lower-ordered.ensures.0 in
-    p.put-pages.ensures _ (given-page file _ (omega arith) wrote l.lower-ordered.ensures.1)
-    ∙ sym (ap (λ v. answer_by page_text v s.args.out.now) (accepted-page file _ (omega arith) wrote))
+    p.put-pages.ensures _ (given_page file _ (omega arith) wrote l.lower-ordered.ensures.1)
+    ∙ sym (ap (λ v. answer_by page_text v s.args.out.now) (accepted_page file _ (omega arith) wrote))
 
 pub write-page-spec : {M : Type 1} → statement M
 write-page-spec =

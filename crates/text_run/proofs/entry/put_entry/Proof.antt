@@ -2,7 +2,7 @@
 use mathlib.Core.Path.{sym, ◌∙◌}
 use native.Mathlib.Omega.{arith}
 use Rattle.sheet_format.proofs.Laws.Put.{puts_as, puts_on}
-use Rattle.text_run.proofs.Laws.Entry.{entry-store, entry-release}
+use Rattle.text_run.proofs.Laws.Entry.{entry_store, entry_release}
 use borrow.Author.Rules.{rules}
 use Rattle.text_run.proofs.entry.put_entry.Statement.{statement}
 use Rattle.text_run.proofs.entry.put_entry.Tie as tie
@@ -32,7 +32,7 @@ returns c =
     let c13 = c12.before in
     let c16 = c13.before.before.before in
     let text =
-    entry-store c16.args.s.now c16.args.from c13.byte_at.ensures
+    entry_store c16.args.s.now c16.args.from c13.byte_at.ensures
     (sym c12.byte-at2.ensures ∙ c11.if1.true) c3.quad_at.ensures in (
       omega (arith, c8.put_one.ensures.0, c2.put-one2.ensures.0),
       puts_as text (puts_on c8.put_one.ensures.1 c2.put-one2.ensures.1),
@@ -49,7 +49,7 @@ returns-2 c =
     let c7 = c6.before in
     let c10 = c7.before.before.before in
     let text =
-    entry-release c10.args.s.now c10.args.from c7.byte_at.ensures
+    entry_release c10.args.s.now c10.args.from c7.byte_at.ensures
     (λ e. c5.if1.false (c6.byte-at2.ensures ∙ e)) in
     (omega (arith, c2.put-one3.ensures.0), puts_as text c2.put-one3.ensures.1)
 

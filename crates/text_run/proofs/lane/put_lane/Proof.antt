@@ -5,7 +5,7 @@ use native.Mathlib.Omega.{arith}
 use Rattle.file_format.specs.Fields.{word}
 use Rattle.sheet_format.specs.Put.{Puts, in_turn}
 use Rattle.sheet_format.proofs.Laws.Put.{puts_as, puts_on, puts_length}
-use Rattle.sheet_format.proofs.Laws.Turn.{turn-none, turn_on}
+use Rattle.sheet_format.proofs.Laws.Turn.{turn_none, turn_on_lem}
 use Rattle.machine_record.specs.Fields.{fields_in}
 use Rattle.text_run.specs.Lanes.{pending_line, lane_text}
 use borrow.Author.Rules.{rules}
@@ -34,7 +34,7 @@ put-lane-line-requires c κs =
     omega (arith, c5.requires)
 
 loop-holds : tie.Need-loop-init invariant-loop decreases-loop
-loop-holds c = (omega arith, omega arith, turn-none _)
+loop-holds c = (omega arith, omega arith, turn_none _)
 
 put-pending-requires : tie.Need-put-pending-requires invariant-loop decreases-loop
 put-pending-requires c κs =
@@ -67,7 +67,7 @@ loop-again c =
     let c14 = c5.before.before.before.before.before.before.before.before.before in (
       omega (arith, c4.loop-test.true),
       omega (arith, c2.put-pending.ensures.0, c5.loop.invariant.1),
-      turn_on (pending_line (fields_in c14.args.s.now) c14.args.t) c5.loop.i c5.loop.invariant.2
+      turn_on_lem (pending_line (fields_in c14.args.s.now) c14.args.t) c5.loop.i c5.loop.invariant.2
           c2.put-pending.ensures.1,
     )
 

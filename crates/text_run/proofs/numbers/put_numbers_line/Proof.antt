@@ -5,7 +5,7 @@ use mathlib.Core.List.{◌∷◌}
 use native.Mathlib.Omega.{arith}
 use Rattle.sheet_format.specs.Put.{Puts}
 use Rattle.sheet_format.proofs.Laws.Put.{puts_as, puts_on, puts_length}
-use Rattle.sheet_format.proofs.Laws.Turn.{turn-none, turn_on}
+use Rattle.sheet_format.proofs.Laws.Turn.{turn_none, turn_on_lem}
 use Rattle.text_put.specs.Decimal.{decimal}
 use Rattle.text_put.specs.Words.{space}
 use Rattle.text_run.specs.Lanes.{spaced, number_at}
@@ -24,7 +24,7 @@ put-text-requires : tie.Need-put-text-requires invariant-loop decreases-loop
 put-text-requires c κs = search rules
 
 loop-holds : tie.Need-loop-init invariant-loop decreases-loop
-loop-holds c = (omega arith, omega arith, turn-none _)
+loop-holds c = (omega arith, omega arith, turn_none _)
 
 number-at-requires : tie.Need-number-at-requires invariant-loop decreases-loop
 number-at-requires c κs =
@@ -60,7 +60,7 @@ loop-again c =
     let text = ap (λ v. space ∷ decimal v) c3.number_at.ensures in (
       omega (arith, c6.loop-test.true),
       omega (arith, c2.put_one.ensures.0, c7.loop.invariant.1),
-      turn_on (λ j. space ∷ decimal (number_at a.s.now a.base a.wide j)) c7.loop.i c7.loop.invariant.2
+      turn_on_lem (λ j. space ∷ decimal (number_at a.s.now a.base a.wide j)) c7.loop.i c7.loop.invariant.2
           (puts_as text c2.put_one.ensures.1),
     )
 

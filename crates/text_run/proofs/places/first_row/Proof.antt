@@ -3,7 +3,7 @@ use mathlib.Core.Path.{ap}
 use native.Mathlib.Omega.{arith}
 use lib.ListN.{get_or}
 use Rattle.sheet_rows.specs.declared.parts.Parts.{Parts}
-use Rattle.text_run.proofs.Laws.Places.{from-few, from_none}
+use Rattle.text_run.proofs.Laws.Places.{from_few, from_none}
 use borrow.Author.Rules.{rules}
 use Rattle.text_run.proofs.places.first_row.Statement.{statement}
 use Rattle.text_run.proofs.places.first_row.Tie as tie
@@ -17,7 +17,7 @@ returns c =
     let c3 = c2.before in
     let c4 = c3.before in
     let e = ap (λ (p : Parts). get_or p.from c4.args.t 0) c2.parts-of.ensures in
-    let few = from-few c4.args.rows.now (λ i. omega (arith, c3.shared-slice-known.given i)) c4.args.t in
+    let few = from_few c4.args.rows.now (λ i. omega (arith, c3.shared-slice-known.given i)) c4.args.t in
     (e, omega arith)
 
 returns-2 : tie.Need-returns-2

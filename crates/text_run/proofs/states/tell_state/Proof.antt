@@ -4,7 +4,7 @@ use mathlib.Core.Path.{◌≡◌, ap, ◌∙◌}
 use native.Mathlib.Omega.{arith}
 use Rattle.sheet_format.specs.Put.{Puts, in_turn}
 use Rattle.sheet_format.proofs.Laws.Put.{puts_as, puts_on, puts_length}
-use Rattle.sheet_format.proofs.Laws.Turn.{turn-none, turn_on}
+use Rattle.sheet_format.proofs.Laws.Turn.{turn_none, turn_on_lem}
 use Rattle.machine_record.specs.Fields.{fields_in}
 use Rattle.text_run.specs.Lanes.{lane_text}
 use Rattle.text_run.specs.States.{text_by}
@@ -26,7 +26,7 @@ put-head-requires : tie.Need-put-head-requires invariant-loop decreases-loop
 put-head-requires c κs = search rules
 
 loop-holds : tie.Need-loop-init invariant-loop decreases-loop
-loop-holds c = (omega arith, omega arith, turn-none _)
+loop-holds c = (omega arith, omega arith, turn_none _)
 
 put-lane-requires : tie.Need-put-lane-requires invariant-loop decreases-loop
 put-lane-requires c κs =
@@ -52,7 +52,7 @@ loop-again c =
     let c14 = c5.before.before.before.before.before.before.before.before.before in (
       omega (arith, c4.loop-test.true),
       omega (arith, c2.put_lane.ensures.0, c5.loop.invariant.1),
-      turn_on (lane_text (fields_in c14.args.«record».now)) c5.loop.t c5.loop.invariant.2
+      turn_on_lem (lane_text (fields_in c14.args.«record».now)) c5.loop.t c5.loop.invariant.2
           c2.put_lane.ensures.1,
     )
 

@@ -2,7 +2,7 @@
 use mathlib.Core.Path.{refl}
 use native.Mathlib.Omega.{arith}
 use Rattle.sheet_format.proofs.Laws.Put.{puts_as}
-use Rattle.text_run.proofs.Laws.Lines.{move-inside, line_of}
+use Rattle.text_run.proofs.Laws.Lines.{move_inside, line_of}
 use borrow.Author.Rules.{rules}
 use Rattle.text_run.proofs.whole.run_line.Statement.{statement}
 use Rattle.text_run.proofs.whole.run_line.Tie as tie
@@ -10,12 +10,12 @@ use Rattle.text_run.proofs.whole.run_line.Tie as tie
 shared-slice-read-lane : tie.Need-shared-slice-read-lane
 shared-slice-read-lane c =
     let s = c.before.before.before.before.before.before.before in
-    omega (arith, move-inside s.args.moves.now s.requires)
+    omega (arith, move_inside s.args.moves.now s.requires)
 
 shared-slice-read-choice : tie.Need-shared-slice-read-choice
 shared-slice-read-choice c =
     let s = c.before.before.before.before.before.before.before.before in
-    omega (arith, move-inside s.args.moves.now s.requires)
+    omega (arith, move_inside s.args.moves.now s.requires)
 
 tell-move-requires : tie.Need-tell-move-requires
 tell-move-requires c κs = search rules

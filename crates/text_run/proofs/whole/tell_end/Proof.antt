@@ -2,7 +2,7 @@
 use mathlib.Core.Path.{sym, ◌∙◌}
 use native.Mathlib.Omega.{arith}
 use lib.ListN.{replicate}
-use Rattle.text_run.proofs.Laws.Ends.{end_refused, end-wrote}
+use Rattle.text_run.proofs.Laws.Ends.{end_refused, end_wrote}
 use borrow.Author.Rules.{rules}
 use Rattle.text_run.proofs.whole.tell_end.Statement.{statement}
 use Rattle.text_run.proofs.whole.tell_end.Tie as tie
@@ -19,7 +19,7 @@ returns c =
     let e = w.before.before.before in
     let r = e.before.before.before in
     let s = r.before.before.before.before.before in
-    end-wrote s.args.machine s.args.file.now s.args.moves.now (replicate 2280 0) (omega arith) s.requires
+    end_wrote s.args.machine s.args.file.now s.args.moves.now (replicate 2280 0) (omega arith) s.requires
     s.args.out.now
     ((λ i. (sym e.enum_told.given.1 i, r.run-file.new.1.1.1.0)) ∙ r.run-file.ensures)
     w.tell-state.ensures

@@ -5,7 +5,7 @@ use mathlib.Core.Logic.{⊎_elim}
 use native.Mathlib.Omega.{arith}
 use lib.ListN.{length}
 use Rattle.sheet_format.proofs.Laws.Put.{puts_length}
-use Rattle.text_schedule.proofs.Laws.Lines.{Finishes, finish-next, finish-on, finish-end, finish-room}
+use Rattle.text_schedule.proofs.Laws.Lines.{Finishes, finish_next, finish_on, finish_end, finish_room}
 use borrow.Author.Rules.{rules}
 use Rattle.text_schedule.proofs.lines.lay_moves.Statement.{statement}
 use Rattle.text_schedule.proofs.lines.lay_moves.Tie as tie
@@ -23,7 +23,7 @@ lay-move-requires : tie.Need-lay-move-requires invariant-loop decreases-loop
 lay-move-requires c κs =
     let a = c.before.before.before.before in
     let s = a.before.before.before.args in
-    omega (arith, finish-room s.text.now s.out.now a.loop.i _ _ _ a.loop.invariant.1)
+    omega (arith, finish_room s.text.now s.out.now a.loop.i _ _ _ a.loop.invariant.1)
 
 after-requires : tie.Need-after-requires invariant-loop decreases-loop
 after-requires c κs = search rules
@@ -43,10 +43,10 @@ loop-again c =
       omega arith,
       ⊎_elim
           (λ w. rw (w.5, w.6, w.7)
-          (finish-next s.text.now s.out.now a.loop.i _ t.loop-test.true w.0.taken f
+          (finish_next s.text.now s.out.now a.loop.i _ t.loop-test.true w.0.taken f
           w.2.ensures))
           (λ w. rw (w.2, w.3, w.4, w.1.ensures)
-          (finish-on s.text.now s.out.now a.loop.i _ t.loop-test.true w.0.left f))
+          (finish_on s.text.now s.out.now a.loop.i _ t.loop-test.true w.0.left f))
           c.if1.branch,
     )
 
@@ -54,14 +54,14 @@ lay-move-requires-2 : tie.Need-lay-move-requires-2 invariant-loop decreases-loop
 lay-move-requires-2 c κs =
     let a = c.before.before in
     let s = a.before.before.before.args in
-    omega (arith, finish-room s.text.now s.out.now a.loop.i _ _ _ a.loop.invariant.1)
+    omega (arith, finish_room s.text.now s.out.now a.loop.i _ _ _ a.loop.invariant.1)
 
 same_length : tie.Need-same-length invariant-loop decreases-loop
 same_length c =
     let l = c.before.before.before.before in
     let a = l.before in
     let s = a.before.before.before.args in
-    puts_length (finish-end s.text.now s.out.now a.loop.i _ l.loop-test.false a.loop.invariant.1
+    puts_length (finish_end s.text.now s.out.now a.loop.i _ l.loop-test.false a.loop.invariant.1
     c.before.before.lay-move2.ensures)
 
 returns : tie.Need-returns invariant-loop decreases-loop
@@ -69,7 +69,7 @@ returns c =
     let l = c.before.before.before.before in
     let a = l.before in
     let s = a.before.before.before.args in
-    finish-end s.text.now s.out.now a.loop.i _ l.loop-test.false a.loop.invariant.1
+    finish_end s.text.now s.out.now a.loop.i _ l.loop-test.false a.loop.invariant.1
     c.before.before.lay-move2.ensures
 
 pub lay-moves-spec : {M : Type 1} → statement M

@@ -7,7 +7,7 @@ use native.Mathlib.Omega.{arith}
 use lib.ListN.{length, drop}
 use Rattle.text_schedule.specs.declared.place.Place.TheVariants.{Blank}
 use Rattle.text_schedule.specs.Text.{malformed_from}
-use Rattle.text_schedule.proofs.Laws.Lines.{malformed-line, malformed-next, malformed-on, malformed-end}
+use Rattle.text_schedule.proofs.Laws.Lines.{malformed_line, malformed_next, malformed_on, malformed_end}
 use borrow.Author.Rules.{rules}
 use Rattle.text_schedule.proofs.lines.malformed.Statement.{statement}
 use Rattle.text_schedule.proofs.lines.malformed.Tie as tie
@@ -29,7 +29,7 @@ returns : tie.Need-returns invariant-loop decreases-loop
 returns c =
     let w = c.before.before in
     let a = w.before.before.before in
-    sym (malformed-line a.before.before.args.text.now a.loop.i w.before.before.loop-test.true _ _
+    sym (malformed_line a.before.before.args.text.now a.loop.i w.before.before.loop-test.true _ _
     w.if1.true (sym c.before.is-wrong.ensures ∙ c.if2.true)) ∙ a.loop.invariant.2
 
 add-line : tie.Need-overflow-add-line invariant-loop decreases-loop
@@ -54,13 +54,13 @@ loop-again c =
     (λ w. rw (w.3, w.4) (
       omega arith,
       omega (arith, inv.1),
-      sym (malformed-next s a.loop.i t.loop-test.true _ _ w.0.taken (sym w.1.ensures ∙ w.2.left))
+      sym (malformed_next s a.loop.i t.loop-test.true _ _ w.0.taken (sym w.1.ensures ∙ w.2.left))
           ∙ inv.2,
     ))
     (λ w. rw (w.2, w.3, w.1.ensures) (
       omega arith,
       omega (arith, inv.1),
-      sym (malformed-on s a.loop.i t.loop-test.true _ _ w.0.left) ∙ inv.2,
+      sym (malformed_on s a.loop.i t.loop-test.true _ _ w.0.left) ∙ inv.2,
     ))
     c.if1.branch
 
@@ -72,7 +72,7 @@ returns-2 c =
     let l = c.before.before in
     let a = l.before in
     let wrong = sym c.before.is-wrong2.ensures ∙ c.if3.true in
-    sym (malformed-end a.before.before.args.text.now a.loop.i l.loop-test.false _ _ ∙ rw wrong refl)
+    sym (malformed_end a.before.before.args.text.now a.loop.i l.loop-test.false _ _ ∙ rw wrong refl)
     ∙ a.loop.invariant.2
 
 returns-3 : tie.Need-returns-3 invariant-loop decreases-loop
@@ -80,7 +80,7 @@ returns-3 c =
     let l = c.before.before in
     let a = l.before in
     let right = sym c.before.is-wrong2.ensures ∙ c.if3.false in
-    sym (malformed-end a.before.before.args.text.now a.loop.i l.loop-test.false _ _ ∙ rw right refl)
+    sym (malformed_end a.before.before.args.text.now a.loop.i l.loop-test.false _ _ ∙ rw right refl)
     ∙ a.loop.invariant.2
 
 pub malformed-spec : {M : Type 1} → statement M

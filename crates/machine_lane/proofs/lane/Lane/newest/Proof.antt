@@ -8,7 +8,7 @@ use Rattle.laws.proofs.Parts.{take_length_take}
 use Rattle.machine_spec.specs.Entries.{newest}
 use Rattle.machine_lane.specs.Lanes.{entries_of}
 use Rattle.machine_lane.proofs.Laws.Lanes.{cells_length, values_length}
-use Rattle.machine_lane.proofs.Laws.Searches.{newest-on}
+use Rattle.machine_lane.proofs.Laws.Searches.{newest_on}
 use borrow.Author.Rules.{rules}
 use Rattle.machine_lane.proofs.lane.Lane.newest.Statement.{statement}
 use Rattle.machine_lane.proofs.lane.Lane.newest.Tie as tie
@@ -43,7 +43,7 @@ returns c =
     let on : l.i ≡ suc j = omega arith in (
       refl,
       sym (sym l.invariant.1 ∙ ap (λ n. newest a.cell a.otherwise (take n es)) on
-          ∙ newest-on a.self.cells a.self.values (cells_length a.self _ c4.before.before.well-formed.0)
+          ∙ newest_on a.self.cells a.self.values (cells_length a.self _ c4.before.before.well-formed.0)
           (values_length a.self _ c4.before.before.well-formed.0) a.cell a.otherwise j (omega arith)
           (omega arith)
           ∙ rw (eq-eqb _ _ c.before.if1.true) refl),
@@ -62,7 +62,7 @@ loop-again c =
     let on : l.i ≡ suc j = omega arith in (
       omega arith,
       sym (ap (λ n. newest a.cell a.otherwise (take n es)) on
-          ∙ newest-on a.self.cells a.self.values (cells_length a.self _ c4.before.well-formed.0)
+          ∙ newest_on a.self.cells a.self.values (cells_length a.self _ c4.before.well-formed.0)
           (values_length a.self _ c4.before.well-formed.0) a.cell a.otherwise j (omega arith) (omega arith)
           ∙ rw (ne_eqb _ _ c.if1.false) refl) ∙ l.invariant.1,
     )

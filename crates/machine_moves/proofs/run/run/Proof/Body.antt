@@ -56,7 +56,7 @@ use Rattle.machine_moves.proofs.run.run.Code.Mir.{t-1, t-3, t-5, t-8, t-11}
 use Rattle.machine_course.specs.Returned.{Answers}
 use Rattle.machine_moves.proofs.run.run.Proof.Locals.{machOf, Places}
 use Rattle.machine_moves.proofs.run.run.Proof.Locals.{locals, standing, Rows, State, noX, noY, hasX, hasY}
-use Rattle.machine_moves.proofs.Laws.Arrays.{rows-lawful, state-lawful, array-in, rows_out, state-out}
+use Rattle.machine_moves.proofs.Laws.Arrays.{rows_lawful, state_lawful, array_in, rows_out, state_out}
 use Rattle.machine_moves.proofs.run.run.Proof.Calls.{Bytes, Moves, NoRows, NoState, Begin, RunMoves, Finish}
 use Rattle.machine_moves.proofs.run.run.Proof.Calls.{Known, Post, exits, rows-asked, state-asked}
 use Rattle.machine_moves.proofs.run.run.Proof.Calls.{to-begin, begin-asked, to-moves, moves-asked, to-finish}
@@ -127,7 +127,7 @@ module _ {M : Type 1} {𝓤 : Ura M} (𝓛 : Logic 𝓤) (mem : Memory → SProp
       facts ! N.the_row (Is N.the_row) (shows 𝓛 N.the_row) n (v ∷ []) (λ isn.
       land ! (from ! (stop !)) (init ! 6 refl ((LL.lawful N.the_type N'.the_laws 𝓛).typed n _ isn).0) $
       split ! $ lft_end ! tt $ move ! (0 ∷ 2 ∷ []) $ lent_back ! tt $
-      use1 𝓛 (‵ (froom arr l.state 0)) (state-out 𝓛 l.state z) $ move ! (10 ∷ []) $
+      use1 𝓛 (‵ (froom arr l.state 0)) (state_out 𝓛 l.state z) $ move ! (10 ∷ []) $
       use1 𝓛 (‵ (froom rows_arr l.rows 0)) (rows_out 𝓛 l.rows r) $
       returns ! (look ! 7 refl) $ forget ! 7 refl $ forget ! 8 refl $ forget ! 9 refl $ forget ! 10 refl $
       forget ! 12 refl $ forget ! 19 refl $
@@ -262,10 +262,10 @@ module _ {M : Type 1} {𝓤 : Ura M} (𝓛 : Logic 𝓤) (mem : Memory → SProp
       use1 𝓛 (some (λ (ws : Unit {0}). ‵ (lasts no-state.ended tt tt ws) ⊛ raw (fact 𝓤 (Sized z)))) (id⊢ 𝓤 _) $
       pick ! (λ ws. split ! $ move ! (1 ∷ []) $ heard ! (Sized z) (λ sized. toss ! $ split ! $ toss ! $
       peeks ! R (Is R) (shows 𝓛 R) z (u ∷ []) (λ is.
-      land ! (from ! (stop !)) (init ! 14 refl ((state-lawful 𝓛).typed z _ is).0) $
+      land ! (from ! (stop !)) (init ! 14 refl ((state_lawful 𝓛).typed z _ is).0) $
       assigns ! (of_opd ! (load ! (from ! (stop !)) (look ! 14 refl))) (from ! (stop !))
-      (init ! 10 refl ((state-lawful 𝓛).typed z _ is).0) $ forget ! 14 refl $
-      move ! (10 ∷ 0 ∷ []) $ use2 𝓛 (‵ (State l z)) (array-in 𝓛 (Array (Array u32 64) 3) 5 l.state z u) $
+      (init ! 10 refl ((state_lawful 𝓛).typed z _ is).0) $ forget ! 14 refl $
+      move ! (10 ∷ 0 ∷ []) $ use2 𝓛 (‵ (State l z)) (array_in 𝓛 (Array (Array u32 64) 3) 5 l.state z u) $
       keep ! (1 ∷ 2 ∷ 3 ∷ 4 ∷ 5 ∷ 6 ∷ 7 ∷ 8 ∷ 9 ∷ 0 ∷ 10 ∷ 11 ∷ 12 ∷ 13 ∷ 14 ∷ 15 ∷ 16 ∷ 17 ∷ 18 ∷ 19 ∷ 20 ∷ 21 ∷
       22 ∷ 23 ∷ 24 ∷ 25 ∷ 26 ∷ 27 ∷ 28 ∷ 29 ∷ 30 ∷ 31 ∷ 32 ∷ 33 ∷ []) $ by ! (begins r z long sized))))))
 
@@ -284,9 +284,9 @@ module _ {M : Type 1} {𝓤 : Ura M} (𝓛 : Logic 𝓤) (mem : Memory → SProp
       (id⊢ 𝓤 _) $
       pick ! (λ ws. split ! $ move ! (1 ∷ []) $ heard ! (4112 ≤ length r) (λ long. toss ! $ split ! $ toss ! $
       peeks ! R₀ (Is R₀) (shows 𝓛 R₀) r (u ∷ []) (λ is.
-      land ! (from ! (stop !)) (init ! 13 refl ((rows-lawful 𝓛).typed r _ is).0) $
+      land ! (from ! (stop !)) (init ! 13 refl ((rows_lawful 𝓛).typed r _ is).0) $
       assigns ! (of_opd ! (load ! (from ! (stop !)) (look ! 13 refl))) (from ! (stop !))
-      (init ! 9 refl ((rows-lawful 𝓛).typed r _ is).0) $ forget ! 13 refl $
-      move ! (9 ∷ 0 ∷ []) $ use2 𝓛 (‵ (Rows l r)) (array-in 𝓛 u8 4112 l.rows r u) $
+      (init ! 9 refl ((rows_lawful 𝓛).typed r _ is).0) $ forget ! 13 refl $
+      move ! (9 ∷ 0 ∷ []) $ use2 𝓛 (‵ (Rows l r)) (array_in 𝓛 u8 4112 l.rows r u) $
       keep ! (1 ∷ 2 ∷ 3 ∷ 4 ∷ 5 ∷ 6 ∷ 7 ∷ 8 ∷ 0 ∷ 9 ∷ 10 ∷ 11 ∷ 12 ∷ 13 ∷ 14 ∷ 15 ∷ 16 ∷ 17 ∷ 18 ∷ 19 ∷ 20 ∷ 21 ∷
       22 ∷ 23 ∷ 24 ∷ 25 ∷ 26 ∷ 27 ∷ 28 ∷ 29 ∷ 30 ∷ 31 ∷ 32 ∷ 33 ∷ []) $ by ! (makes-state r long))))))
