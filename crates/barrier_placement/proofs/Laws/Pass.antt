@@ -134,7 +134,7 @@ module _ (s : Chain) (b : Barrier) where
     here_is c =
         ap (λ (n : ℕ). due_in n b c) eh
         ∙ bit_or_lem d (get_or l p 0) (4 * number_of c + bit_of b)
-        ∙ ap₂ (λ (t u : Bool). t || u) (r.due-here c) (r.gathered.ahead p (omega arith) (omega arith) c)
+        ∙ ap₂ (λ (t u : Bool). t || u) (r.due_here c) (r.gathered.ahead p (omega arith) (omega arith) c)
         ∙ sym (due_by p c)
 
     -- what stands at p, of what is due there
