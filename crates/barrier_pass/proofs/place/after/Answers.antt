@@ -8,8 +8,7 @@ use Rattle.barrier_placement.specs.Placed.{bit, bit_of}
 use Rattle.barrier_placement.proofs.Laws.Bits.{differ, bit_or_lem, bit_and_lem, bit_xor_lem}
 use Rattle.barrier_placement.proofs.Laws.Bytes.{spread}
 use borrow.Author.Rules.{rules}
-use Rattle.barrier_pass.proofs.place.after.Statement.{statement}
-use Rattle.barrier_pass.proofs.place.after.Tie as tie
+use Rattle.barrier_pass.proofs.place.after.Goals as goal
 
 -- what is taken out of a set is no longer there
 taken_out : (t u : Bool) → differ t (t && u) ≡ (not u && t)
@@ -18,17 +17,13 @@ taken_out true false = refl
 taken_out false true = refl
 taken_out false false = refl
 
-returns : tie.Need-returns
+pub returns : goal.returns
 returns c = λ b d.
-    let a = c.args in
     let j = 4 * number_of d + bit_of b in
-    let met = bit_and a.due (a.stood * 4369) in
-    bit_or_lem (bit_xor a.due met) a.new j
-    ∙ ap (λ (t : Bool). t || bit a.new j)
-    (bit_xor_lem a.due met j
-    ∙ ap (differ (bit a.due j))
-    (bit_and_lem a.due (a.stood * 4369) j ∙ ap (λ (t : Bool). bit a.due j && t) (spread a.stood c.requires b d))
-    ∙ taken_out (bit a.due j) (bit a.stood (bit_of b)))
-
-pub after-spec : {M : Type 1} → statement M
-after-spec = tie.close (tie.spec (λ c. search rules) returns)
+    let met = bit_and c.args.due (c.args.stood * 4369) in
+    bit_or_lem (bit_xor c.args.due met) c.args.new j
+    ∙ ap (λ (t : Bool). t || bit c.args.new j)
+    (bit_xor_lem c.args.due met j
+    ∙ ap (differ (bit c.args.due j))
+    (bit_and_lem c.args.due (c.args.stood * 4369) j ∙ ap (λ (t : Bool). bit c.args.due j && t) (spread c.args.stood c.requires b d))
+    ∙ taken_out (bit c.args.due j) (bit c.args.stood (bit_of b)))

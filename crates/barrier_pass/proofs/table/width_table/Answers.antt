@@ -8,8 +8,7 @@ use lib.ListN.{get_or}
 use borrow.Author.Tests.{eqb-true}
 use Rattle.laws.proofs.Numbers.{values_at}
 use Rattle.barrier_pass.specs.Plan.{width_number}
-use Rattle.barrier_pass.proofs.table.width_table.Statement.{statement}
-use Rattle.barrier_pass.proofs.table.width_table.Tie as tie
+use Rattle.barrier_pass.proofs.table.width_table.Goals as goal
 
 abbrev table : List ℕ
 table =
@@ -24,8 +23,5 @@ width_is x h =
     eqb-true (get_or table x 0) (width_number x)
     (values_at (λ k. eqb (get_or table k 0) (width_number k)) (λ k. true) 32 x refl h)
 
-returns : tie.Need-returns
+pub returns : goal.returns
 returns c = record { each = width_is }
-
-pub width-table-spec : {M : Type 1} → statement M
-width-table-spec = tie.close (tie.spec returns)
