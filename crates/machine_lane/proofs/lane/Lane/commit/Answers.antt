@@ -15,8 +15,8 @@ use Rattle.machine_lane.proofs.lane.Lane.commit.Goals as goal
 pub loop-i-init : goal.loop-i-init
 loop-i-init c =
     (
-      cells_length c.args.self _ c.well-formed.0,
-      values_length c.args.self _ c.well-formed.0,
+      cells_length c.args.self _ c.well_formed.0,
+      values_length c.args.self _ c.well_formed.0,
       omega arith,
       omega arith,
       omega arith,

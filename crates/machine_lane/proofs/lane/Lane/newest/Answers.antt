@@ -27,8 +27,8 @@ returns-then-c-i c =
     let on : c.loop-i.i ≡ suc j = omega arith in (
       refl,
       sym (sym c.loop-i.invariant.1 ∙ ap (λ n. newest c.args.cell c.args.otherwise (take n es)) on
-          ∙ newest_on c.args.self.cells c.args.self.values (cells_length c.args.self _ c.well-formed.0)
-          (values_length c.args.self _ c.well-formed.0) c.args.cell c.args.otherwise j (omega arith)
+          ∙ newest_on c.args.self.cells c.args.self.values (cells_length c.args.self _ c.well_formed.0)
+          (values_length c.args.self _ c.well_formed.0) c.args.cell c.args.otherwise j (omega arith)
           (omega arith)
           ∙ rw (eq-eqb _ _ c.if-c-i.true) refl),
     )
@@ -40,8 +40,8 @@ loop-i-preserved c =
     let on : c.loop-i.i ≡ suc j = omega arith in (
       omega arith,
       sym (ap (λ n. newest c.args.cell c.args.otherwise (take n es)) on
-          ∙ newest_on c.args.self.cells c.args.self.values (cells_length c.args.self _ c.well-formed.0)
-          (values_length c.args.self _ c.well-formed.0) c.args.cell c.args.otherwise j (omega arith) (omega arith)
+          ∙ newest_on c.args.self.cells c.args.self.values (cells_length c.args.self _ c.well_formed.0)
+          (values_length c.args.self _ c.well_formed.0) c.args.cell c.args.otherwise j (omega arith) (omega arith)
           ∙ rw (ne_eqb _ _ c.if-c-i.false) refl) ∙ c.loop-i.invariant.1,
     )
 
