@@ -1,13 +1,8 @@
 -- `file_chains::link::left_over` meets its contract.
-use Prim.Native.Nat.{◌≤◌, ◌-◌}
-use borrow.Author.Rules.{rules}
-use lib.ListN.{get_or}
-use mathlib.Core.Bool.{not, false}
-use mathlib.Core.Path.{◌≡◌, ap}
+use mathlib.Core.Bool.{not}
+use mathlib.Core.Path.{ap}
 use native.Mathlib.Omega.{arith}
-use Rattle.file_format.specs.Search.{lowest}
 use Rattle.file_format.proofs.Laws.Search.{search_start, search_on, search_found, search_none}
-use Rattle.file_chains.specs.Walks.{met}
 use Rattle.file_chains.proofs.Laws.Tally.{met_up, met_down}
 use Rattle.file_chains.proofs.link.left_over.Goals as goal
 
@@ -21,13 +16,12 @@ returns-then-place-i-eq0 c =
     c.loop-i.invariant.1
 
 pub loop-i-preserved : goal.loop-i-preserved
-loop-i-preserved c =
-    (
-      omega arith,
-      search_on _ _ _ c.loop-i-test.true
-          (ap not (met_up c.args.place.now c.loop-i.i (omega arith) c.if-place-i-eq0.false))
-          c.loop-i.invariant.1,
-    )
+loop-i-preserved c = (
+  omega arith,
+  search_on _ _ _ c.loop-i-test.true
+      (ap not (met_up c.args.place.now c.loop-i.i (omega arith) c.if-place-i-eq0.false))
+      c.loop-i.invariant.1,
+)
 
 pub returns : goal.returns
 returns c = search_none _ _ _ c.loop-i-test.false c.loop-i.invariant.1

@@ -1,14 +1,10 @@
 -- `file_chains::link::left_over` meets its contract.
 use Prim.Native.Nat.{◌≤◌, ◌-◌}
-use borrow.Author.Rules.{rules}
 use lib.ListN.{get_or}
 use mathlib.Core.Bool.{not, false}
-use mathlib.Core.Path.{◌≡◌, ap}
-use native.Mathlib.Omega.{arith}
+use mathlib.Core.Path.{◌≡◌}
 use Rattle.file_format.specs.Search.{lowest}
-use Rattle.file_format.proofs.Laws.Search.{search_start, search_on, search_found, search_none}
 use Rattle.file_chains.specs.Walks.{met}
-use Rattle.file_chains.proofs.Laws.Tally.{met_up, met_down}
 use Rattle.file_chains.proofs.link.left_over.Given as goal
 
 abbrev pub invariant-loop-i : goal.invariant-loop-i

@@ -1,8 +1,6 @@
 -- `file_chains::link::walk` meets its contract. At each record the rest of the walk is the whole walk.
-use Prim.Native.Nat.{◌-◌}
-use borrow.Author.Rules.{rules}
 use native.Mathlib.Omega.{arith}
-use Rattle.file_chains.proofs.Laws.Walks.{Walking, walking_start, walking_room}
+use Rattle.file_chains.proofs.Laws.Walks.{walking_start, walking_room}
 use Rattle.file_chains.proofs.Laws.Walks.{walking_stop, walking_twice, walking_on}
 use Rattle.file_chains.proofs.link.walk.Goals as goal
 

@@ -1,13 +1,9 @@
 -- `file_chains::targets::bad_target` meets its contract.
 use Prim.Native.Nat.{◌≤◌, ◌+◌, ◌-◌}
-use borrow.Author.Rules.{rules}
-use mathlib.Core.Path.{◌≡◌, ◌∙◌, sym, ap}
-use native.Mathlib.Omega.{arith}
+use mathlib.Core.Path.{◌≡◌}
 use Rattle.file_format.specs.Fields.{record_count}
 use Rattle.file_format.specs.Search.{lowest}
 use Rattle.file_format.specs.Targets.{unreachable_target, bad_target}
-use Rattle.file_format.proofs.Laws.Rules.{few_records}
-use Rattle.file_format.proofs.Laws.Search.{search_start, search_on, search_found, search_none}
 use Rattle.file_chains.proofs.targets.bad_target.Given as goal
 
 abbrev pub invariant-loop-i : goal.invariant-loop-i

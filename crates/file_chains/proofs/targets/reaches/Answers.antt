@@ -1,5 +1,4 @@
 -- `file_chains::targets::reaches` meets its contract.
-use borrow.Author.Rules.{rules}
 use borrow.Author.Tests.{le-leb, lt-leb}
 use Rattle.file_chains.proofs.targets.reaches.Goals as goal
 

@@ -1,5 +1,4 @@
 -- `file_chains::targets::strays` meets its contract.
-use borrow.Author.Rules.{rules}
 use borrow.Author.Tests.{eq-eqb}
 use lib.ListN.{get_or}
 use mathlib.Core.Bool.{not}

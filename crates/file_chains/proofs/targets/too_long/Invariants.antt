@@ -1,16 +1,11 @@
 -- `file_chains::targets::too_long` meets its contract.
-use Prim.Native.Nat.{◌+◌, ◌-◌, ◌≤◌}
-use borrow.Author.Rules.{rules}
+use Prim.Native.Nat.{◌-◌, ◌≤◌}
 use lib.ListN.{length, get_or}
-use mathlib.Core.Path.{◌≡◌, ◌∙◌, refl, sym, ap}
-use native.Mathlib.Numerals.{add-one}
-use native.Mathlib.Omega.{arith}
+use mathlib.Core.Path.{◌≡◌}
 use Rattle.file_format.specs.Fields.{head}
 use Rattle.file_format.specs.Search.{first_of}
 use Rattle.file_format.specs.Linkage.{chain, chain_too_long}
-use Rattle.file_format.proofs.Laws.Search.{first_on, first_found, first_none}
 use Rattle.file_chains.specs.Ordered.{begin_of}
-use Rattle.file_chains.proofs.Laws.Places.{end_fits, none_over, one_over}
 use Rattle.file_chains.proofs.targets.too_long.Given as goal
 
 abbrev pub invariant-loop-t : goal.invariant-loop-t

@@ -4,7 +4,6 @@ use mathlib.Core.Path.{ap}
 use lib.ListN.{length}
 use lib.Dec.{eqb}
 use Prim.Native.Nat.{◌+◌, ◌*◌}
-use borrow.Author.Rules.{rules}
 use Rattle.file_fields.proofs.header.bad_length.Goals as goal
 
 pub returns : goal.returns

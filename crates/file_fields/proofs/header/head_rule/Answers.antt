@@ -1,5 +1,4 @@
 -- `file_fields::header::head_rule` meets its contract.
-use borrow.Author.Rules.{rules}
 use borrow.Author.Tests.{lt-ltb, le-ltb}
 use mathlib.Core.Path.{refl}
 use Rattle.file_format.specs.Rules.{head_rule}

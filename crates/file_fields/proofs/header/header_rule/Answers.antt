@@ -1,5 +1,4 @@
 -- `file_fields::header::header_rule` meets its contract.
-use borrow.Author.Rules.{rules}
 use Rattle.file_format.specs.Rules.{header_rule}
 use Rattle.file_fields.proofs.header.header_rule.Goals as goal
 

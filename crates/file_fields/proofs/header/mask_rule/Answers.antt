@@ -1,6 +1,5 @@
 -- `file_fields::header::mask_rule` meets its contract.
 use Prim.Native.Nat.{◌<◌, ◌*◌, ◌^◌, ◌≤◌}
-use borrow.Author.Rules.{rules}
 use borrow.Author.Tests.{lt-ltb}
 use lib.Dec.{lit<}
 use lib.Pow.{pow_mono, shl_exact}

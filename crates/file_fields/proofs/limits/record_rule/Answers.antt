@@ -1,5 +1,4 @@
 -- `file_fields::limits::record_rule` meets its contract.
-use borrow.Author.Rules.{rules}
 use lib.Dec.{ltb, leb}
 use mathlib.Core.Path.{refl, ap₂}
 use native.Mathlib.Omega.{arith}

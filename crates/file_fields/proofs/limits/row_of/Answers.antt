@@ -1,5 +1,4 @@
 -- `file_fields::limits::row_of` meets its contract.
-use borrow.Author.Rules.{rules}
 use borrow.Author.Tests.{lt-ltb, le-ltb}
 use native.Mathlib.Omega.{arith}
 use Rattle.file_fields.proofs.limits.row_of.Goals as goal

@@ -1,12 +1,9 @@
 -- `file_fields::rules::bad_record` meets its contract.
 use Prim.Native.Nat.{◌≤◌, ◌-◌}
-use borrow.Author.Rules.{rules}
 use mathlib.Core.Bool.{not}
-use mathlib.Core.Path.{◌≡◌, ◌∙◌, refl, sym, ap}
-use native.Mathlib.Omega.{arith}
+use mathlib.Core.Path.{◌≡◌}
 use Rattle.file_format.specs.Search.{lowest}
-use Rattle.file_format.proofs.Laws.Search.{search_start, search_on, search_found, search_none}
-use Rattle.file_format.specs.Rules.{record_rule, bad_record, row_b, row_target}
+use Rattle.file_format.specs.Rules.{record_rule, bad_record}
 use Rattle.file_fields.proofs.rules.bad_record.Given as goal
 
 abbrev pub invariant-loop-i : goal.invariant-loop-i
