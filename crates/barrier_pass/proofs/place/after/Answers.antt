@@ -7,7 +7,6 @@ use Rattle.barrier_placement.specs.Cookbook.{number_of}
 use Rattle.barrier_placement.specs.Placed.{bit, bit_of}
 use Rattle.barrier_placement.proofs.Laws.Bits.{differ, bit_or_lem, bit_and_lem, bit_xor_lem}
 use Rattle.barrier_placement.proofs.Laws.Bytes.{spread}
-use borrow.Author.Rules.{rules}
 use Rattle.barrier_pass.proofs.place.after.Goals as goal
 
 -- what is taken out of a set is no longer there

@@ -2,29 +2,14 @@
 -- The loop's invariant: for the operations whose rows are given, due is what is due after the position before p,
 -- brought has what jumps from below p bring to each position from p on, p begins at `at`, and the plan has the numbers
 -- of the positions below p.
-use Prim.Native.Nat.{ℕ, ◌+◌, ◌*◌, ◌<◌, ◌≤◌, ◌-◌}
-use native.Mathlib.Omega.{arith}
-use mathlib.Core.Path.{◌≡◌, refl, sym, ap, subst, ◌∙◌}
+use Prim.Native.Nat.{ℕ, ◌*◌, ◌<◌, ◌≤◌, ◌-◌}
+use mathlib.Core.Path.{◌≡◌}
 use mathlib.Core.List.{List}
-use mathlib.Core.Logic.{inl, inr, ⊎_elim}
-use lib.ListN.{length, get_or, length-set}
-use lib.Seq.{get_or-set_same, get_or-set_other}
+use lib.ListN.{length, get_or}
 use Rattle.file_format.specs.Accepted.{is_volatile}
-use Rattle.file_format.specs.Stored.{no_op}
 use Rattle.file_format.specs.declared.accepted.Op.{Op}
-use Rattle.barrier_placement.specs.declared.cookbook.Barrier.{Barrier}
-use Rattle.barrier_placement.specs.Chain.{at}
-use Rattle.barrier_placement.specs.Placed.{bit, bit_of, landing}
-use Rattle.barrier_placement.specs.Place.{stands}
-use Rattle.barrier_placement.specs.Steps.{steps}
-use Rattle.barrier_placement.proofs.Laws.Pass.{stands_here, turn}
-use Rattle.sheet_rows.specs.declared.read.Row.{Row}
-use Rattle.sheet_rows.specs.Lanes.{fields_of, Holds}
-use Rattle.sheet_rows.proofs.Laws.Lanes.{held_fields}
-use Rattle.barrier_pass.specs.Known.{known_of}
-use Rattle.barrier_pass.proofs.Laws.Known.{step_is}
-use Rattle.barrier_pass.proofs.Laws.Plan.{Placing, placing_none, placing_on, placing_end}
-use borrow.Author.Rules.{rules}
+use Rattle.sheet_rows.specs.Lanes.{Holds}
+use Rattle.barrier_pass.proofs.Laws.Plan.{Placing}
 use Rattle.barrier_pass.proofs.place.place_lane.Given as goal
 
 abbrev pub invariant-loop-p : goal.invariant-loop-p

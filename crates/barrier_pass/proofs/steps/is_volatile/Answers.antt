@@ -8,7 +8,6 @@ use lib.Dec.{eqb, ltb}
 use lib.Pow.{pow_mono}
 use borrow.Author.Tests.{ltb-true, ltb-false}
 use Rattle.file_format.specs.Accepted.{is_volatile}
-use borrow.Author.Rules.{rules}
 use Rattle.barrier_pass.proofs.steps.is_volatile.Goals as goal
 
 both-tests : (mask x : ℕ) → mask < 2 ^ 16 → (eqb (mask / 2 ^ (x % 16) % 2) 1 && ltb x 16) ≡ is_volatile mask x

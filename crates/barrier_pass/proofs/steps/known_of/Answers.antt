@@ -6,7 +6,6 @@ use mir.Val.{bool_byte}
 use Rattle.laws.proofs.Bools.{by_test}
 use Rattle.file_format.specs.Accepted.{is_volatile}
 use Rattle.barrier_pass.proofs.Laws.Known.{known_entry, known_small}
-use borrow.Author.Rules.{rules}
 use Rattle.barrier_pass.proofs.steps.known_of.Goals as goal
 
 -- the place in the table
@@ -14,8 +13,7 @@ inside : (k : ℕ) (u : Bool) → k % 8 + 8 * bool_byte u < 16
 inside k = by_test (λ u. k % 8 + 8 * bool_byte u < 16) (omega arith) (omega arith)
 
 pub returns : goal.returns
-returns c =
-    (
-      λ o ec eb. rw (c.requires, c.is_volatile.ensures, ec, eb) (known_entry (is_volatile c.args.mask) o),
-      rw c.requires (known_small _ (inside c.args.code c.is_volatile.result)),
-    )
+returns c = (
+  λ o ec eb. rw (c.requires, c.is_volatile.ensures, ec, eb) (known_entry (is_volatile c.args.mask) o),
+  rw c.requires (known_small _ (inside c.args.code c.is_volatile.result)),
+)
