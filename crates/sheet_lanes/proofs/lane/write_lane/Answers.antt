@@ -15,7 +15,16 @@ loop-p-init c = (omega arith, turn_none _)
 pub put_step-at-requires : goal.put_step-at-requires
 put_step-at-requires c =
     let text = step_rows c.args.level c.args.plan.now c.args.rows.now in
-    let room : 0 + length (in_turn text c.args.n) ≤ length c.args.part.now = omega (arith, c.requires.room) in record { p_in_bounds = (omega arith, omega (arith, c.requires.rows.1), c.requires.rows.2 c.loop-p.p (omega arith), c.requires.rows.3); p_in_bounds_2 = (turn_fits text c.args.n c.loop-p.p room (omega arith) c.loop-p.invariant.1).1 }
+    let room : 0 + length (in_turn text c.args.n) ≤ length c.args.part.now = omega (arith, c.requires.room) in
+    record {
+      p_in_bounds = (
+        omega arith,
+        omega (arith, c.requires.rows.1),
+        c.requires.rows.2 c.loop-p.p (omega arith),
+        c.requires.rows.3,
+      );
+      p_in_bounds_2 = (turn_fits text c.args.n c.loop-p.p room (omega arith) c.loop-p.invariant.1).1;
+    }
 
 pub loop-p-preserved : goal.loop-p-preserved
 loop-p-preserved c =

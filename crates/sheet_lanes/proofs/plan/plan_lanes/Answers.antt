@@ -16,7 +16,11 @@ plan_at-requires c =
     let few = part_few c.args.rows.now c.requires.0 c.requires.1 c.loop-t.t (omega arith) in
     let inside = part_inside c.args.rows.now c.requires.0 c.requires.1 c.loop-t.t (omega arith) in
     let room = plan_room c.args.rows.now c.loop-t.t (omega arith) c.requires.2 in
-    let many = part_count c.args.rows.now c.requires.0 c.requires.1 c.loop-t.t (omega arith) in record { tables = (c.known_table-known.ensures, c.width_table-widths.ensures); room = (few, inside, omega (arith, c.loop-t.invariant.1, c.loop-t.invariant.3, room, many)) }
+    let many = part_count c.args.rows.now c.requires.0 c.requires.1 c.loop-t.t (omega arith) in
+    record {
+      tables = (c.known_table-known.ensures, c.width_table-widths.ensures);
+      room = (few, inside, omega (arith, c.loop-t.invariant.1, c.loop-t.invariant.3, room, many));
+    }
 
 pub overflow_add-place : goal.overflow_add-place
 overflow_add-place c =
@@ -30,15 +34,20 @@ pub loop-t-preserved : goal.loop-t-preserved
 loop-t-preserved c =
     let many = part_count c.args.rows.now c.requires.0 c.requires.1 c.loop-t.t (omega arith) in
     let few = part_few c.args.rows.now c.requires.0 c.requires.1 c.loop-t.t (omega arith) in
-    let there : drop c.loop-t.place c.plan_at.new.plan ≡ plan_in c.args.rows.now c.plan_at.new.plan c.loop-t.t = ap (λ n. drop n c.plan_at.new.plan) c.loop-t.invariant.3 in (
+    let there : drop c.loop-t.place c.plan_at.new.plan ≡ plan_in c.args.rows.now c.plan_at.new.plan c.loop-t.t =
+    ap (λ n. drop n c.plan_at.new.plan) c.loop-t.invariant.3 in (
       omega arith,
       c.plan_at.auto.plan ∙ c.loop-t.invariant.1,
       length-set c.loop-t.ends c.loop-t.t c.plan_at.result ∙ c.loop-t.invariant.2,
       omega (arith, c.loop-t.invariant.3, plan_next c.args.rows.now c.loop-t.t, many),
-      plans_on c.args.rows.now c.args.mask c.loop-t.plan c.plan_at.new.plan c.loop-t.ends c.loop-t.t c.plan_at.result c.loop-t.invariant.4
-          (omega (arith, c.loop-t.invariant.2)) (λ i h. c.plan_at.ensures.before i (omega (arith, c.loop-t.invariant.3)))
-          (part_plan c.args.rows.now c.requires.0 c.requires.1 c.loop-t.t (omega arith) c.args.mask (plan_in c.args.rows.now c.plan_at.new.plan c.loop-t.t)
-          (subst (PlanFor (drop (get_or c.args.parts.from c.loop-t.t 0) c.args.rows.now) (get_or c.args.parts.count c.loop-t.t 0)
+      plans_on c.args.rows.now c.args.mask c.loop-t.plan c.plan_at.new.plan c.loop-t.ends c.loop-t.t c.plan_at.result
+          c.loop-t.invariant.4
+          (omega (arith, c.loop-t.invariant.2))
+          (λ i h. c.plan_at.ensures.before i (omega (arith, c.loop-t.invariant.3)))
+          (part_plan c.args.rows.now c.requires.0 c.requires.1 c.loop-t.t (omega arith) c.args.mask
+          (plan_in c.args.rows.now c.plan_at.new.plan c.loop-t.t)
+          (subst (PlanFor (drop (get_or c.args.parts.from c.loop-t.t 0) c.args.rows.now)
+          (get_or c.args.parts.count c.loop-t.t 0)
           c.args.mask) there c.plan_at.ensures.lane))
           (c.plan_at.ensures.end ∙ ap (λ z. get_or z (get_or c.args.parts.count c.loop-t.t 0) 0) there
           ∙ ap (λ n. get_or (plan_in c.args.rows.now c.plan_at.new.plan c.loop-t.t) n 0) many),

@@ -12,5 +12,8 @@ use Rattle.sheet_lanes.proofs.steps.put_barriers.Goals as goal
 pub returns : goal.returns
 returns c =
     let code : ℕ = c.args.codes / 2 ^ (8 * (c.args.set / 4 % 8)) % 256 in
-    begins_as (ap (λ z. load_rows c.args.level c.args.set ++ z) (stores_rows c.args.set c.requires.0 c.args.level c.requires.2))
-    (begins_row c.put_loads-behind.ensures (not (eqb code 0)) code c.put_barrier.ensures.bytes c.put_barrier.ensures.behind)
+    begins_as
+    (ap (λ z. load_rows c.args.level c.args.set ++ z)
+    (stores_rows c.args.set c.requires.0 c.args.level c.requires.2))
+    (begins_row c.put_loads-behind.ensures
+    (not (eqb code 0)) code c.put_barrier.ensures.bytes c.put_barrier.ensures.behind)

@@ -14,7 +14,8 @@ use Rattle.sheet_lanes.proofs.steps.put_own.Goals as goal
 pub returns-then-rows-from-eq7 : goal.returns-then-rows-from-eq7
 returns-then-rows-from-eq7 c =
     let s = drop c.args.from c.args.rows.now in
-    let copied = c.copy_eight.ensures ∙ ap (sets c.args.out.now c.args.at) (eight_taken c.args.rows.now c.args.from c.requires.1) in
+    let copied = c.copy_eight.ensures
+    ∙ ap (sets c.args.out.now c.args.at) (eight_taken c.args.rows.now c.args.from c.requires.1) in
     let target =
     c.beginning.ensures ∙ ap (beginning c.args.level c.args.plan.now) c.wide.ensures.0 in
     c.put_quad.ensures.bytes

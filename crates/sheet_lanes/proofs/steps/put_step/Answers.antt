@@ -12,8 +12,16 @@ put_barriers-behind-requires c =
 
 pub put_own-requires : goal.put_own-requires
 put_own-requires c =
-    let size = step_length c.args.level c.args.plan.now c.args.rows.now c.args.p c.requires.p_in_bounds.0 in
-    (omega (arith, size, c.requires.p_in_bounds_2, c.put_barriers-behind.ensures.behind, begins_length c.put_barriers-behind.ensures), c.requires.p_in_bounds.0)
+    let size = step_length c.args.level c.args.plan.now c.args.rows.now c.args.p c.requires.p_in_bounds.0 in (
+      omega (
+        arith,
+        size,
+        c.requires.p_in_bounds_2,
+        c.put_barriers-behind.ensures.behind,
+        begins_length c.put_barriers-behind.ensures,
+      ),
+      c.requires.p_in_bounds.0,
+    )
 
 pub returns : goal.returns
 returns c =

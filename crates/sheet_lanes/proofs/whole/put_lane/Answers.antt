@@ -15,8 +15,16 @@ write_lane-wrote-requires c =
     (take_rest c.args.first c.args.rows.now)) in
     let inside : c.args.at ≤ length c.args.out.now = omega (arith, c.requires.n_in_bounds_2) in record {
       rows = (
-        omega (arith, c.requires.n_in_bounds.0, part_length c.args.rows.now c.args.first (omega (arith, c.requires.n_in_bounds.0))),
-        omega (arith, c.requires.n_in_bounds.1, part_length c.args.plan.now c.args.place (omega (arith, c.requires.n_in_bounds.1))),
+        omega (
+          arith,
+          c.requires.n_in_bounds.0,
+          part_length c.args.rows.now c.args.first (omega (arith, c.requires.n_in_bounds.0)),
+        ),
+        omega (
+          arith,
+          c.requires.n_in_bounds.1,
+          part_length c.args.plan.now c.args.place (omega (arith, c.requires.n_in_bounds.1)),
+        ),
         subst (λ x. SingleTo x c.args.n) (sym (take_rest c.args.place c.args.plan.now)) c.requires.single_to,
         c.requires.n_in_bounds.2,
       );
@@ -31,7 +39,8 @@ overflow_add-result c =
 
 pub returns : goal.returns
 returns c =
-    let text = lane_rows c.args.level (drop c.args.place c.args.plan.now) (drop c.args.first c.args.rows.now) c.args.n in
+    let text =
+    lane_rows c.args.level (drop c.args.place c.args.plan.now) (drop c.args.first c.args.rows.now) c.args.n in
     part_back c.args.out.now text c.args.at c.requires.n_in_bounds_2
     (puts_as (ap₂ (λ x y. lane_rows c.args.level x y c.args.n) (take_rest c.args.place c.args.plan.now)
     (take_rest c.args.first c.args.rows.now))

@@ -6,7 +6,8 @@ use Rattle.sheet_lanes.specs.Rows.{plan_from, lane_text}
 use Rattle.sheet_lanes.proofs.whole.write_lanes.Given as goal
 
 abbrev pub invariant-loop-t : goal.invariant-loop-t
-invariant-loop-t l = (l.t ≤ 4) × (l.place ≡ plan_from l.rows l.t) × Puts l.initial.out 16 (in_turn (lane_text l.level l.rows l.plan) l.t) l.out l.at
+invariant-loop-t l = (l.t ≤ 4) × (l.place ≡ plan_from l.rows l.t)
+    × Puts l.initial.out 16 (in_turn (lane_text l.level l.rows l.plan) l.t) l.out l.at
     × (l.place ≤ 65 * l.t)
 
 abbrev pub decreases-loop-t : goal.decreases-loop-t
