@@ -2,11 +2,7 @@
 use mathlib.Core.Path.{refl}
 use Rattle.sheet_format.specs.declared.Level.TheVariants.{Level2}
 use Rattle.sheet_lanes.proofs.Laws.Put.{codes_by}
-use Rattle.sheet_lanes.proofs.codes.second_codes.Statement.{statement}
-use Rattle.sheet_lanes.proofs.codes.second_codes.Tie as tie
+use Rattle.sheet_lanes.proofs.codes.second_codes.Goals as goal
 
-returns : tie.Need-returns
+pub returns : goal.returns
 returns c = codes_by Level2 _ refl
-
-pub second-codes-spec : {M : Type 1} → statement M
-second-codes-spec = tie.close (tie.spec returns)
