@@ -6,7 +6,6 @@ ghost use Rattle.sheet_format.specs.Bytes.{lower_by};
 ghost use Rattle.file_accept.specs.Size.{size_in};
 
 use crate::accept::accept;
-use bytes::copy;
 use file_verdict::number::{number_of, record_of};
 use sheet_format::WriteResult;
 use sheet_rows::parts::parts_of;
@@ -36,6 +35,6 @@ pub fn chain_file(file: &[u8], out: &mut [u8]) -> WriteResult
     if out.len() < size {
         return WriteResult::Refuses(9, 0);
     }
-    copy(&rows[..size], out);
+    out[..size].copy_from_slice(&rows[..size]);
     WriteResult::Wrote(size)
 }

@@ -6,8 +6,7 @@ use lanes_answers::packed::packed;
 use text_page::write::write_page;
 
 // The pages of the level 2 sheet at the front of `page`; after a refusal `page` is as it was.
-#[unsafe(no_mangle)]
-pub extern "C" fn lanes_page(kernel: &[u8], page: &mut [u8]) -> u64
+pub fn lanes_page(kernel: &[u8], page: &mut [u8]) -> u64
     ensures { (result, page.new) ≡ call_page kernel.now page.old }
 {
     packed(write_page(kernel, page))
