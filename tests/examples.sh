@@ -5,24 +5,24 @@ built=$(mktemp -d)
 trap 'rm -rf "$built"' EXIT
 
 for kernel in examples/*.kernel; do
-    target/bin/lanetext < "$kernel" > "$built/listing"
+    crates/lanetext/out/lanetext < "$kernel" > "$built/listing"
     cmp "$built/listing" "${kernel%.kernel}.listing"
-    target/bin/lanepage < "$kernel" > "$built/page"
+    crates/lanepage/out/lanepage < "$kernel" > "$built/page"
     cmp "$built/page" "${kernel%.kernel}.page"
 done
 
 # the end of the schedule for four lanes, on the three machines
 for machine in source tso pso; do
-    target/bin/lanerun examples/four-lanes.kernel $machine examples/four-lanes.moves > "$built/told"
+    crates/lanerun/out/lanerun examples/four-lanes.kernel $machine examples/four-lanes.moves > "$built/told"
     sed -n '/^done /,$p' "$built/told" > "$built/end"
     { sed "1,/^four-lanes.moves $machine\$/d; /^four-lanes.moves /,\$d" crates/vectors/stdout; echo ran; } |
         cmp "$built/end" -
 done
 
-(cd reference && cargo run --release --offline --quiet --bin listings -- ../target/bin/lanetext listing 1000 1)
-(cd reference && cargo run --release --offline --quiet --bin listings -- ../target/bin/lanepage page 1000 1)
+(cd reference && cargo run --release --offline --quiet --bin listings -- ../crates/lanetext/out/lanetext listing 1000 1)
+(cd reference && cargo run --release --offline --quiet --bin listings -- ../crates/lanepage/out/lanepage page 1000 1)
 
-rt staticlib lanes > "$built/log" || { cat "$built/log"; exit 1; }
+sh tools/liblanes.sh > "$built/log" 2>&1 || { cat "$built/log"; exit 1; }
 cc -std=c99 -Wall -Wextra -Wpedantic -Werror -O2 examples/translate.c target/staticlib/liblanes.a -o "$built/translate"
 "$built/translate" examples/*.kernel > "$built/translated"
 cmp "$built/translated" examples/translate.expected
@@ -35,13 +35,13 @@ cc -std=c11 -Wall -Wextra -Werror -O2 tests/stack.c target/staticlib/liblanes.a 
 printf 'refused 1 record 0\n' > "$built/truncated"
 printf 'refused 3 record 0\n' > "$built/long"
 for program in lanetext lanepage; do
-    target/bin/$program < /dev/null | cmp - "$built/truncated"
+    crates/$program/out/$program < /dev/null | cmp - "$built/truncated"
     { cat examples/store-buffering-mask-3.kernel; head -c 100000 /dev/zero; } |
-        target/bin/$program | cmp - "$built/long"
+        crates/$program/out/$program | cmp - "$built/long"
 done
 # schedules by hand: a move that no machine has, a line that is no move, refused kernels, a file that is not there
 last_line() {
-    target/bin/lanerun "$1" "$2" "$3" | tail -n 1 | grep -Fxq "$4" || { echo "lanerun $1 $2 $3: not '$4'"; exit 1; }
+    crates/lanerun/out/lanerun "$1" "$2" "$3" | tail -n 1 | grep -Fxq "$4" || { echo "lanerun $1 $2 $3: not '$4'"; exit 1; }
 }
 kernel=examples/store-buffering-mask-3.kernel
 printf '0 0\n2 0\n' > "$built/third-lane.moves"

@@ -1,6 +1,8 @@
-// What the programs share: standard output, and the files and schedules that arguments name.
+// What the programs share: standard output, the arguments, and the files and schedules that they name.
 #![tactic(auto)]
 
+pub mod arguments;
 pub mod files;
+pub mod input;
 pub mod print;
 pub mod schedules;

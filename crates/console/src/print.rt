@@ -1,31 +1,32 @@
-// Standard output.
-const STDOUT: i32 = 1;
+// Standard output. A text that cannot be written is an error.
+use std::io;
 
-pub fn say(text: &[u8]) {
-    io::write_all(STDOUT, text);
+pub fn say(rt: &impl Print, text: &[u8]) -> io::Result<()> {
+    rt.write_all(text)
 }
 
 // The first `size` bytes of a text that has been laid.
-pub fn say_part(text: &[u8], size: usize) {
+pub fn say_part(rt: &impl Print, text: &[u8], size: usize) -> io::Result<()> {
     if size <= text.len() {
-        say(&text[..size]);
+        say(rt, &text[..size])?;
     }
+    Ok(())
 }
 
-pub fn say_number(n: usize) {
-    io::print_decimal(STDOUT, n as u64);
+pub fn say_number(rt: &impl Print, n: usize) -> io::Result<()> {
+    rt.print(n)
 }
 
-pub fn say_refusal(number: usize, rec: usize) {
-    say(b"refused ");
-    say_number(number);
-    say(b" record ");
-    say_number(rec);
-    say(b"\n");
+pub fn say_refusal(rt: &impl Print, number: usize, rec: usize) -> io::Result<()> {
+    say(rt, b"refused ")?;
+    say_number(rt, number)?;
+    say(rt, b" record ")?;
+    say_number(rt, rec)?;
+    say(rt, b"\n")
 }
 
-pub fn say_unread(name: &[u8]) {
-    say(b"cannot read ");
-    say(name);
-    say(b"\n");
+pub fn say_unread(rt: &impl Print, name: &[u8]) -> io::Result<()> {
+    say(rt, b"cannot read ")?;
+    say(rt, name)?;
+    say(rt, b"\n")
 }

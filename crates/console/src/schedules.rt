@@ -1,46 +1,51 @@
 // The schedule that an argument names.
-ghost use Rattle.std.specs.Prelude.{◌≡◌, true, take};
+ghost use Rattle.std.specs.Prelude.{◌≡◌, true, take, IfOk, OnErr};
 ghost use Rattle.io.specs.Counts.{IsPrefixLen};
 ghost use Rattle.text_schedule.specs.Text.{moves_of};
 
 use crate::files::{Got, read_named};
 use crate::print::{say, say_number};
+use std::io;
+use std::rt::{Env, Files};
 use text_schedule::whole::{Read, read_schedule};
 
-fn say_malformed(line: usize) {
-    say(b"schedule line ");
-    say_number(line);
-    say(b" is not a move\n");
+fn say_malformed(rt: &impl Print, line: usize) -> io::Result<()> {
+    say(rt, b"schedule line ")?;
+    say_number(rt, line)?;
+    say(rt, b" is not a move\n")
 }
 
-// The moves of a text, two bytes each; if it is no schedule, that is said.
-fn read_text(text: &[u8], moves: &mut [u8]) -> Got
-    ensures prefix_len { IsPrefixLen result.size moves.new }
-    ensures moves_after { result.ok ≡ true → take result.size moves.new ≡ moves_of text.now }
+// The moves of a text, two bytes each; if it is no schedule, that is said. An error is of standard output alone.
+fn read_text(rt: &impl Print, text: &[u8], moves: &mut [u8]) -> io::Result<Got>
+    ensures prefix_len { IfOk result (λ got. IsPrefixLen got.size moves.new) }
+    ensures moves_after { IfOk result (λ got. got.ok ≡ true → take got.size moves.new ≡ moves_of text.now) }
+    ensures err { OnErr result (moves.new ≡ moves.old) }
 {
     let answer = read_schedule(text, moves);
     match answer {
-        Read::Moves(size) => return Got { ok: true, size },
-        Read::Malformed(line) => say_malformed(line),
-        Read::TooLong => say(b"schedule longer than 65535 bytes\n"),
+        Read::Moves(size) => return Ok(Got { ok: true, size }),
+        Read::Malformed(line) => say_malformed(rt, line)?,
+        Read::TooLong => say(rt, b"schedule longer than 65535 bytes\n")?,
     }
-    Got { ok: false, size: 0 }
+    Ok(Got { ok: false, size: 0 })
 }
 
-// The moves of the schedule that argument i names; if it cannot be read, or is none, that is said.
-pub fn read_moves(i: usize, moves: &mut [u8]) -> Got
-    ensures { IsPrefixLen result.size moves.new }
+// The moves of the schedule that argument i names; if it cannot be read, or is none, that is said. An error is of
+// standard output alone, and leaves the moves as they were.
+pub fn read_moves<R: Env + Files + Print>(rt: &R, i: usize, moves: &mut [u8]) -> io::Result<Got>
+    ensures prefix_len { IfOk result (λ got. IsPrefixLen got.size moves.new) }
+    ensures err { OnErr result (moves.new ≡ moves.old) }
 {
-    let mut text = io::large_buffer();
-    let got = read_named(i, &mut text);
+    let mut text = [0u8; 65536];
+    let got = read_named(rt, i, &mut text)?;
     let none = Got { ok: false, size: 0 };
     if !got.ok {
-        return none;
+        return Ok(none);
     }
     let n = got.size;
     if n == 65536 {
-        say(b"schedule longer than 65535 bytes\n");
-        return none;
+        say(rt, b"schedule longer than 65535 bytes\n")?;
+        return Ok(none);
     }
-    read_text(&text[..n], moves)
+    read_text(rt, &text[..n], moves)
 }

@@ -2,18 +2,18 @@
 // which is refused by its header or its length, the first 3,089 bytes are enough.
 #![tactic(auto)]
 
+use console::input::read_full;
 use console::print::say_part;
 use sheet_format::WriteResult;
+use std::io;
 
-const STDIN: i32 = 0;
-
-fn main() {
+fn main(rt: HostRuntime) -> io::Result<()> {
     let mut file = [0u8; 3089];
-    let n = io::read_full(STDIN, &mut file);
-    let mut pages = io::large_buffer();
+    let n = read_full(&mut rt.stdin(), &mut file);
+    let mut pages = [0u8; 65536];
     let answer = text_kernel::print_pages(&file[..n], &mut pages);
     match answer {
-        WriteResult::Wrote(size) => say_part(&pages, size),
-        WriteResult::Refuses(_, _) => return,
+        WriteResult::Wrote(size) => say_part(&rt, &pages, size),
+        WriteResult::Refuses(_, _) => Ok(()),
     }
 }

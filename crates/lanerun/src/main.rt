@@ -5,26 +5,25 @@
 mod files;
 mod tell;
 
+use console::arguments::{argument, argument_count};
 use console::print::say;
 use files::run_files;
 use machine_spec::{Machine, Model};
+use std::io;
 
-fn main() {
-    let mut name = io::buffer();
-    let n = os::arg(2, &mut name);
-    if os::arg_count() == 4 {
+fn main(rt: HostRuntime) -> io::Result<()> {
+    let mut name = [0u8; 4096];
+    let n = argument(&rt, 2, &mut name);
+    if argument_count(&rt) == 4 {
         if check::same(&name[..n], b"source") {
-            run_files(Machine::Source);
-            return;
+            return run_files(&rt, Machine::Source);
         }
         if check::same(&name[..n], b"tso") {
-            run_files(Machine::Target(Model::Tso));
-            return;
+            return run_files(&rt, Machine::Target(Model::Tso));
         }
         if check::same(&name[..n], b"pso") {
-            run_files(Machine::Target(Model::Pso));
-            return;
+            return run_files(&rt, Machine::Target(Model::Pso));
         }
     }
-    say(b"usage: lanerun KERNEL source|tso|pso SCHEDULE\n");
+    say(&rt, b"usage: lanerun KERNEL source|tso|pso SCHEDULE\n")
 }

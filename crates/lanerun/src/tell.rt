@@ -15,26 +15,32 @@ use machine_course::record::write_record;
 use machine_spec::Machine;
 use machine_state::state::State;
 use sheet_format::WriteResult;
+use std::io;
 use text_run::whole::{run_line, tell_end};
 
 // The whole schedule first: a refusal carries out nothing. Then each move, and the state at the end.
-pub(crate) fn run_and_tell(machine: Machine, file: &[u8], moves: &[u8])
+pub(crate) fn run_and_tell(
+    rt: &impl Print,
+    machine: Machine,
+    file: &[u8],
+    moves: &[u8],
+) -> io::Result<()>
     requires { length moves.now ≤ 65536 }
 {
-    let mut end = io::large_buffer();
+    let mut end = [0u8; 65536];
     let answer = tell_end(machine, file, moves, &mut end);
     match answer {
         WriteResult::Wrote(size) => {
-            tell_moves(machine, file, moves);
-            say_part(&end, size);
-            say(b"ran\n");
+            tell_moves(rt, machine, file, moves)?;
+            say_part(rt, &end, size)?;
+            say(rt, b"ran\n")
         }
-        WriteResult::Refuses(number, rec) => say_refusal(number, rec),
+        WriteResult::Refuses(number, rec) => say_refusal(rt, number, rec),
     }
 }
 
 // A line for each move of a schedule that is not refused. The state record after a move is the one before the next.
-fn tell_moves(machine: Machine, file: &[u8], moves: &[u8])
+fn tell_moves(rt: &impl Print, machine: Machine, file: &[u8], moves: &[u8]) -> io::Result<()>
     requires few { length moves.now ≤ 65536 }
     requires runs { (answer_by machine file.now (moves_in moves.now)).number ≡ 0 }
 {
@@ -46,10 +52,11 @@ fn tell_moves(machine: Machine, file: &[u8], moves: &[u8])
     while n < moves.len() / 2 {
         x = fold_move(&rows, moves[2 * n], moves[2 * n + 1], x, &mut state);
         let after = record_of(x, &state);
-        say_line(machine, file, moves, n, &rows, &before, &after);
+        say_line(rt, machine, file, moves, n, &rows, &before, &after)?;
         before = after;
         n += 1;
     }
+    Ok(())
 }
 
 // The state record of the moves so far.
@@ -66,6 +73,7 @@ fn record_of(x: Course, state: &State) -> [u8; 2280]
 
 // Line n of the run.
 fn say_line(
+    rt: &impl Print,
     machine: Machine,
     file: &[u8],
     moves: &[u8],
@@ -73,10 +81,10 @@ fn say_line(
     rows: &Rows,
     before: &[u8; 2280],
     after: &[u8; 2280],
-)
+) -> io::Result<()>
     requires { Between machine file.now (moves_in moves.now) n rows.now before.now after.now }
 {
     let mut line = [0u8; 128];
     let size = run_line(&mut line, machine, file, moves, n, rows, before, after);
-    say_part(&line, size);
+    say_part(rt, &line, size)
 }

@@ -2,65 +2,70 @@
 ghost use Rattle.std.specs.Prelude.{◌+◌, ◌<◌, ◌^◌};
 
 use crate::schedules::tell_schedule;
+use console::arguments::argument;
 use console::files::read_named;
 use console::print::{say, say_number, say_refusal};
 use sheet_format::WriteResult;
 use sheet_lower::lower::{lower1, lower2, lower3};
+use std::io;
+use std::rt::{Env, Files};
 
-pub(crate) fn tell_pairs(n: usize)
+pub(crate) fn tell_pairs<R: Env + Files + Print>(rt: &R, n: usize) -> io::Result<()>
     requires { n < 2 ^ 63 }
 {
     let mut i = 0;
     while i < n {
-        tell_pair(2 * i + 1);
+        tell_pair(rt, 2 * i + 1)?;
         i += 1;
     }
+    Ok(())
 }
 
 // Argument i, and the schedule behind it.
-fn tell_pair(i: usize)
+fn tell_pair<R: Env + Files + Print>(rt: &R, i: usize) -> io::Result<()>
     requires { i + 1 < 2 ^ 64 }
 {
     let mut file = [0u8; 3089];
-    let got = read_named(i, &mut file);
+    let got = read_named(rt, i, &mut file)?;
     if got.ok {
         let n = got.size;
-        say_argument(i);
-        tell_kernel(&file[..n]);
-        tell_schedule(i + 1, &file[..n]);
+        say_argument(rt, i)?;
+        tell_kernel(rt, &file[..n])?;
+        tell_schedule(rt, i + 1, &file[..n])?;
     }
+    Ok(())
 }
 
-pub(crate) fn say_argument(i: usize) {
-    let mut name = io::buffer();
-    let n = os::arg(i, &mut name);
-    say(&name[..n]);
-    say(b" ");
+pub(crate) fn say_argument<R: Env + Print>(rt: &R, i: usize) -> io::Result<()> {
+    let mut name = [0u8; 4096];
+    let n = argument(rt, i, &mut name);
+    say(rt, &name[..n])?;
+    say(rt, b" ")
 }
 
 // The bytes of its three sheets, or why it is refused: every level refuses alike.
-fn tell_kernel(file: &[u8]) {
+fn tell_kernel(rt: &impl Print, file: &[u8]) -> io::Result<()> {
     let mut sheet = [0u8; 6160];
     let first = lower1(file, &mut sheet);
     match first {
         WriteResult::Wrote(size) => {
-            say(b"level 1 ");
-            say_number(size);
+            say(rt, b"level 1 ")?;
+            say_number(rt, size)?;
             let second = lower2(file, &mut sheet);
-            say(b" bytes level 2 ");
-            say_size(second);
+            say(rt, b" bytes level 2 ")?;
+            say_size(rt, second)?;
             let third = lower3(file, &mut sheet);
-            say(b" bytes level 3 ");
-            say_size(third);
-            say(b" bytes\n");
+            say(rt, b" bytes level 3 ")?;
+            say_size(rt, third)?;
+            say(rt, b" bytes\n")
         }
-        WriteResult::Refuses(number, rec) => say_refusal(number, rec),
+        WriteResult::Refuses(number, rec) => say_refusal(rt, number, rec),
     }
 }
 
-fn say_size(answer: WriteResult) {
+fn say_size(rt: &impl Print, answer: WriteResult) -> io::Result<()> {
     match answer {
-        WriteResult::Wrote(size) => say_number(size),
-        WriteResult::Refuses(number, rec) => say_refusal(number, rec),
+        WriteResult::Wrote(size) => say_number(rt, size),
+        WriteResult::Refuses(number, rec) => say_refusal(rt, number, rec),
     }
 }

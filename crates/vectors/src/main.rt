@@ -5,8 +5,10 @@
 mod kernels;
 mod schedules;
 
+use console::arguments::argument_count;
 use kernels::tell_pairs;
+use std::io;
 
-fn main() {
-    tell_pairs(os::arg_count() / 2);
+fn main(rt: HostRuntime) -> io::Result<()> {
+    tell_pairs(&rt, argument_count(&rt) / 2)
 }

@@ -2,48 +2,56 @@
 ghost use Rattle.std.specs.Prelude.{◌≤◌, length};
 
 use crate::kernels::say_argument;
+use console::arguments::argument;
 use console::print::{say, say_part, say_refusal};
 use console::schedules::read_moves;
 use machine_spec::{Machine, Model};
 use sheet_format::WriteResult;
+use std::io;
+use std::rt::{Env, Files};
 use text_run::whole::tell_end;
 
 // The schedule that argument i names, if it names one.
-pub(crate) fn tell_schedule(i: usize, file: &[u8]) {
-    let mut name = io::buffer();
-    let n = os::arg(i, &mut name);
+pub(crate) fn tell_schedule<R: Env + Files + Print>(
+    rt: &R,
+    i: usize,
+    file: &[u8],
+) -> io::Result<()> {
+    let mut name = [0u8; 4096];
+    let n = argument(rt, i, &mut name);
     if check::same(&name[..n], b"-") {
-        return;
+        return Ok(());
     }
-    let mut moves = io::large_buffer();
-    let got = read_moves(i, &mut moves);
+    let mut moves = [0u8; 65536];
+    let got = read_moves(rt, i, &mut moves)?;
     if got.ok {
         let size = got.size;
-        tell_runs(i, file, &moves[..size]);
+        tell_runs(rt, i, file, &moves[..size])?;
     }
+    Ok(())
 }
 
-fn tell_runs(i: usize, file: &[u8], moves: &[u8])
+fn tell_runs<R: Env + Print>(rt: &R, i: usize, file: &[u8], moves: &[u8]) -> io::Result<()>
     requires { length moves.now ≤ 65536 }
 {
-    say_argument(i);
-    say(b"source\n");
-    tell_run(Machine::Source, file, moves);
-    say_argument(i);
-    say(b"tso\n");
-    tell_run(Machine::Target(Model::Tso), file, moves);
-    say_argument(i);
-    say(b"pso\n");
-    tell_run(Machine::Target(Model::Pso), file, moves);
+    say_argument(rt, i)?;
+    say(rt, b"source\n")?;
+    tell_run(rt, Machine::Source, file, moves)?;
+    say_argument(rt, i)?;
+    say(rt, b"tso\n")?;
+    tell_run(rt, Machine::Target(Model::Tso), file, moves)?;
+    say_argument(rt, i)?;
+    say(rt, b"pso\n")?;
+    tell_run(rt, Machine::Target(Model::Pso), file, moves)
 }
 
-fn tell_run(machine: Machine, file: &[u8], moves: &[u8])
+fn tell_run(rt: &impl Print, machine: Machine, file: &[u8], moves: &[u8]) -> io::Result<()>
     requires { length moves.now ≤ 65536 }
 {
-    let mut text = io::large_buffer();
+    let mut text = [0u8; 65536];
     let answer = tell_end(machine, file, moves, &mut text);
     match answer {
-        WriteResult::Wrote(size) => say_part(&text, size),
-        WriteResult::Refuses(number, rec) => say_refusal(number, rec),
+        WriteResult::Wrote(size) => say_part(rt, &text, size),
+        WriteResult::Refuses(number, rec) => say_refusal(rt, number, rec),
     }
 }
