@@ -15,7 +15,8 @@ use Rattle.sheet_format.specs.Bytes.{sheet_bytes, lower_by}
 use Rattle.sheet_format.proofs.Laws.Loaded.{refused_by}
 
 -- their answer, and its number
-module _ (s : List ℕ) {early : Refusal} {n : ℕ} (is : early ≡ fields_then s Accepted) (number : n ≡ number_of early) where
+module _ (s : List ℕ) {early : Refusal} {n : ℕ} (is : early ≡ fields_then s Accepted)
+    (number : n ≡ number_of early) where
   pub fielded : n ≡ 0 → Fielded s
   fielded z = fields_passed s (sym (ap number_of is) ∙ sym number ∙ z)
 
