@@ -25,13 +25,12 @@ use Rattle.claims_examples.specs.Table.{table, Each, end, ◌▸◌}
 use Rattle.claims_examples.proofs.Never.{never_on_tso, never_on_pso, never_on_source}
 
 pub examples : Each table
-unfolding table refusal_of structure_then fields_then header_rule head_rule bad_record record_rule limit_a limit_b limit_constant
-    limit_target lowest first_of bad_linkage linkage_from chain member walk_of chain_too_long bad_target unreachable_target
-    lock_fault
-    lock_order all_below descent_at descent_position position
-    op_of ops_from record_at fault_position fault_at conflict_below held_from same stands due due_after sheet_bytes read_sheet
-    in_turn entries_bytes state_lane head_bytes record_of
-    digits decimal instr_text line_of first_line ones_in ones lane_lines sheet_lines listing
+unfolding table refusal_of structure_then fields_then header_rule head_rule bad_record record_rule limit_a limit_b
+    limit_constant limit_target lowest first_of bad_linkage linkage_from chain member walk_of chain_too_long
+    bad_target unreachable_target lock_fault lock_order all_below descent_at descent_position position op_of ops_from
+    record_at fault_position fault_at conflict_below held_from same stands due due_after sheet_bytes read_sheet
+    in_turn entries_bytes state_lane head_bytes record_of digits decimal instr_text line_of first_line ones_in ones
+    lane_lines sheet_lines listing
 examples =
     refl ▸ refl ▸ refl ▸ refl ▸ never_on_tso ▸ never_on_source
     ▸ refl ▸ refl ▸ refl ▸ refl ▸ refl ▸ refl

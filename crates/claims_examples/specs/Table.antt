@@ -1,6 +1,7 @@
 -- The starred examples of paper 01 as one table over the bytes of kernel files, examples of paper 02, and behind them a
 -- kernel of four lanes through every call. Its one theorem is proofs/Examples.
-use Rattle.std.specs.Prelude.{ℕ, zero, suc, ◌+◌, ◌-◌, ◌/◌, ◌≡◌, Bool, true, false, ◌&&◌, List, [], ◌∷◌, ◌++◌, map, eqb, length, get_or, take, drop, replicate}
+use Rattle.std.specs.Prelude.{ℕ, zero, suc, ◌+◌, ◌-◌, ◌/◌, ◌≡◌, Bool, true, false, ◌&&◌, List, [], ◌∷◌, ◌++◌, map, eqb}
+use Rattle.std.specs.Prelude.{length, get_or, take, drop, replicate}
 use Rattle.file_verdict.specs.Verdict.{verdict}
 use Rattle.sheet_format.specs.declared.Level.{Level}
 use Rattle.sheet_format.specs.declared.Level.TheVariants.{Level1, Level2, Level3}
@@ -187,7 +188,8 @@ table =
     ∷ shows Level3 (lane (PS ∷ VS ∷ [])) (codes (4 ∷ 13 ∷ 4 ∷ []))
     ∷ shows Level3 (lane (VL ∷ PL ∷ PS ∷ [])) (codes (3 ∷ 3 ∷ 4 ∷ []))
     ∷ shows Level3 (lane (LOCK ∷ UNLOCK ∷ LOCK ∷ UNLOCK ∷ [])) (codes (5 ∷ 6 ∷ 5 ∷ 13 ∷ 6 ∷ []))
-    ∷ shows Level3 (lane (VS ∷ skip_to 4 ∷ VL ∷ LOCK ∷ UNLOCK ∷ [])) ((4, 0) ∷ (7, 4) ∷ codes (14 ∷ 3 ∷ 5 ∷ 13 ∷ 6 ∷ []))
+    ∷ shows Level3 (lane (VS ∷ skip_to 4 ∷ VL ∷ LOCK ∷ UNLOCK ∷ []))
+        ((4, 0) ∷ (7, 4) ∷ codes (14 ∷ 3 ∷ 5 ∷ 13 ∷ 6 ∷ []))
     -- and on the pso machine store buffering never finishes with both zero, but for mask 1
     ∷ never (Target Pso) (store_buffering 3)
     ∷ ends (Target Pso) (store_buffering 3) (straight 0 ++ straight 1) true (0 ∷ 1 ∷ [])

@@ -204,7 +204,10 @@ calls =
     ∷ (called (call_run_source kernel (1 ∷ 0 ∷ []) (output 2280)), record { answer = 10 * 2 ^ 32; after = output 2280 })
     -- choice 64 and 65 of the source and the pso machine, choice 1 of the tso machine, and an odd number of bytes
     ∷ (called (call_run_source kernel (0 ∷ 64 ∷ []) (output 2280)), record { answer = 2280; after = one_waited })
-    ∷ (called (call_run_source kernel (0 ∷ 65 ∷ []) (output 2280)), record { answer = 10 * 2 ^ 32; after = output 2280 })
+    ∷ (
+      called (call_run_source kernel (0 ∷ 65 ∷ []) (output 2280)),
+      record { answer = 10 * 2 ^ 32; after = output 2280 },
+    )
     ∷ (called (call_run_pso kernel (0 ∷ 64 ∷ []) (output 2280)), record { answer = 2280; after = one_waited })
     ∷ (called (call_run_pso kernel (0 ∷ 65 ∷ []) (output 2280)), record { answer = 10 * 2 ^ 32; after = output 2280 })
     ∷ (called (call_run_tso kernel (0 ∷ 1 ∷ []) (output 2280)), record { answer = 2280; after = one_waited })
@@ -213,7 +216,10 @@ calls =
       record { answer = 10 * 2 ^ 32; after = output 2280 },
     )
     -- both machines wait at the LOCK, before which no MFENCE stands
-    ∷ (called (call_run_source kernel up_to_unlock (output 2281)), record { answer = 2280; after = releasing ++ 255 ∷ [] })
+    ∷ (
+      called (call_run_source kernel up_to_unlock (output 2281)),
+      record { answer = 2280; after = releasing ++ 255 ∷ [] },
+    )
     ∷ (called (call_run_tso kernel up_to_unlock (output 2281)), record { answer = 2280; after = releasing ++ 255 ∷ [] })
     -- the commit, LOAD: finished
     ∷ (
@@ -239,7 +245,10 @@ calls =
       called (call_run_source storing (up_to_store ++ 0 ∷ 1 ∷ []) (output 2280)),
       record { answer = 2280; after = committed },
     )
-    ∷ (called (call_run_tso storing (up_to_store ++ 0 ∷ 1 ∷ []) (output 2280)), record { answer = 2280; after = committed })
+    ∷ (
+      called (call_run_tso storing (up_to_store ++ 0 ∷ 1 ∷ []) (output 2280)),
+      record { answer = 2280; after = committed },
+    )
     -- a store that is pending: location 1, value 258
     ∷ (
       called (call_run_tso kernel (0 ∷ 0 ∷ 0 ∷ 0 ∷ []) (output 2280)),
@@ -253,12 +262,11 @@ calls =
     ∷ []
 
 calls_hold : map (λ (e : Called × Called). e.0) calls ≡ map (λ (e : Called × Called). e.1) calls
-unfolding refusal_of structure_then fields_then header_rule head_rule bad_record record_rule limit_a limit_b limit_constant
-    limit_target lowest first_of bad_linkage linkage_from chain member walk_of chain_too_long bad_target unreachable_target
-    lock_fault
-    lock_order all_below descent_at descent_position position
-    op_of ops_from record_at fault_position fault_at conflict_below held_from same stands due due_after sheet_bytes read_sheet
+unfolding refusal_of structure_then fields_then header_rule head_rule bad_record record_rule limit_a limit_b
+    limit_constant limit_target lowest first_of bad_linkage linkage_from chain member walk_of chain_too_long
+    bad_target unreachable_target lock_fault lock_order all_below descent_at descent_position position op_of ops_from
+    record_at fault_position fault_at conflict_below held_from same stands due due_after sheet_bytes read_sheet
     moves_in in_turn entries_bytes state_lane head_bytes record_of kernel storing downward output calls digits decimal
-    blank_line in_column in_columns line_in instruction_line heading_line lane_lines lines_from page_lines page_of pages_of
-    page_text
+    blank_line in_column in_columns line_in instruction_line heading_line lane_lines lines_from page_lines page_of
+    pages_of page_text
 calls_hold = refl
