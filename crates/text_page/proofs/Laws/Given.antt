@@ -39,7 +39,8 @@ rank_next n i b h =
     ap (rank (read_rows n b)) (add-one i) ∙ rank_on (read_rows n b) i (read_instr (drop (8 * i) b)) (row_of n b i h)
 
 -- MFENCE comes from no record
-record_none : (t p : ℕ) (b : Barrier) (r s : ℕ) → instruction_line t p (barrier b) r ≡ instruction_line t p (barrier b) s
+record_none : (t p : ℕ) (b : Barrier) (r s : ℕ)
+    → instruction_line t p (barrier b) r ≡ instruction_line t p (barrier b) s
 unfolding instruction_line
 record_none t p b r s = refl
 
@@ -152,7 +153,8 @@ module _ {k : Program} {sheet order : List ℕ} {n : ℕ} (g : Given k sheet ord
   -- one line more, laid behind those before it
   pub laid_next : {i t p next r at end : ℕ} {x : Instr} {out₀ out out' : List ℕ} → i < n → RowAt sheet i t p
       → x ≡ read_instr (drop (16 + 8 * i) sheet) → next ≡ rank (read_rows n (drop 16 sheet)) i → r ≡ get_or order next 0
-      → Puts out₀ 0 (paged 0 (take i (page_lines k))) out at → Puts out at (headed i (instruction_line t p x r)) out' end
+      → Puts out₀ 0 (paged 0 (take i (page_lines k))) out at
+      → Puts out at (headed i (instruction_line t p x r)) out' end
       → Puts out₀ 0 (paged 0 (take (i + 1) (page_lines k))) out' end
   laid_next {i} {t} {p} h a read behind is so new =
       let rec = is ∙ ap (λ j. get_or order j 0) behind in
