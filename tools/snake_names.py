@@ -52,7 +52,7 @@ def declared(text):
             # a field or a constructor, else a lemma in a module or behind where
             own = [w for w in words if w not in ("pub", "abbrev", "unfoldable")]
             if len(own) > 1 and own[1] == ":" and WORD.fullmatch(own[0]):
-                yield own[0], kind or "def"
+                yield own[0], kind or "inner"
 
 
 def snake(name):
@@ -88,8 +88,13 @@ def main():
                 twice[name] = goes
             elif rank:
                 print(f"the library's word: {name} -> {goes}")
-    fields = {n for n, at in where.items() if any(k == "field" for _, k in at)}
+    fields = {n for n, at in where.items() if any(k in ("field", "inner") for _, k in at)}
     modules = {m for m in where}
+
+    def lent(text):
+        """The names that a file takes from a library, where they stay as they are."""
+        lines = re.findall(r"(?m)^(?:pub )?(?:ghost )?use (?!Rattle\.)[\w.]+\.\{([^}]*)\}", text)
+        return {name.split(" as ")[0].strip() for line in lines for name in line.split(",")}
 
     def turn(text, own, comment, code):
         """Turns a text. own: names that this file declares for a function's goals; comment: the mark of a comment."""
@@ -136,10 +141,10 @@ def main():
             if file == path:
                 text = re.sub(rf"\b{name}\b", goes, text)
         code = path.endswith(".rt")
-        own = {n for n, k in declared(text) if k == "def"} if walks(path) else set()
+        own = {n for n, k in declared(text) if k in ("def", "inner")} if walks(path) else set()
         # a lemma that gave way is meant only where its file, or an import, has it: elsewhere the word is another's
         gone = {n for n in twice if "-" not in n and not re.search("[a-z][A-Z]", n) and not meant(n, text, path, where)}
-        kept = turn(text, own | gone, "//" if code else "--", code)
+        kept = turn(text, own | gone | lent(text), "//" if code else "--", code)
         if kept != text:
             had = {m.group() for m in WORD.finditer(strip(text, code))}
             for name in sorted({m.group() for m in WORD.finditer(strip(text, code))} & set(new)):

@@ -2,7 +2,7 @@
 use crate::cookbook::Class;
 
 // An operation of a chain. A Skip holds its target's position in the chain; the end is the chain's length.
-#[derive(Drop)]
+#[derive(Clone, Copy)]
 pub enum Step {
     Access(Class),
     Skip(u16),

@@ -11,7 +11,7 @@ ghost use Rattle.file_chains.specs.Walks.{met, Filling, LaneWalked};
 use file_format::fields::{head_of, next_of, word_at};
 
 // The record that the walk of a lane met a second time, or 0, and how many records the order has then.
-#[derive(Drop)]
+#[derive(Clone, Copy)]
 pub struct Along {
     pub twice: usize,
     pub count: usize,
@@ -55,7 +55,7 @@ fn left_over(n: usize, place: &[u16]) -> usize
 }
 
 // Where each lane ends in the order, and the record that refusal 5 names, or 0.
-#[derive(Drop)]
+#[derive(Clone, Copy)]
 pub struct Linked {
     pub bad: usize,
     pub ends: [usize; 4],

@@ -1,7 +1,7 @@
 // The operations of a lane.
 
 // One operation of a lane; a skip's target is a position of the lane, and the end is the lane's length.
-#[derive(Drop)]
+#[derive(Clone, Copy)]
 pub enum Op {
     Set(u8, u32),
     Add(u8, u8),

@@ -22,7 +22,8 @@ Named o = 5 ≤ (fields_of o).code → (fields_of o).b < 4
 pub record LaneIn (rows : List ℕ) (n : ℕ) (ops : List Op) : Type 0 where
   pub held : Holds rows n ops
   pub onward : Onward ops
-  pub within : (p : ℕ) → p < length ops → (fields_of (get_or ops p no_op)).code ≡ 7 → (fields_of (get_or ops p no_op)).word ≤ n
+  pub within : (p : ℕ) → p < length ops → (fields_of (get_or ops p no_op)).code ≡ 7
+      → (fields_of (get_or ops p no_op)).word ≤ n
   pub named : (p : ℕ) → p < length ops → Named (get_or ops p no_op)
 
 -- both rules are kept at every position

@@ -25,7 +25,7 @@ use sheet_rows::number::least;
 
 // What is found in a lane, a position counted from 1 or a record, or 0: where the held-set rule is first broken, and
 // where a LOCK first takes a lock that is not above all that are held.
-#[derive(Drop)]
+#[derive(Clone, Copy)]
 struct Found {
     fault: usize,
     descent: usize,

@@ -1,5 +1,5 @@
 // The answer to a kernel file: accepted, or the refusal with the record that it names.
-#[derive(Drop)]
+#[derive(Clone, Copy)]
 pub enum Refusal {
     Accepted,
     TruncatedHeader,

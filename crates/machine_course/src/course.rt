@@ -12,7 +12,7 @@ use sheet_rows::read::byte_at;
 // The machine and its program: the volatile locations, where the rows of each lane begin and how many they are, and
 // the numbers of lanes, locations and locks. Number 0 is a run that is under way, else it is that of a refusal, with
 // its record; then the moves done and waited.
-#[derive(Drop)]
+#[derive(Clone, Copy)]
 pub struct Course {
     pub machine: Machine,
     pub volatile: [bool; 16],

@@ -15,7 +15,7 @@ use machine_state::state::{
 };
 
 // The end state: the first `lanecount` lanes, `locations` of memory and `lockwords` of the locks.
-#[derive(Drop)]
+#[derive(Clone, Copy)]
 pub struct End {
     pub lanecount: u32,
     pub locations: u32,
@@ -26,7 +26,7 @@ pub struct End {
 }
 
 // Number 0 is a run that took place, else it is the number of a refusal, with its record.
-#[derive(Drop)]
+#[derive(Clone, Copy)]
 pub struct Ran {
     pub number: usize,
     pub rec: usize,

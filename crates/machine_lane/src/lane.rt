@@ -7,7 +7,7 @@ ghost use Rattle.machine_lane.specs.Lanes.{flags, entry_of, lane_in, with_pendin
 
 // A pending entry has a cell: a location from 0 to 15, or 16 + lock for a release, and the value for the location. The
 // marks are in two halves: a field of 64 bits makes every copy of a lane slower.
-#[derive(Drop)]
+#[derive(Clone, Copy)]
 pub struct Lane {
     pub at: u32,
     pub registers: [u32; 8],
@@ -19,7 +19,7 @@ pub struct Lane {
 }
 
 // A value that was looked up, with the lane handed back.
-#[derive(Drop)]
+#[derive(Clone, Copy)]
 pub struct Looked {
     pub lane: Lane,
     pub value: u32,

@@ -12,7 +12,7 @@ use machine_state::state::{Moved, State};
 use machine_step::step::move_lane;
 
 // The counts of moves done and waited, or the lane and the position of an UNLOCK that was refused.
-#[derive(Drop)]
+#[derive(Clone, Copy)]
 pub enum Ended {
     Ran(usize, usize),
     Refused(usize, u32),

@@ -55,7 +55,7 @@ pub fn put_word(t: usize, j: usize, i: usize, value: u32, state: &mut State)
 }
 
 // What a move came to; an UNLOCK of a lock that the lane does not hold is refused.
-#[derive(Drop)]
+#[derive(Clone, Copy)]
 pub enum Moved {
     Waited,
     Done,

@@ -6,7 +6,7 @@ ghost use Rattle.sheet_rows.specs.Rows.{parts_in};
 use crate::read::{byte_at, word_at};
 
 // Of each lane the byte at which its rows begin, and how many they are: none past the header's lanes.
-#[derive(Drop)]
+#[derive(Clone, Copy)]
 pub struct Parts {
     pub from: [usize; 4],
     pub count: [usize; 4],

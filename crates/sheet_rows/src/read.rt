@@ -6,7 +6,7 @@ ghost use Rattle.sheet_rows.specs.Rows.{row_in};
 use crate::number::fits;
 
 // The fields of an instruction: its code, a, b, and the constant or the target's position.
-#[derive(Drop)]
+#[derive(Clone, Copy)]
 pub struct Row {
     pub code: u8,
     pub a: u8,

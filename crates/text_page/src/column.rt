@@ -7,14 +7,14 @@ use text_put::put::put_text;
 use text_put::words::put_decimal;
 
 // The side of its column to which a text stands.
-#[derive(Drop)]
+#[derive(Clone, Copy)]
 pub enum Side {
     Left,
     Right,
 }
 
 // A column of a line: its first character, from 1, how many it has, and the side to which its text stands.
-#[derive(Drop)]
+#[derive(Clone, Copy)]
 pub struct Column {
     pub first: usize,
     pub width: usize,

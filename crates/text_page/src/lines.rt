@@ -12,7 +12,7 @@ use sheet_rows::parts::{Parts, parts_of};
 use sheet_rows::read::row_at;
 
 // A lane, and a position in it.
-#[derive(Drop)]
+#[derive(Clone, Copy)]
 pub(crate) struct Place {
     pub lane: usize,
     pub position: usize,

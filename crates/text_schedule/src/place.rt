@@ -5,7 +5,7 @@ ghost use Rattle.text_schedule.specs.Place.{grown as grownBy, after as afterBy, 
 
 // Nothing so far; within the lane, behind it; within the choice, behind it; in a comment, or in one behind a move; or
 // no line can begin so.
-#[derive(Drop)]
+#[derive(Clone, Copy)]
 pub enum Place {
     Blank,
     Lane(u8),

@@ -5,7 +5,7 @@ ghost use Rattle.text_schedule.specs.Text.{read_into};
 use crate::lines::{lay_moves, malformed};
 
 // How many bytes of moves there are; or the line, counted from 1, that is not a move; or that they do not fit.
-#[derive(Drop)]
+#[derive(Clone, Copy)]
 pub enum Read {
     Moves(usize),
     Malformed(usize),

@@ -18,7 +18,7 @@ use Rattle.barrier_placement.specs.Cookbook.{Class, Barrier, number_of}
 use Rattle.barrier_placement.specs.Chain.{Step, Access, Skip, Other, Chain, at}
 use Rattle.barrier_placement.specs.Place.{has, no_classes, stands_at, raises, after, jumps, arrives, due_after, due}
 use Rattle.barrier_placement.specs.Place.{stands}
-use Rattle.barrier_placement.specs.Placed.{bit, bit_of, due_in, landing}
+use Rattle.barrier_placement.specs.Placed.{bit_of, due_in, landing}
 use Rattle.barrier_placement.proofs.Laws.Bits.{bit_or_lem, bit_zero}
 use Rattle.barrier_placement.proofs.Laws.Bytes.{landing_small}
 use Rattle.barrier_placement.proofs.Laws.DueAfter.{due_after_has}
@@ -134,7 +134,7 @@ module _ (s : Chain) (b : Barrier) where
     here_is c =
         ap (λ (n : ℕ). due_in n b c) eh
         ∙ bit_or_lem d (get_or l p 0) (4 * number_of c + bit_of b)
-        ∙ ap₂ (λ (t u : Bool). t || u) (r.due-here c) (r.gathered.ahead p (omega arith) (omega arith) c)
+        ∙ ap₂ (λ (t u : Bool). t || u) (r.due_here c) (r.gathered.ahead p (omega arith) (omega arith) c)
         ∙ sym (due_by p c)
 
     -- what stands at p, of what is due there

@@ -82,7 +82,8 @@ module _ (h led : ℕ) (few : h < 16) (small : led < 256) where
           ∙ by_test (λ b. true ≡ cond (not b) true true) refl refl (eqb g h)
       go false d =
           ap (λ w. differ (bit_or w (ways g))) (agree_same d)
-          ∙ table_at (λ (x y : ℕ). differ (bit_or (ways x) (ways y))) (λ x y. cond (not (eqb y x)) true false) 16 16 refl
+          ∙ table_at (λ (x y : ℕ). differ (bit_or (ways x) (ways y))) (λ x y. cond (not (eqb y x)) true false) 16 16
+          refl
           h g few fewer
 
 pub led_none : (h : ℕ) → h < 16 → differ (bit_or (ways h) 0) ≡ false
@@ -119,13 +120,15 @@ module _ (h l : ℕ) (few : h < 16) (near : l < 4) where
 
   pub unlock_wrong : meets (barred (ways h) 6) (lock_bit 6 l) ≡ not (get_or (locks_in h) l false)
   unlock_wrong =
-      table_at (λ (x y : ℕ). meets (barred (ways x) 6) (lock_bit 6 y)) (λ x y. not (get_or (locks_in x) y false)) 16 4 refl
+      table_at (λ (x y : ℕ). meets (barred (ways x) 6) (lock_bit 6 y)) (λ x y. not (get_or (locks_in x) y false)) 16 4
+      refl
       h l few near
 
   pub lock_descends : descends_at (ways h) 5 (lock_bit 5 l) ≡ not (all_below (locks_in h) l)
   unfolding all_below
   lock_descends =
-      table_at (λ (x y : ℕ). descends_at (ways x) 5 (lock_bit 5 y)) (λ x y. not (all_below (locks_in x) y)) 16 4 refl h l
+      table_at (λ (x y : ℕ). descends_at (ways x) 5 (lock_bit 5 y)) (λ x y. not (all_below (locks_in x) y)) 16 4 refl
+      h l
       few near
 
   pub lock_next : get_or (locks_in h) l false ≡ false → locks_in (bit_xor h (lock_bit 5 l)) ≡ set (locks_in h) l true
@@ -137,7 +140,8 @@ module _ (h l : ℕ) (few : h < 16) (near : l < 4) where
   pub unlock_next : not (get_or (locks_in h) l false) ≡ false
       → locks_in (bit_xor h (lock_bit 6 l)) ≡ set (locks_in h) l false
   unlock_next right =
-      let cell = table_at (λ (x y : ℕ). cond (not (get_or (locks_in x) y false)) [] (locks_in (bit_xor x (lock_bit 6 y))))
+      let cell = table_at (λ (x y : ℕ). cond (not (get_or (locks_in x) y false)) []
+      (locks_in (bit_xor x (lock_bit 6 y))))
       (λ x y. cond (not (get_or (locks_in x) y false)) [] (set (locks_in x) y false)) 16 4 refl h l few near in
       rw right at cell
 

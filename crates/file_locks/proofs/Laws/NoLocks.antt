@@ -119,7 +119,8 @@ module _ (s : List ℕ) (st : Structured s) (z : locks s ≡ 0) where
   lane_lockless : (t : ℕ) → t < 4 → AllLockless (ops_at s (head s t))
   lane_lockless t below p l =
       let len = ops_from_length s 0 (records_at s (head s t)) in
-      bounded_lockless (locations s) (locks s) (length (records_at s (head s t))) p (get_or (ops_at s (head s t)) p no_op) z
+      bounded_lockless (locations s) (locks s) (length (records_at s (head s t))) p
+      (get_or (ops_at s (head s t)) p no_op) z
       (lane_bounded s st.fields.records (head s t) (head_range s st.fields.header t below) p no_op
       (omega (arith, len)))
 

@@ -68,7 +68,8 @@ module _ (s order place ends : List ℕ) (st : Structured s) (ordered : Ordered 
 
   count_is : (t : ℕ) → t < 4 → count_of ends t ≡ many s t
   count_is t h =
-      sym (lane_length_lem ordered t h) ∙ ap length (own_records t h) ∙ sym (ops_from_length s 0 (records_at s (head s t)))
+      sym (lane_length_lem ordered t h) ∙ ap length (own_records t h) ∙ sym
+      (ops_from_length s 0 (records_at s (head s t)))
 
   begin_is : (t : ℕ) → t < 4 → begin_of ends t ≡ before s t
   begin_is zero h = refl

@@ -164,7 +164,8 @@ module _ {rows : List ℕ} {n : ℕ} {ops : List Op} (lane : LaneIn rows n ops) 
                 let word = row_target_lem lane p below short is-7 in
                 let near = lane.within p inside (sym is-7) in
                 let jump = rw (eq-eqb code 7 (sym is-7)) at (jump_by o) in
-                let same = ev ∙ (λ i. after_row (joined i) ((eb ∙ ap (λ x. lock_bit x (get_or rows (8 * p + 2) 0)) e7) i))
+                let same = ev ∙ (λ i. after_row (joined i) ((eb ∙ ap (λ x. lock_bit x (get_or rows (8 * p + 2) 0)) e7)
+                i))
                 ∙ skip_after (ways at.h) (get_or rows (8 * p + 2) 0) in
                 rw is
                 (led_put ops p led at.led_to inside (word ∙ jump) (omega (arith, near, many)) (omega (arith, many))

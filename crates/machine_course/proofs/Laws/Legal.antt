@@ -1,7 +1,7 @@
 -- Laws of schedules with one move more: whether they are legal, and what the definition answers to one that is not.
 use Prim.Native.Nat.{ℕ, ◌<◌}
 use mathlib.Core.Path.{◌≡◌, refl, sym, ap, ◌∙◌}
-use mathlib.Core.Bool.{Bool, true, false, ◌&&◌, and_true}
+use mathlib.Core.Bool.{Bool, true, false, ◌&&◌, and-true}
 use mathlib.Core.List.{List, [], ◌∷◌, ◌++◌}
 use native.Mathlib.Omega.{arith}
 use lib.Dec.{ltb, leb}
@@ -25,7 +25,7 @@ allowed n k mv = ltb mv.lane n && leb mv.choice k
 
 pub legal_snoc : (n k : ℕ) (mvs : List Move) (mv : Move)
     → legal n k (mvs ++ (mv ∷ [])) ≡ (legal n k mvs && allowed n k mv)
-legal_snoc n k [] mv = and_true (allowed n k mv)
+legal_snoc n k [] mv = and-true (allowed n k mv)
 legal_snoc n k (x ∷ mvs) mv = go (allowed n k x) (legal_snoc n k mvs mv)
   where
     go : (b : Bool) → legal n k (mvs ++ (mv ∷ [])) ≡ (legal n k mvs && allowed n k mv)

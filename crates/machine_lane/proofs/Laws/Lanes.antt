@@ -1,8 +1,8 @@
 -- What a lane's type says of its arrays and of its pending list.
 use Prim.Native.Nat.{min}
-use mathlib.Core.Path.{◌≡◌, ap, sym, ◌∙◌}
+use mathlib.Core.Path.{◌≡◌, ap, ◌∙◌}
 use mathlib.Core.List.{List}
-use lib.ListN.{length, length-map, length-take}
+use lib.ListN.{length, length-take}
 use mir.Val.{Val}
 use denote.Laws.{Is}
 use Rattle.machine_spec.specs.State.{Lane as TextLane}
@@ -12,10 +12,10 @@ use Rattle.machine_lane.proofs.Laws.Entries.{entries_length}
 use Rattle.machine_lane.specs.contracts.lane.Lane as T
 
 pub cells_length : (l : Lane) (vs : List Val) → Is T.the_row l vs → length l.cells ≡ 64
-cells_length l vs is = sym (length-map l.cells _) ∙ is.1.1.1.1.0.1.0.1
+cells_length l vs is = is.1.1.1.1.0.1.0.1
 
 pub values_length : (l : Lane) (vs : List Val) → Is T.the_row l vs → length l.values ≡ 64
-values_length l vs is = sym (length-map l.values _) ∙ is.1.1.1.1.1.0.1.0.1
+values_length l vs is = is.1.1.1.1.1.0.1.0.1
 
 -- the arrays hold 64 entries
 pub room : (l : Lane) (vs : List Val) → Is T.the_row l vs → length (entries_of l.cells l.values) ≡ 64

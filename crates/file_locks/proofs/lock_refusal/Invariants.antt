@@ -1,0 +1,17 @@
+-- `file_locks::lock_refusal` meets its contract. No lane before t has a fault, and none descends.
+use Prim.Native.Nat.{◌-◌}
+use mathlib.Core.Path.{◌≡◌}
+use Rattle.file_format.specs.Accepted.{program_of}
+use Rattle.file_format.specs.Held.{lock_fault}
+use Rattle.file_format.specs.Rising.{lock_order}
+use Rattle.file_format.specs.Search.{first_of}
+use Rattle.file_chains.specs.Ordered.{begin_of}
+use Rattle.file_locks.proofs.Laws.Order.{fault, descent}
+use Rattle.file_locks.proofs.lock_refusal.Given as goal
+
+abbrev pub invariant-loop-t : goal.invariant-loop-t
+invariant-loop-t l = (l.from ≡ begin_of l.ends l.t) × (first_of (fault l.s) l.t (4 - l.t) ≡ lock_fault (program_of l.s))
+    × (first_of (descent l.s) l.t (4 - l.t) ≡ lock_order (program_of l.s))
+
+abbrev pub decreases-loop-t : goal.decreases-loop-t
+decreases-loop-t l = 4 - l.t
