@@ -15,7 +15,7 @@ WORD = re.compile(r"[A-Za-z_\u0370-\u03ff\u2080-\u209c][A-Za-z0-9_'?!\u0370-\u03
 
 def walks(path):
     """Whether a file is the proof of a function: its names are those of the function's goals."""
-    return path.endswith(("/Proof.antt", "/Answers.antt", "/Invariants.antt")) or "/Proof/" in path
+    return path.endswith("/Proof.antt") or "/Proof/" in path
 
 
 def files(ends):

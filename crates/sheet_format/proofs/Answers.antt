@@ -25,9 +25,9 @@ abbrev pub number_in : WriteResult → ℕ
 number_in (Wrote n) = 0
 number_in (Refuses n r) = n
 
-abbrev recordIn : WriteResult → ℕ
-recordIn (Wrote n) = 0
-recordIn (Refuses n r) = r
+abbrev record_in : WriteResult → ℕ
+record_in (Wrote n) = 0
+record_in (Refuses n r) = r
 
 abbrev pub kind_of : WriteResult → ℕ
 kind_of (Wrote n) = 0
@@ -54,9 +54,9 @@ module _ (bytes : Program → List ℕ) (s own : List ℕ) where
   abbrev outcome : Program → Bool → WriteResult × List ℕ
   outcome k b = cond b (Refuses 9 0, own) (Wrote (length (bytes k)), over (bytes k) own)
 
-  pub wrote-any : {n : ℕ} {after : List ℕ} → (Wrote n, after) ≡ answer_by bytes (verdict s) own
+  pub wrote_any : {n : ℕ} {after : List ℕ} → (Wrote n, after) ≡ answer_by bytes (verdict s) own
       → BytesIn bytes s own after
-  wrote-any {n} {after} p = go (verdict s) refl p
+  wrote_any {n} {after} p = go (verdict s) refl p
     where
       by : (k : Program) (b : Bool) → ◌≡◌ {A = WriteResult × List ℕ} (Wrote n, after) (outcome k b)
           → after ≡ over (bytes k) own
@@ -69,23 +69,23 @@ module _ (bytes : Program → List ℕ) (s own : List ℕ) where
           record { kernel = k; accepts = e; front = by k (ltb (length own) (length (bytes k))) x }
 
   -- a refusal that no accepted file is answered with
-  refuses-but : {n r : ℕ} {after : List ℕ}
+  refuses_but : {n r : ℕ} {after : List ℕ}
       → ((k : Program) → verdict s ≡ accepted k → (Refuses n r, after) ≡ answer_by bytes (accepted k) own → ⊥)
       → (Refuses n r, after) ≡ answer_by bytes (verdict s) own → verdict s ≡ refused n r
-  refuses-but {n} {r} {after} never = go (verdict s) refl
+  refuses_but {n} {r} {after} never = go (verdict s) refl
     where
       go : (v : Verdict) → verdict s ≡ v → (Refuses n r, after) ≡ answer_by bytes v own → verdict s ≡ refused n r
       go (refused m q) e x =
           e
           ∙ ap₂ refused (ap (λ (z : WriteResult × List ℕ). number_in z.0) (sym x))
-          (ap (λ (z : WriteResult × List ℕ). recordIn z.0) (sym x))
+          (ap (λ (z : WriteResult × List ℕ). record_in z.0) (sym x))
       go (accepted k) e x = absurd (never k e x)
 
   -- any but 9
-  pub refuses-any : {n r : ℕ} {after : List ℕ} → ¬ n ≡ 9 → (Refuses n r, after) ≡ answer_by bytes (verdict s) own
+  pub refuses_any : {n r : ℕ} {after : List ℕ} → ¬ n ≡ 9 → (Refuses n r, after) ≡ answer_by bytes (verdict s) own
       → verdict s ≡ refused n r
-  refuses-any {n} {r} {after} other =
-      refuses-but (λ k e x. other (by k (ltb (length own) (length (bytes k))) x))
+  refuses_any {n} {r} {after} other =
+      refuses_but (λ k e x. other (by k (ltb (length own) (length (bytes k))) x))
     where
       by : (k : Program) (b : Bool) → ◌≡◌ {A = WriteResult × List ℕ} (Refuses n r, after) (outcome k b) → n ≡ 9
       by k true x = ap (λ (z : WriteResult × List ℕ). number_in z.0) x
@@ -95,23 +95,23 @@ module _ (bytes : Program → List ℕ) (s own : List ℕ) where
 module _
     (bytes : Program → List ℕ) (size : ℕ) (small : (k : Program) → Lawful k → length (bytes k) ≤ size)
     (s own : List ℕ) (big : size ≤ length own) where
-  written-by : (k : Program) → verdict s ≡ accepted k
+  written_by : (k : Program) → verdict s ≡ accepted k
       → answer_by bytes (accepted k) own ≡ (Wrote (length (bytes k)), over (bytes k) own)
-  written-by k e = written_all (bytes k) own (omega (arith, small k (accepted_lawful s k e)))
+  written_by k e = written_all (bytes k) own (omega (arith, small k (accepted_lawful s k e)))
 
-  pub refuses-by : {n r : ℕ} {after : List ℕ} → (Refuses n r, after) ≡ answer_by bytes (verdict s) own
+  pub refuses_by : {n r : ℕ} {after : List ℕ} → (Refuses n r, after) ≡ answer_by bytes (verdict s) own
       → verdict s ≡ refused n r
-  refuses-by = refuses-but bytes s own (λ k e x. apart (sym (x ∙ written-by k e)))
+  refuses_by = refuses_but bytes s own (λ k e x. apart (sym (x ∙ written_by k e)))
 
   pub wrote_by : {n : ℕ} {after : List ℕ} → (Wrote n, after) ≡ answer_by bytes (verdict s) own
       → BytesIn bytes s own after
-  wrote_by = wrote-any bytes s own
+  wrote_by = wrote_any bytes s own
 
 -- a buffer that takes every sheet of a level
 module _ (l : Level) (s own : List ℕ) (big : 16 + 2048 * widest l ≤ length own) where
-  pub refuses-as : {n r : ℕ} {after : List ℕ} → (Refuses n r, after) ≡ lower_by l (verdict s) own
+  pub refuses_as : {n r : ℕ} {after : List ℕ} → (Refuses n r, after) ≡ lower_by l (verdict s) own
       → verdict s ≡ refused n r
-  refuses-as = refuses-by (sheet_bytes l) (16 + 2048 * widest l) (sheet_small l) s own big
+  refuses_as = refuses_by (sheet_bytes l) (16 + 2048 * widest l) (sheet_small l) s own big
 
   pub wrote_as : {n : ℕ} {after : List ℕ} → (Wrote n, after) ≡ lower_by l (verdict s) own
       → BytesIn (sheet_bytes l) s own after
@@ -119,20 +119,20 @@ module _ (l : Level) (s own : List ℕ) (big : 16 + 2048 * widest l ≤ length o
 
 -- ## the number and the record of a refusal are small
 
-abbrev numberBy : Verdict → ℕ
-numberBy (refused n r) = n
-numberBy (accepted k) = 0
+abbrev number_by : Verdict → ℕ
+number_by (refused n r) = n
+number_by (accepted k) = 0
 
-abbrev recordBy : Verdict → ℕ
-recordBy (refused n r) = r
-recordBy (accepted k) = 0
+abbrev record_by : Verdict → ℕ
+record_by (refused n r) = r
+record_by (accepted k) = 0
 
 -- of the number and the record of a verdict
 abbrev Small : Verdict → Type 0
-Small v = (numberBy v ≤ 12) × (numberBy v ≢ 9) × (recordBy v ≤ 256)
+Small v = (number_by v ≤ 12) × (number_by v ≢ 9) × (record_by v ≤ 256)
 
-refused-small : (s : List ℕ) → Small (verdict s)
-refused-small s = go (eqb (number_of (refusal_of s)) 0)
+refused_small : (s : List ℕ) → Small (verdict s)
+refused_small s = go (eqb (number_of (refusal_of s)) 0)
   where
     by : Bool → Verdict
     by b = cond b (accepted (program_of s)) (refused (number_of (refusal_of s)) (record_of (refusal_of s)))
@@ -142,32 +142,32 @@ refused-small s = go (eqb (number_of (refusal_of s)) 0)
     go false = ((number_small s).0, (number_small s).1, record_named s)
 
 module _ (bytes : Program → List ℕ) (s buffer : List ℕ) where
-  answer-by : (v : Verdict) → Small v
-      → (number_in (answer_by bytes v buffer).0 ≤ 12) × (recordIn (answer_by bytes v buffer).0 ≤ 256)
-  answer-by (refused n r) h = (h.0, h.2)
-  answer-by (accepted k) h = go (ltb (length buffer) (length (bytes k)))
+  answer_by_lem : (v : Verdict) → Small v
+      → (number_in (answer_by bytes v buffer).0 ≤ 12) × (record_in (answer_by bytes v buffer).0 ≤ 256)
+  answer_by_lem (refused n r) h = (h.0, h.2)
+  answer_by_lem (accepted k) h = go (ltb (length buffer) (length (bytes k)))
     where
       by : Bool → WriteResult × List ℕ
       by b = cond b (Refuses 9 0, buffer) (Wrote (length (bytes k)), over (bytes k) buffer)
 
-      go : (b : Bool) → (number_in (by b).0 ≤ 12) × (recordIn (by b).0 ≤ 256)
+      go : (b : Bool) → (number_in (by b).0 ≤ 12) × (record_in (by b).0 ≤ 256)
       go true = (omega arith, omega arith)
       go false = (omega arith, omega arith)
 
-  pub answer-small : {n r : ℕ} {after : List ℕ} → (Refuses n r, after) ≡ answer_by bytes (verdict s) buffer
+  pub answer_small : {n r : ℕ} {after : List ℕ} → (Refuses n r, after) ≡ answer_by bytes (verdict s) buffer
       → (n ≤ 12) × (r ≤ 256)
-  answer-small {n} {r} {after} p =
-      subst (λ (z : WriteResult × List ℕ). (number_in z.0 ≤ 12) × (recordIn z.0 ≤ 256)) (sym p)
-      (answer-by (verdict s) (refused-small s))
+  answer_small {n} {r} {after} p =
+      subst (λ (z : WriteResult × List ℕ). (number_in z.0 ≤ 12) × (record_in z.0 ≤ 256)) (sym p)
+      (answer_by_lem (verdict s) (refused_small s))
 
   -- 9 is no refusal of a file
-  pub short-any : {r : ℕ} {after : List ℕ} → (Refuses 9 r, after) ≡ answer_by bytes (verdict s) buffer
+  pub short_any : {r : ℕ} {after : List ℕ} → (Refuses 9 r, after) ≡ answer_by bytes (verdict s) buffer
       → (k : Program) × (verdict s ≡ accepted k)
-  short-any {r} {after} = go (verdict s) refl
+  short_any {r} {after} = go (verdict s) refl
     where
       go : (v : Verdict) → verdict s ≡ v → (Refuses 9 r, after) ≡ answer_by bytes v buffer
           → (k : Program) × (verdict s ≡ accepted k)
       go (refused n q) e x =
           let same : 9 ≡ n = ap (λ (z : WriteResult × List ℕ). number_in z.0) x in
-          absurd ((refused-small s).1 (ap numberBy e ∙ sym same))
+          absurd ((refused_small s).1 (ap number_by e ∙ sym same))
       go (accepted k) e x = (k, e)

@@ -28,8 +28,8 @@ unlock_holds = refl
 
 -- "1 2 ADD 6 5", "2 3 LOAD 4 15", "0 7 STORE 3 1", "3 0 LOCK 2", "0 2 MFENCE"
 others_hold :
-    line_of 1 2 (op (Add 6 5)) ++ line_of 2 3 (op (Load 4 15)) ++ line_of 0 7 (op (Store 3 1)) ++ line_of 3 0 (op (Lock 2))
-    ++ line_of 0 2 (barrier SL) ≡
+    line_of 1 2 (op (Add 6 5)) ++ line_of 2 3 (op (Load 4 15)) ++ line_of 0 7 (op (Store 3 1))
+    ++ line_of 3 0 (op (Lock 2)) ++ line_of 0 2 (barrier SL) ≡
     49 ∷ 32 ∷ 50 ∷ 32 ∷ 65 ∷ 68 ∷ 68 ∷ 32 ∷ 54 ∷ 32 ∷ 53 ∷ 10
     ∷ 50 ∷ 32 ∷ 51 ∷ 32 ∷ 76 ∷ 79 ∷ 65 ∷ 68 ∷ 32 ∷ 52 ∷ 32 ∷ 49 ∷ 53 ∷ 10
     ∷ 48 ∷ 32 ∷ 55 ∷ 32 ∷ 83 ∷ 84 ∷ 79 ∷ 82 ∷ 69 ∷ 32 ∷ 51 ∷ 32 ∷ 49 ∷ 10

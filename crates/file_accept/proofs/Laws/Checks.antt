@@ -19,8 +19,8 @@ use Rattle.file_verdict.specs.declared.refusal.Refusal.{Refusal}
 use Rattle.file_verdict.specs.declared.refusal.Refusal.TheVariants.{Accepted, TruncatedHeader, BadHeader, BadLength}
 use Rattle.file_verdict.specs.declared.refusal.Refusal.TheVariants.{BadRecord}
 use Rattle.file_verdict.specs.declared.refusal.Refusal.TheVariants.{BadLinkage, ChainTooLong, BadTarget}
-use Rattle.file_verdict.specs.Verdict.{unless, fields_then, structure_then, lock_refusal, refusal_of, number_of, verdict}
-use Rattle.file_verdict.specs.Verdict.{accepted}
+use Rattle.file_verdict.specs.Verdict.{unless, fields_then, structure_then, lock_refusal, refusal_of, number_of}
+use Rattle.file_verdict.specs.Verdict.{verdict, accepted}
 use Rattle.file_verdict.proofs.Laws.Verdict.{names, passes, accepted_as}
 use Rattle.file_accept.specs.Checks.{linked_refusal}
 
@@ -133,7 +133,8 @@ module _ (s : List ℕ) where
 
   pub fields_refused : ¬ number_of (fields_then s Accepted) ≡ 0 → refusal_of s ≡ fields_then s Accepted
   fields_refused some =
-      ⊎_elim (λ f. absurd (some (ap number_of (fields_then_lem s Accepted f)))) (λ r. refusal_is ∙ r.1 (linked_refusal s))
+      ⊎_elim (λ f. absurd (some (ap number_of (fields_then_lem s Accepted f))))
+      (λ r. refusal_is ∙ r.1 (linked_refusal s))
       by_fields
 
   -- a refused file is not accepted

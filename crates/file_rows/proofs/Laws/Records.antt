@@ -119,8 +119,8 @@ module _ {s order place : List ℕ} {begin end : ℕ} (l : LaneIn s order place 
       by_lane (λ b k. ops_of s (take k (drop b order)) ≡ ops_at s (head s l.lane))
       (lane_ops_are l.structured l.ordered l.lane l.below)
 
-  pub record_in : (p : ℕ) → p < end - begin → RecordIn s place begin (end - begin) (get_or order (begin + p) 0)
-  record_in =
+  pub record_in_lem : (p : ℕ) → p < end - begin → RecordIn s place begin (end - begin) (get_or order (begin + p) 0)
+  record_in_lem =
       by_lane (λ b k. (p : ℕ) → p < k → RecordIn s place b k (get_or order (b + p) 0))
       (lane_record_lem l.structured l.ordered l.lane l.below)
 

@@ -8,7 +8,7 @@ use lib.ListN.{length}
 use Rattle.file_format.specs.Accepted.{Program}
 use Rattle.file_verdict.specs.Verdict.{verdict, refused as refusing, accepted}
 use Rattle.sheet_format.specs.declared.WriteResult.TheVariants.{Wrote, Refuses}
-use Rattle.sheet_format.proofs.Answers.{BytesIn, refuses-as, wrote_as}
+use Rattle.sheet_format.proofs.Answers.{BytesIn, refuses_as, wrote_as}
 use Rattle.machine_spec.proofs.Levels.{program_narrow}
 use Rattle.machine_spec.specs.declared.Machine.{Machine}
 use Rattle.machine_spec.specs.Schedule.{Move, limit, legal}
@@ -30,7 +30,7 @@ ran_number s k e m mvs le = rw le (go (run_on m k mvs) refl)
 module _ (m : Machine) (s own : List ℕ) (big : 4112 ≤ length own) where
   pub file_verdict : {n r : ℕ} {after : List ℕ} → (Refuses n r, after) ≡ lower_by (level_of m) (verdict s) own
       → verdict s ≡ refusing n r
-  file_verdict = refuses-as (level_of m) s own (omega (arith, program_narrow m))
+  file_verdict = refuses_as (level_of m) s own (omega (arith, program_narrow m))
 
   pub file_accepted : {n : ℕ} {after : List ℕ} → (Wrote n, after) ≡ lower_by (level_of m) (verdict s) own
       → BytesIn (sheet_bytes (level_of m)) s own after

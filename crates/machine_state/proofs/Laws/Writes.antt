@@ -103,7 +103,8 @@ module _ (s : Blocks) (t : ℕ) (h : Lies s t) where
       let v = set u HIGHMARKS y in
       let z = length-set u HIGHMARKS y ∙ length-set w MARKS x ∙ long in
       let kept : (i : ℕ) → i < MARKS → get_or v i 0 ≡ get_or w i 0 =
-      λ i k. get_or-set_other u HIGHMARKS i y 0 (λ q. omega arith) ∙ get_or-set_other w MARKS i x 0 (λ q. omega arith) in
+      λ i k. get_or-set_other u HIGHMARKS i y 0 (λ q. omega arith)
+      ∙ get_or-set_other w MARKS i x 0 (λ q. omega arith) in
       let low : get_or v MARKS 0 ≡ x = get_or-set_other u HIGHMARKS MARKS y 0 (λ q. omega arith)
       ∙ get_or-set_same w MARKS x 0 (omega (arith, long)) in
       let high : get_or v HIGHMARKS 0 ≡ y =

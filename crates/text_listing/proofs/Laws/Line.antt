@@ -44,7 +44,8 @@ name_few (barrier SS) = omega arith
 name_few (barrier SL) = omega arith
 
 -- a name that is laid ends at most six bytes on
-pub name_end : {l m : List ℕ} {i j : ℕ} (o : ℕ) → ((a b c : ℕ) → Puts l i (instr_name (instr_by o a b c)) m j) → j ≤ i + 6
+pub name_end : {l m : List ℕ} {i j : ℕ} (o : ℕ) → ((a b c : ℕ) → Puts l i (instr_name (instr_by o a b c)) m j)
+    → j ≤ i + 6
 name_end o p = omega (arith, (p 0 0 0).behind, name_few (instr_by o 0 0 0))
 
 -- what stands behind the name: a and the constant or the target, a and b, b alone, or nothing

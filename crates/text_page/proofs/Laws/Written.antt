@@ -18,7 +18,7 @@ use Rattle.sheet_format.specs.Bytes.{sheet_bytes, over, write_into, answer_by, l
 use Rattle.sheet_format.specs.Put.{Puts}
 use Rattle.sheet_format.proofs.Laws.Put.{puts_as, measured_whole}
 use Rattle.sheet_format.proofs.Laws.Written.{short_untouched, written_all}
-use Rattle.sheet_format.proofs.Answers.{refuses-as, wrote_as}
+use Rattle.sheet_format.proofs.Answers.{refuses_as, wrote_as}
 use Rattle.sheet_format.proofs.Sizes.{sheet_size, sheet_small}
 use Rattle.text_page.specs.Lines.{page_lines}
 use Rattle.text_page.specs.Pages.{heading_line, page_count, page_text, write_page}
@@ -60,7 +60,7 @@ module _ {k : Program} {sheet order : List ℕ} {n : ℕ} (g : Given k sheet ord
 module _ (s own : List ℕ) (big : 4112 ≤ length own) where
   pub refused_page : {n r : ℕ} {after : List ℕ} → (Refuses n r, after) ≡ lower_by Level2 (verdict s) own
       → (out : List ℕ) → (Refuses n r, out) ≡ write_page s out
-  refused_page p out = sym (ap (λ v. answer_by page_text v out) (refuses-as Level2 s own (omega arith) p))
+  refused_page p out = sym (ap (λ v. answer_by page_text v out) (refuses_as Level2 s own (omega arith) p))
 
   module _ {n : ℕ} {after : List ℕ} (p : (Wrote n, after) ≡ lower_by Level2 (verdict s) own) where
     pub accepted_page : verdict s ≡ accepted (program_of s)

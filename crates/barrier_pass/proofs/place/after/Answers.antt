@@ -24,5 +24,6 @@ returns c = λ b d.
     ∙ ap (λ (t : Bool). t || bit c.args.new j)
     (bit_xor_lem c.args.due met j
     ∙ ap (differ (bit c.args.due j))
-    (bit_and_lem c.args.due (c.args.stood * 4369) j ∙ ap (λ (t : Bool). bit c.args.due j && t) (spread c.args.stood c.requires b d))
+    (bit_and_lem c.args.due (c.args.stood * 4369) j
+    ∙ ap (λ (t : Bool). bit c.args.due j && t) (spread c.args.stood c.requires b d))
     ∙ taken_out (bit c.args.due j) (bit c.args.stood (bit_of b)))

@@ -49,11 +49,15 @@ loop-p-preserved c =
     let room : c.loop-p.p < length c.loop-p.plan = omega (arith, c.requires.room.2, c.loop-p.invariant.2) in
     let vol = is_volatile c.args.mask in (
       omega arith,
-      elim c.if-p-t.branch [ then-p-t w ↦ rw w.brought-is (simp length-set c.loop-p.invariant.1) | else-p-t w ↦ rw w.brought-is c.loop-p.invariant.1 ],
+      elim c.if-p-t.branch [
+        | then-p-t w ↦ rw w.brought-is (simp length-set c.loop-p.invariant.1)
+        | else-p-t w ↦ rw w.brought-is c.loop-p.invariant.1
+      ],
       rw c.plan_step-at.ensures.plan (simp length-set c.loop-p.invariant.2),
       c.plan_step-at.ensures.next.1,
       λ j h.
-          ap (λ q. get_or q j 0) c.plan_step-at.ensures.plan ∙ get_or-set_other c.loop-p.plan c.loop-p.p j (c.loop-p.at + c.plan_set.result) 0 (λ e. omega arith)
+          ap (λ q. get_or q j 0) c.plan_step-at.ensures.plan
+          ∙ get_or-set_other c.loop-p.plan c.loop-p.p j (c.loop-p.at + c.plan_set.result) 0 (λ e. omega arith)
           ∙ c.loop-p.invariant.4 j h,
       λ ops h.
           let o = get_or ops c.loop-p.p no_op in
@@ -71,13 +75,15 @@ loop-p-preserved c =
           λ b. c.stands_at-stood.ensures.0 (at t c.loop-p.p) b known
           ∙ stands_here t b (placing.reached b) (omega (arith, c.requires.room.0)) refl in
           rw (c.plan_step-at.ensures.plan, c.plan_step-at.ensures.next.0)
-          (placing_on vol ops placing room c.stands_at-stood.result c.requires.tables.1 (omega (arith, h.count)) c.stands_at-stood.ensures.1 turned
+          (placing_on vol ops placing room c.stands_at-stood.result c.requires.tables.1
+          (omega (arith, h.count)) c.stands_at-stood.ensures.1 turned
           (λ b. turn t b (placing.reached b) (omega (arith, c.requires.room.0)) refl c.raises.result
           (turned b)
           (c.raises.ensures (at t c.loop-p.p) b known)
           (c.after-due.ensures b)
           lands
-          (elim c.if-p-t.branch [ then-p-t w ↦ inl (w.if-p-t.true, w.brought-is) | else-p-t w ↦ inr (w.if-p-t.false, w.brought-is) ]))
+          (elim c.if-p-t.branch
+          [ then-p-t w ↦ inl (w.if-p-t.true, w.brought-is) | else-p-t w ↦ inr (w.if-p-t.false, w.brought-is) ]))
           c.plan_set.result (c.plan_set.ensures.0 o (ap (λ (r : Row). r.code) row))),
     )
 
@@ -87,9 +93,12 @@ returns c =
     let room : c.args.n < length c.loop-p.plan = omega (arith, c.requires.room.2, c.loop-p.invariant.2) in record {
       end = sym (get_or-set_same c.loop-p.plan c.args.n c.loop-p.at 0 room);
       numbers = λ ops h p le.
-          let placing : Placing (is_volatile c.args.mask) ops c.loop-p.due c.loop-p.brought c.loop-p.plan c.loop-p.at c.args.n =
-          subst (λ q. Placing (is_volatile c.args.mask) ops c.loop-p.due c.loop-p.brought c.loop-p.plan c.loop-p.at q) last
+          let placing : Placing (is_volatile c.args.mask) ops c.loop-p.due c.loop-p.brought c.loop-p.plan c.loop-p.at
+          c.args.n =
+          subst (λ q. Placing (is_volatile c.args.mask) ops c.loop-p.due c.loop-p.brought c.loop-p.plan c.loop-p.at q)
+          last
           (c.loop-p.invariant.5 ops h) in
           placing_end (is_volatile c.args.mask) ops placing room h.count p le;
-      rest = λ p past. get_or-set_other c.loop-p.plan c.args.n p c.loop-p.at 0 (λ e. omega arith) ∙ c.loop-p.invariant.4 p past;
+      rest = λ p past. get_or-set_other c.loop-p.plan c.args.n p c.loop-p.at 0 (λ e. omega arith)
+          ∙ c.loop-p.invariant.4 p past;
     }

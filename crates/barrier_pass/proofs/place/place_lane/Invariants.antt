@@ -13,7 +13,8 @@ use Rattle.barrier_pass.proofs.Laws.Plan.{Placing}
 use Rattle.barrier_pass.proofs.place.place_lane.Given as goal
 
 abbrev pub invariant-loop-p : goal.invariant-loop-p
-invariant-loop-p l = (l.p ≤ l.n) × (length l.brought ≡ 65) × (length l.plan ≡ length l.initial.plan) × (l.at ≤ 6308000 * l.p)
+invariant-loop-p l = (l.p ≤ l.n) × (length l.brought ≡ 65) × (length l.plan ≡ length l.initial.plan)
+    × (l.at ≤ 6308000 * l.p)
     × ((j : ℕ) → l.n < j → get_or l.plan j 0 ≡ get_or l.initial.plan j 0)
     × ((ops : List Op) → Holds l.rows l.n ops → Placing (is_volatile l.mask) ops l.due l.brought l.plan l.at l.p)
 

@@ -12,7 +12,7 @@ use Rattle.sheet_format.proofs.Laws.Put.{puts_none, puts_as, puts_end, puts_leng
 use Rattle.sheet_rows.specs.Lanes.{op_rows}
 use Rattle.file_rows.specs.Records.{record_row, RecordIn}
 use Rattle.file_rows.proofs.Laws.Lane.{row_put, rows_all}
-use Rattle.file_rows.proofs.Laws.Records.{in_order, in_file, in_room, counted_in, record_in, row_in}
+use Rattle.file_rows.proofs.Laws.Records.{in_order, in_file, in_room, counted_in, record_in_lem, row_in}
 use borrow.Author.Rules.{rules}
 use Rattle.file_rows.proofs.chain.write_chain.Goals as goal
 
@@ -41,7 +41,7 @@ bounds-order-j c =
 pub put_record-requires : goal.put_record-requires
 put_record-requires c =
     let below : c.loop-p.p < c.args.end - c.args.begin = c.loop-p-test.true in record { room = omega (arith, puts_length c.loop-p.invariant.1, c.requires.room); known = subst (RecordIn c.args.s.now c.args.place.now c.args.begin (c.args.end - c.args.begin))
-          (sym c.wide_word.ensures.0) (record_in c.requires.lane c.loop-p.p below); }
+          (sym c.wide_word.ensures.0) (record_in_lem c.requires.lane c.loop-p.p below); }
 
 pub overflow_add-p : goal.overflow_add-p
 overflow_add-p c =

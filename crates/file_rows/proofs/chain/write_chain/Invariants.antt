@@ -12,7 +12,7 @@ use Rattle.sheet_format.proofs.Laws.Put.{puts_none, puts_as, puts_end, puts_leng
 use Rattle.sheet_rows.specs.Lanes.{op_rows}
 use Rattle.file_rows.specs.Records.{record_row, RecordIn}
 use Rattle.file_rows.proofs.Laws.Lane.{row_put, rows_all}
-use Rattle.file_rows.proofs.Laws.Records.{in_order, in_file, in_room, counted_in, record_in, row_in}
+use Rattle.file_rows.proofs.Laws.Records.{in_order, in_file, in_room, counted_in, record_in_lem, row_in}
 use borrow.Author.Rules.{rules}
 use Rattle.file_rows.proofs.chain.write_chain.Given as goal
 
