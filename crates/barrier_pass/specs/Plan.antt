@@ -1,7 +1,8 @@
 -- A lane's plan as the code holds it: a number for each position of the chain and one for its end. Its four lowest bits
 -- are the set of the barriers that stand there, and the fifth says whether the operation there drains; then eight bits
 -- each are where the position begins at levels 1, 2 and 3.
-use Rattle.std.specs.Prelude.{ℕ, suc, ◌+◌, ◌*◌, ◌/◌, ◌%◌, ◌<◌, ◌≡◌, refl, Bool, false, not, ◌&&◌, List, [], ◌∷◌, map, eqb, length, get_or}
+use Rattle.std.specs.Prelude.{ℕ, suc, ◌+◌, ◌*◌, ◌/◌, ◌%◌, ◌<◌, ◌≡◌, refl, Bool, false, not, ◌&&◌, List, [], ◌∷◌, map}
+use Rattle.std.specs.Prelude.{eqb, length, get_or}
 use mir.Val.{bool_byte}
 use Rattle.file_format.specs.declared.accepted.Op.{Op}
 use Rattle.file_format.specs.declared.accepted.Op.TheVariants.{Load, Store, Lock}

@@ -2,7 +2,8 @@
 // writes the lane's plan, for each position a set of barriers and where it begins at each level.
 // A set of barriers is a number below 16: bit 0 is LL, 1 LS, 2 SS and 3 SL. What is due is four such numbers in one.
 // The plan's set has bit 4 besides, where the operation drains, as LOCK does.
-ghost use Rattle.std.specs.Prelude.{◌≡◌, not, ◌&&◌, ◌||◌, List, ℕ, ◌+◌, ◌*◌, ◌<◌, ◌≤◌, ◌^◌, length, set as update, get_or};
+ghost use Rattle.std.specs.Prelude.{◌≡◌, not, ◌&&◌, ◌||◌, List, ℕ, ◌+◌, ◌*◌, ◌<◌, ◌≤◌, ◌^◌, length, set as update};
+ghost use Rattle.std.specs.Prelude.{get_or};
 ghost use Rattle.file_format.specs.Accepted.{is_volatile};
 ghost use Rattle.file_format.specs.declared.accepted.Op.{Op};
 ghost use Rattle.barrier_placement.specs.declared.cookbook.Barrier.{Barrier};
@@ -25,7 +26,8 @@ const LOCK: u8 = 5;
 
 // The barriers that stand before a step of which x is known, given what is due there.
 fn stands_at(x: u32, due: u16) -> u16
-    ensures { ((s : Step) (b : Barrier) → x ≡ known_of s → bit result (bit_of b) ≡ stands_at s (due_in due b)) × (result < 16) }
+    ensures { ((s : Step) (b : Barrier) → x ≡ known_of s → bit result (bit_of b) ≡ stands_at s (due_in due b))
+        × (result < 16) }
 {
     let wide = due as u32;
     ((wide >> (x % 32)) % 16) as u16
@@ -42,7 +44,8 @@ fn raises(x: u32) -> u16
 // What is due after a step: what was due before it but for the barriers that stand there, and what the step calls for.
 fn after(stood: u16, due: u16, new: u16) -> u16
     requires { stood < 16 }
-    ensures { (b : Barrier) (c : Class) → due_in result b c ≡ ((not (bit stood (bit_of b)) && due_in due b c) || due_in new b c) }
+    ensures { (b : Barrier) (c : Class) → due_in result b c
+        ≡ ((not (bit stood (bit_of b)) && due_in due b c) || due_in new b c) }
 {
     let met = due & (stood * IN_EACH_CLASS);
     (due ^ met) | new

@@ -17,7 +17,8 @@ fn is_volatile(mask: u16, x: u8) -> bool
 // What the table has of the operation with this code and this operand b.
 pub(crate) fn known_of(known: &[u32; 16], code: u8, b: u8, mask: u16) -> u32
     requires { known.now ≡ known_table }
-    ensures { ((o : Op) → code ≡ (fields_of o).code → b ≡ (fields_of o).b → result ≡ known_of (step_of (is_volatile mask) o))
+    ensures { ((o : Op) → code ≡ (fields_of o).code → b ≡ (fields_of o).b → result
+        ≡ known_of (step_of (is_volatile mask) o))
         × (result < 2 ^ 21) }
 {
     let i = code % 8 + 8 * (is_volatile(mask, b) as u8);
@@ -27,7 +28,8 @@ pub(crate) fn known_of(known: &[u32; 16], code: u8, b: u8, mask: u16) -> u32
 // Where the operation with this code and this last field lands: at a SKIP's target, else at 0, to which nothing goes
 // forward.
 pub(crate) fn landing_of(code: u8, t: u32) -> usize
-    ensures { ((o : Op) (vol : ℕ → Bool) → code ≡ (fields_of o).code → t ≡ (fields_of o).word → result ≡ landingOf (step_of vol o))
+    ensures { ((o : Op) (vol : ℕ → Bool) → code ≡ (fields_of o).code → t ≡ (fields_of o).word → result
+        ≡ landingOf (step_of vol o))
         × (result ≤ 64) }
 {
     if code != 7 {

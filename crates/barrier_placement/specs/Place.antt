@@ -1,6 +1,7 @@
 -- The placement, computed in one pass over the chain: at each position the classes before which b is due, that is, some
 -- access on the way here calls for b before such a class, and no b has stood since.
-use Rattle.std.specs.Prelude.{ℕ, zero, suc, ◌≡◌, refl, Bool, true, false, not, ◌&&◌, ◌||◌, List, [], ◌∷◌, ◌++◌, eqb, get_or}
+use Rattle.std.specs.Prelude.{ℕ, zero, suc, ◌≡◌, refl, Bool, true, false, not, ◌&&◌, ◌||◌, List, [], ◌∷◌, ◌++◌, eqb}
+use Rattle.std.specs.Prelude.{get_or}
 use Rattle.barrier_placement.specs.Cookbook.{Class, PL, PS, VL, VS, Barrier, LL, LS, SS, SL, calls}
 use Rattle.barrier_placement.specs.Chain.{Step, Access, Skip, Other, Chain, at}
 

@@ -18,7 +18,8 @@ use Rattle.sheet_format.specs.Levels.{volatile_in}
 use Rattle.machine_spec.specs.declared.Machine.TheVariants.{Source}
 use Rattle.machine_spec.specs.Step.{Control, Core, Turn, waits, refuses, passes, does}
 use Rattle.machine_spec.specs.Schedule.{Move, legal}
-use Rattle.machine_spec.specs.State.{Lane, State, at_start, idle, lane_at, core_of, set_lane, Run, Outcome, ran, refused}
+use Rattle.machine_spec.specs.State.{Lane, State, at_start, idle, lane_at, core_of, set_lane, Run, Outcome, ran}
+use Rattle.machine_spec.specs.State.{refused}
 use Rattle.machine_spec.specs.State.{apply_turn, move_turn, advance, run, begin}
 use Rattle.machine_spec.specs.Run.{answer_of, start_of, program_for, run_on, shown}
 use Rattle.machine_spec.specs.Shape.{AllSmall, Shaped, Within}

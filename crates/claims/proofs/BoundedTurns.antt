@@ -18,7 +18,8 @@ use Rattle.machine_spec.specs.declared.Machine.TheVariants.{Source}
 use Rattle.machine_spec.specs.Rules.{may_commit}
 use Rattle.machine_spec.specs.Step.{Control, Core, Turn, waits, refuses, passes, does, goto, reg, permits, holds}
 use Rattle.machine_spec.specs.Step.{value_of}
-use Rattle.machine_spec.specs.Step.{loads, after, next, emit, locked, core_after, effect, execute, landed, freed, settle}
+use Rattle.machine_spec.specs.Step.{loads, after, next, emit, locked, core_after, effect, execute, landed, freed}
+use Rattle.machine_spec.specs.Step.{settle}
 use Rattle.machine_spec.specs.Step.{committed, commit, turn}
 use Rattle.machine_spec.specs.Shape.{EntrySmall, AllSmall}
 use Rattle.claims.proofs.Laws.Pending.{length_append_entry, length_without}

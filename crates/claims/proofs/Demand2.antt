@@ -152,7 +152,8 @@ module _ (s : List ℕ) (k : Program) (e : verdict s ≡ accepted k) where
   -- what lowering leaves in a buffer that is long enough, and what is read of it
   lowered_bytes : Fitting (λ l buffer. lowered l s buffer
       ≡ sheet_bytes l k ++ drop (length (sheet_bytes l k)) buffer) k
-  lowered_bytes l buffer h = ap (λ v. (lower_by l v buffer).1) e ∙ ap (λ r. r.1) (written_all (sheet_bytes l k) buffer h)
+  lowered_bytes l buffer h =
+      ap (λ v. (lower_by l v buffer).1) e ∙ ap (λ r. r.1) (written_all (sheet_bytes l k) buffer h)
 
   lowered_back : Fitting (λ l buffer. read_sheet (lowered l s buffer) ≡ sheet_lanes l k) k
   lowered_back l buffer h =

@@ -27,7 +27,8 @@ use Rattle.machine_spec.specs.View.{View, Seen, saw, refusal as seenRefusal, obs
 use Rattle.claims.specs.Schedules.{source_schedule, target_schedule}
 use Rattle.claims.specs.Direct.{direct}
 use Rattle.claims.proofs.Fenced.{kernel_program, sheet_program}
-use Rattle.machine_spec.specs.Run.{answer_of, refusal, start_of, level_of, program_for, run_on, run_program, run_file, shown}
+use Rattle.machine_spec.specs.Run.{answer_of, refusal, start_of, level_of, program_for, run_on, run_program, run_file}
+use Rattle.machine_spec.specs.Run.{shown}
 use Rattle.machine_spec.specs.Run.{run_by, counts_as}
 use Rattle.claims.specs.Claims.{Shares, source_for, target_for, answer_for, Demand3, Runs, Bounds}
 use Rattle.claims.proofs.Matching.{Matched, both_ran, matching, observed, begin_matched}
@@ -160,7 +161,8 @@ module _ (k : Program) (w : Lawful k) where
 
     -- where it ran to beside the source machine
     pub ran_matched : (mvs : List Move) (r : Run) → run (Target m) vol (sheet_program ks) begun mvs ≡ ran r
-        → Matched m vol ks (run Source vol (kernel_program ks) begun (source_schedule m vol (sheet_program ks) begun mvs))
+        → Matched m vol ks
+            (run Source vol (kernel_program ks) begun (source_schedule m vol (sheet_program ks) begun mvs))
         (ran r)
     ran_matched mvs r e = subst (Matched m vol ks _) e (matching m vol ks (fenced k w m) mvs begun begun begins)
 

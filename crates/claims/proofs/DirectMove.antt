@@ -13,7 +13,8 @@ use Rattle.machine_spec.specs.declared.Machine.TheVariants.{Source, Target}
 use Rattle.machine_spec.specs.declared.Model.{Model}
 use Rattle.machine_spec.specs.Step.{Control, Core, Turn, waits, refuses, passes, does, passed}
 use Rattle.machine_spec.specs.Schedule.{Move, move}
-use Rattle.machine_spec.specs.State.{Run, ran, lane_at, pos_at, core_of, lane_of, set_lane, done_more, apply_turn, move_turn}
+use Rattle.machine_spec.specs.State.{Run, ran, lane_at, pos_at, core_of, lane_of, set_lane, done_more, apply_turn}
+use Rattle.machine_spec.specs.State.{move_turn}
 use Rattle.machine_spec.specs.State.{advance, run}
 use Rattle.claims.specs.Schedules.{keep, leading, expand}
 use Rattle.claims.proofs.Fenced.{AllFenced, kernel_program, sheet_program}

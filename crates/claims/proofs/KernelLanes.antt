@@ -53,7 +53,8 @@ kernel_placed l vol [] = refl
 kernel_placed l vol (os ∷ lanes) = λ i. map op (placed_operations l (steps vol os) 0 os i) ∷ kernel_placed l vol lanes i
 
 module _ (k : Program) where
-  pub lane_placed : (l : Level) (t : ℕ) → get_or (placed_lanes l k) t [] ≡ placed l (volatile_in k) (get_or k.lanes t [])
+  pub lane_placed : (l : Level) (t : ℕ) → get_or (placed_lanes l k) t []
+      ≡ placed l (volatile_in k) (get_or k.lanes t [])
   lane_placed l t = get_or-map (placed l (volatile_in k)) k.lanes t []
 
   pub source_program : (l : Level) → kernel_program (placed_lanes l k) ≡ program_for Source k

@@ -143,7 +143,8 @@ module _ (m : Model) (vol : ℕ → Bool) (ks : List (List (Placed Op))) where
       (λ t. (h.lanes t).pending)
 
   -- what is compared is the same
-  pub observed : (o o' : Outcome) → Matched m vol ks o o' → observe (kernel_program ks) o ≡ observe (sheet_program ks) o'
+  pub observed : (o o' : Outcome) → Matched m vol ks o o' → observe (kernel_program ks) o
+      ≡ observe (sheet_program ks) o'
   observed o o' both_refused = refl
   observed o o' (both_ran {r = r} {s = s} e h) =
       let regs =

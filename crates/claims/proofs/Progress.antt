@@ -71,7 +71,8 @@ halted_at locks (some (Set a c)) h = absurd (false≢true h)
 halted_at locks (some (Add a b)) h = absurd (false≢true h)
 halted_at locks (some (Load a x)) h = absurd (false≢true h)
 halted_at locks (some (Store a x)) h = absurd (false≢true h)
-halted_at locks (some (Lock l)) h = inr (l, refl, eqb-false (get_or locks l 0) 0 (not-true (eqb (get_or locks l 0) 0) h))
+halted_at locks (some (Lock l)) h =
+    inr (l, refl, eqb-false (get_or locks l 0) 0 (not-true (eqb (get_or locks l 0) 0) h))
 halted_at locks (some (Unlock l)) h = absurd (false≢true h)
 halted_at locks (some (Skip a t)) h = absurd (false≢true h)
 
@@ -157,7 +158,8 @@ here_halted locks {r} (meet {o = o}) h =
     sym (aim_blind (λ x. halted locks (some (op x))) (λ a t u. refl) r o) ∙ h
 
 module _ (m : Model) (vol : ℕ → Bool) (ks : List (List (Placed Op))) where
-  follows_halted : (a b : State) → Follows m vol ks a b → AllHalted (sheet_program ks) b → AllHalted (kernel_program ks) a
+  follows_halted : (a b : State) → Follows m vol ks a b → AllHalted (sheet_program ks) b
+      → AllHalted (kernel_program ks) a
   follows_halted a b f h t lt =
       let x = h t (omega (arith, length-map ks sheet, length-map ks (λ ps. map op (operations ps)))) in
       let st = (f.lanes t).stands in

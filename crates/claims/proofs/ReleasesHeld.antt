@@ -15,7 +15,8 @@ use Rattle.machine_spec.specs.declared.Machine.TheVariants.{Source, Target}
 use Rattle.machine_spec.specs.declared.Model.{Model}
 use Rattle.machine_spec.specs.Step.{Turn, waits, refuses, passes, does}
 use Rattle.machine_spec.specs.Schedule.{Move, limit, legal}
-use Rattle.machine_spec.specs.State.{State, start_state, lane_at, pos_at, core_of, Run, Outcome, ran, refused, apply_turn}
+use Rattle.machine_spec.specs.State.{State, start_state, lane_at, pos_at, core_of, Run, Outcome, ran, refused}
+use Rattle.machine_spec.specs.State.{apply_turn}
 use Rattle.machine_spec.specs.State.{move_turn, advance, run, begin}
 use Rattle.claims.specs.Schedules.{source_schedule}
 use Rattle.claims.proofs.Fenced.{AllFenced, kernel_program, sheet_program}

@@ -2,7 +2,8 @@
 -- finished run is over and one that is not finished has a permitted move, that number 11 is never met, and the bounds
 -- of sheets and states. The last record, `Claims`, has all of it, and proofs/Theorem.antt proves it. A line
 -- `name: meaning` tells what a name of another file means.
-use Rattle.std.specs.Prelude.{◌≡◌, Bool, true, false, ◌&&◌, List, [], ◌∷◌, ◌++◌, map, ◌≢◌, ◌⊎◌, ◌↔◌, ℕ, suc, ◌+◌, ◌*◌, ◌≤◌, ◌<◌, length, get_or}
+use Rattle.std.specs.Prelude.{◌≡◌, Bool, true, false, ◌&&◌, List, [], ◌∷◌, ◌++◌, map, ◌≢◌, ◌⊎◌, ◌↔◌, ℕ, suc, ◌+◌, ◌*◌}
+use Rattle.std.specs.Prelude.{◌≤◌, ◌<◌, length, get_or}
 use Rattle.std.proofs.Math.Option.{none, some}
 use Rattle.std.proofs.Math.ListN.{get_elem?}
 use Rattle.file_format.specs.declared.accepted.Op.{Op}

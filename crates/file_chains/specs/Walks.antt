@@ -1,5 +1,6 @@
 -- The order of the records while the lanes are walked.
-use Rattle.std.specs.Prelude.{ℕ, zero, suc, ◌+◌, ◌-◌, ◌≤◌, ◌<◌, ◌≡◌, Bool, false, not, cond, List, [], ◌++◌, map, eqb, length, get_or, take, replicate}
+use Rattle.std.specs.Prelude.{ℕ, zero, suc, ◌+◌, ◌-◌, ◌≤◌, ◌<◌, ◌≡◌, Bool, false, not, cond, List, [], ◌++◌, map, eqb}
+use Rattle.std.specs.Prelude.{length, get_or, take, replicate}
 use Rattle.file_format.specs.Fields.{record_count, head}
 use Rattle.file_format.specs.Linkage.{chain, walked, walk_of}
 

@@ -19,7 +19,8 @@ use Rattle.file_format.proofs.Laws.Targets.{position_le}
 use Rattle.file_format.proofs.Laws.Accepted.{ops_of_at}
 
 -- the limits of a row say what the operation of that row needs
-bounded_by : (ls ks len p op a b c q : ℕ) → a < limit_a op → b < limit_b ls ks op → c < limit_constant op → p < q → q ≤ len
+bounded_by : (ls ks len p op a b c q : ℕ) → a < limit_a op → b < limit_b ls ks op → c < limit_constant op → p < q
+    → q ≤ len
     → Bounded ls ks len p (op_by op a b c q)
 unfolding limit_a limit_b limit_constant
 bounded_by ls ks len p zero a b c q ha hb hc lo hi = absurd (omega arith)

@@ -94,7 +94,8 @@ module _ (s : List ℕ) (ok : Structured s) (t : ℕ) (ht : t < 4) where
         go x false e reached = inr (member_position x (drop (suc p) lane) (not-false _ (rw e at reached)))
 
     -- at the position of a SKIP's target stands its target, and past the last record 0, the end
-    pub lands : get_or lane (p + 1 + position (target s (get_or lane p 0)) (drop (p + 1) lane)) 0 ≡ target s (get_or lane p 0)
+    pub lands : get_or lane (p + 1 + position (target s (get_or lane p 0)) (drop (p + 1) lane)) 0
+        ≡ target s (get_or lane p 0)
     lands =
         let x = target s (get_or lane p 0) in
         let q : p + 1 ≡ suc p = omega arith in

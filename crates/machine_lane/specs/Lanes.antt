@@ -1,5 +1,6 @@
 -- The lane of the machines' text that a lane of the code holds.
-use Rattle.std.specs.Prelude.{ℕ, suc, ◌+◌, ◌-◌, ◌*◌, ◌^◌, ◌≡◌, Bool, false, cond, List, [], ◌∷◌, ltb, get_or, take, replicate, set as update}
+use Rattle.std.specs.Prelude.{ℕ, suc, ◌+◌, ◌-◌, ◌*◌, ◌^◌, ◌≡◌, Bool, false, cond, List, [], ◌∷◌, ltb, get_or, take}
+use Rattle.std.specs.Prelude.{replicate, set as update}
 use Rattle.std.proofs.Math.Option.{some}
 use Rattle.machine_spec.specs.Entries.{Entry, write, release, append_entry}
 use Rattle.machine_spec.specs.Step.{goto}

@@ -70,7 +70,8 @@ run_program m k mvs =
 
 -- a refused file's start state: that of its header where this is valid, from 3 on; else no lane, location or lock
 abbrev pub refused_start : List ℕ → ℕ → State
-refused_start s n = cond (ltb n 3) (start_state 0 [] 0) (start_state (lane_count s) (replicate (locations s) 0) (locks s))
+refused_start s n = cond (ltb n 3) (start_state 0 [] 0)
+    (start_state (lane_count s) (replicate (locations s) 0) (locks s))
 
 abbrev pub run_by : Machine → List ℕ → Verdict → List Move → Answer
 run_by m s (rejected n r) mvs = refusal (refused_start s n) n r

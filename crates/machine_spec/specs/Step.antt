@@ -1,5 +1,6 @@
 -- One lane's move: it carries out the next instruction, or commits a pending entry.
-use Rattle.std.specs.Prelude.{Bool, true, ◌&&◌, cond, List, ℕ, zero, suc, ◌+◌, ◌%◌, ◌^◌, eqb, length, get_or, take, set as update}
+use Rattle.std.specs.Prelude.{Bool, true, ◌&&◌, cond, List, ℕ, zero, suc, ◌+◌, ◌%◌, ◌^◌, eqb, length, get_or, take}
+use Rattle.std.specs.Prelude.{set as update}
 use Rattle.std.proofs.Math.Option.{Option, none, some}
 use Rattle.std.proofs.Math.ListN.{get_elem?}
 use Rattle.file_format.specs.declared.accepted.Op.{Op}

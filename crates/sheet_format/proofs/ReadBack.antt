@@ -74,7 +74,8 @@ abbrev count_of : List Instr → ℕ
 count_of x = length x % 256 + 256 * (length x / 256 % 256)
 
 abbrev four_counts : List (List Instr) → List ℕ
-four_counts xs = count_of (get_or xs 0 []) ∷ count_of (get_or xs 1 []) ∷ count_of (get_or xs 2 []) ∷ count_of (get_or xs 3 []) ∷ []
+four_counts xs =
+    count_of (get_or xs 0 []) ∷ count_of (get_or xs 1 []) ∷ count_of (get_or xs 2 []) ∷ count_of (get_or xs 3 []) ∷ []
 
 count_back : (x : List Instr) → LaneFits x → count_of x ≡ length x
 count_back x h = word_back (length x) h.1

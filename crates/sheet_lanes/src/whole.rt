@@ -26,7 +26,8 @@ fn put_lane(
 ) -> usize
     requires n_in_bounds { (first + 8 * n ≤ length rows.now) × (place + n ≤ length plan.now) × CodesOf level codes }
     requires single_to { SingleTo (drop place plan.now) n }
-    requires n_in_bounds_2 { at + length (lane_rows level (drop place plan.now) (drop first rows.now) n) ≤ length out.old }
+    requires n_in_bounds_2 { at + length
+        (lane_rows level (drop place plan.now) (drop first rows.now) n) ≤ length out.old }
     ensures { Puts out.old at
         (lane_rows level (drop place plan.now) (drop first rows.now) n) out.new result }
 {

@@ -75,7 +75,8 @@ empty : Program
 empty = record { locations = 1; locks = 0; mask = 0; records = [] ∷ []; lanes = [] ∷ [] }
 
 empty_holds : page_text empty ≡ heading_line 1
-unfolding digits decimal blank_line in_column in_columns line_in heading_line page_text pages_of page_of in_turn page_lines
+unfolding digits decimal blank_line in_column in_columns line_in heading_line page_text pages_of page_of in_turn
+    page_lines
     lines_from lane_lines empty
 empty_holds = refl
 
@@ -115,7 +116,8 @@ kernel_holds : page_text kernel ≡
     ∷ 50 ∷ 32 ∷ 32 ∷ 32 ∷ 48 ∷ 32 ∷ 83 ∷ 69 ∷ 84 ∷ 32 ∷ 32 ∷ 32 ∷ 32 ∷ 53 ∷ 32 ∷ 32 ∷ 32 ∷ 32 ∷ 32 ∷ 32 ∷ 32
     ∷ 32 ∷ 32 ∷ 32 ∷ 32 ∷ 50 ∷ 53 ∷ 56 ∷ 32 ∷ 32 ∷ 32 ∷ 50 ∷ 10
     ∷ []
-unfolding digits decimal blank_line in_column in_columns line_in instruction_line heading_line lane_lines lines_from page_lines
+unfolding digits decimal blank_line in_column in_columns line_in instruction_line heading_line lane_lines lines_from
+    page_lines
     page_of pages_of page_text in_turn stands due due_after kernel
 kernel_holds = refl
 
@@ -218,7 +220,8 @@ examples =
     []
 
 examples_hold : map printed examples ≡ examples
-unfolding digits decimal blank_line in_column in_columns line_in instruction_line heading_line lane_lines lines_from page_of
+unfolding digits decimal blank_line in_column in_columns line_in instruction_line heading_line lane_lines lines_from
+    page_of
     pages_of in_turn line_at examples
 examples_hold = refl
 

@@ -39,7 +39,8 @@ module _ {s order place ends : List ℕ} (o : Ordered s order place ends) where
 
   module _ (short : chain_too_long s ≡ 0) (i x : ℕ) (lo : 1 ≤ i) (hi : i ≤ record_count s) (lo' : 1 ≤ x)
       (hi' : x ≤ record_count s) where
-    module _ (t p : ℕ) (below : t < 4) (inside : p < count_of ends t) (spot : get_or place i 0 ≡ begin_of ends t + p + 1)
+    module _ (t p : ℕ) (below : t < 4) (inside : p < count_of ends t) (spot : get_or place i 0
+        ≡ begin_of ends t + p + 1)
         (end : end_of ends (get_or place i 0) ≡ get_or ends t 0) where
       here : get_or (records_in order ends t) p 0 ≡ i
       here =

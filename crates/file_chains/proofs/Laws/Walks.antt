@@ -21,7 +21,8 @@ module _ (s order place : List ℕ) (n : ℕ) (f : Filling s order place n) wher
   filling_count = omega (arith, f.counted, tally_le (met place) 1 (record_count s))
 
   -- a record r that has no place yet
-  module _ (r : ℕ) (few : record_count s ≤ 256) (lo : 1 ≤ r) (hi : r ≤ record_count s) (none : get_or place r 0 ≡ 0) where
+  module _ (r : ℕ) (few : record_count s ≤ 256) (lo : 1 ≤ r) (hi : r ≤ record_count s) (none : get_or place r 0
+      ≡ 0) where
     counted_on : tally (met (set place r (n + 1))) 1 (record_count s) ≡ n + 1
     counted_on =
         let below : r < 257 = omega arith in
@@ -71,7 +72,8 @@ module _ (s order place : List ℕ) (n : ℕ) (f : Filling s order place n) wher
             let last : n + 1 - 1 ≡ n = omega arith in
             rw (same, get_or-set_same place r (n + 1) 0 (omega (arith, f.place_room))) (omega arith, rw last put)
         go (no apart) =
-            let was : get_or (set place r (n + 1)) i 0 ≡ get_or place i 0 = get_or-set_other place r i (n + 1) 0 apart in
+            let was : get_or (set place r (n + 1)) i 0 ≡ get_or place i 0 =
+                get_or-set_other place r i (n + 1) 0 apart in
             let old = f.every i (omega arith) in
             rw was (omega (arith, old.0), kept (get_or place i 0 - 1) (omega (arith, old.0)) ∙ old.1)
 

@@ -124,7 +124,8 @@ module _ {s : List ℕ} {n : ℕ} {a b constant target : List ℕ} (l : Limits s
 
     pub limit_target_lem : get_or target r 0 ≡ limit_target (record_count s) op
     unfolding limit_target
-    limit_target_lem = ap₂ (λ x y. get_or x y 0) l.target_row e ∙ get_d_within (row_target (record_count s)) 8 refl refl op
+    limit_target_lem =
+        ap₂ (λ x y. get_or x y 0) l.target_row e ∙ get_d_within (row_target (record_count s)) 8 refl refl op
 
 -- the six tests of a record together
 pub rule_by : (s : List ℕ) (i : ℕ) {t₁ t₂ t₃ t₄ t₅ t₆ : Bool}

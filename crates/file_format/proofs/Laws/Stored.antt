@@ -13,12 +13,14 @@ ops_from_length s n [] = refl
 ops_from_length s n (r ∷ rs) = ap suc (ops_from_length s (suc n) rs)
 
 pub lane_count_lem : (s : List ℕ) → lane_count s ≤ 4 → length (program_of s).lanes ≡ lane_count s
-lane_count_lem s h = omega (arith, length-map (take (lane_count s) (heads s)) (ops_at s), length-take (lane_count s) (heads s))
+lane_count_lem s h =
+    omega (arith, length-map (take (lane_count s) (heads s)) (ops_at s), length-take (lane_count s) (heads s))
 
 -- each lane has as many operations as records
 pub lanes_paired : (s : List ℕ) → length (program_of s).lanes ≡ length (program_of s).records
 lanes_paired s =
-    length-map (take (lane_count s) (heads s)) (ops_at s) ∙ sym (length-map (take (lane_count s) (heads s)) (records_at s))
+    length-map (take (lane_count s) (heads s)) (ops_at s)
+        ∙ sym (length-map (take (lane_count s) (heads s)) (records_at s))
 
 pub lane_paired : (s : List ℕ) (t : ℕ)
     → length (get_or (program_of s).lanes t []) ≡ length (get_or (program_of s).records t [])

@@ -16,7 +16,8 @@ use Rattle.sheet_format.proofs.Laws.Put.{puts_on, puts_as}
 use Rattle.sheet_rows.specs.Lanes.{op_rows}
 
 module _ (ops : List Op) where
-  rows_suc : (p : ℕ) → p < length ops → op_rows (take p ops) ++ op_bytes (get_or ops p no_op) ≡ op_rows (take (p + 1) ops)
+  rows_suc : (p : ℕ) → p < length ops → op_rows (take p ops) ++ op_bytes (get_or ops p no_op)
+      ≡ op_rows (take (p + 1) ops)
   rows_suc p h =
       let one : p + 1 ≡ suc p = omega arith in
       let o = get_or ops p no_op in

@@ -17,7 +17,8 @@ use Rattle.file_format.proofs.Laws.Targets.{position_le}
 use Rattle.file_format.proofs.Laws.Accepted.{ops_of_at}
 use Rattle.file_format.proofs.Laws.Stored.{ops_from_length}
 use Rattle.file_chains.specs.Ordered.{begin_of, count_of, records_in, landing_in, Ordered}
-use Rattle.file_chains.proofs.Laws.Places.{end_inside, lane_length_lem, lane_at_lem, lane_short, lane_records, target_lands}
+use Rattle.file_chains.proofs.Laws.Places.{end_inside, lane_length_lem, lane_at_lem, lane_short, lane_records}
+use Rattle.file_chains.proofs.Laws.Places.{target_lands}
 use Rattle.sheet_format.specs.Bytes.{op_bytes}
 use Rattle.file_rows.specs.Records.{record_row, RecordIn, LaneIn}
 use Rattle.file_rows.proofs.Laws.Row.{record_row_lem}

@@ -9,7 +9,8 @@ use lib.Dec.{eqb}
 use lib.ListN.{set}
 use lib.Seq.{sets}
 use Rattle.laws.proofs.Bytes.{fifth_stored}
-use Rattle.file_format.specs.Fields.{byte, start, locations, locks, operation, register_a, operand_b, reserved, constant}
+use Rattle.file_format.specs.Fields.{byte, start, locations, locks, operation, register_a, operand_b, reserved}
+use Rattle.file_format.specs.Fields.{constant}
 use Rattle.file_format.specs.Fields.{target}
 use Rattle.file_format.specs.Rules.{record_tests, record_rule, limit_a, limit_b, limit_constant}
 use Rattle.file_format.specs.Accepted.{op_by, op_of}

@@ -27,7 +27,8 @@ module _
     (ed : d ≡ length (ops_at s (head s 3)))
   where
     same : (t : ℕ) → t < 4 → chain_at s t ≡ lane_bytes Level0 (instrs_at s header Level0 t)
-    same t h = sym (ap (lane_bytes Level0) (lane0 (is_volatile (mask s)) (ops_at s (head s t)) (ops_within s (head s t))))
+    same t h =
+        sym (ap (lane_bytes Level0) (lane0 (is_volatile (mask s)) (ops_at s (head s t)) (ops_within s (head s t))))
 
     rows_at : {n : ℕ} (t : ℕ) → n ≡ length (ops_at s (head s t)) → n ≡ length (instrs_at s header Level0 t)
     rows_at t e =

@@ -12,7 +12,8 @@ use Rattle.machine_spec.specs.State.{Lane}
 use Rattle.machine_state.specs.declared.state.Moved.{Moved}
 use Rattle.machine_state.specs.declared.state.Moved.TheVariants.{Waited, Done}
 use Rattle.machine_lane.specs.Lanes.{entry_of, no_entry, with_marks, with_pending}
-use Rattle.machine_state.specs.States.{Blocks, CELLS, VALUES, word_at, lane_of, core_in, state_in, Sized, Became, Shared}
+use Rattle.machine_state.specs.States.{Blocks, CELLS, VALUES, word_at, lane_of, core_in, state_in, Sized, Became}
+use Rattle.machine_state.specs.States.{Shared}
 use Rattle.machine_step.specs.Turns.{commits, Took}
 use Rattle.machine_state.proofs.Laws.Rules.{pending_at}
 use Rattle.machine_step.proofs.Laws.Turns.{took_wait, took_does}

@@ -6,7 +6,8 @@ use Rattle.file_chains.proofs.Laws.Lanes.{Linking}
 use Rattle.file_chains.proofs.link.link.Given as goal
 
 abbrev pub invariant-loop-t : goal.invariant-loop-t
-invariant-loop-t l = Linking l.s l.order l.place l.ends l.k l.t × (length l.order ≡ length l.initial.order) × (length l.place ≡ length l.initial.place)
+invariant-loop-t l = Linking l.s l.order l.place l.ends l.k l.t × (length l.order ≡ length l.initial.order)
+    × (length l.place ≡ length l.initial.place)
 
 abbrev pub decreases-loop-t : goal.decreases-loop-t
 decreases-loop-t l = 4 - l.t

@@ -3,7 +3,8 @@ use lib.Dec.{ltb, leb}
 use mathlib.Core.Path.{refl, ap₂}
 use native.Mathlib.Omega.{arith}
 use Rattle.file_format.specs.Fields.{operation}
-use Rattle.file_format.proofs.Laws.Rules.{rows_eight, limit_a_lem, limit_b_lem, limit_constant_lem, limit_target_lem, rule_by}
+use Rattle.file_format.proofs.Laws.Rules.{rows_eight, limit_a_lem, limit_b_lem, limit_constant_lem, limit_target_lem}
+use Rattle.file_format.proofs.Laws.Rules.{rule_by}
 use Rattle.file_fields.proofs.limits.record_rule.Goals as goal
 
 pub bounds-a-op : goal.bounds-a-op

@@ -42,7 +42,8 @@ loop-t-smaller c = omega (arith, c.loop-t-test.true)
 
 pub loop-t-preserved : goal.loop-t-preserved
 loop-t-preserved c =
-    let lane : LaneIn c.args.s.now c.args.order.now c.args.place.now c.loop-t.begin (get_or c.args.ends.now c.loop-t.t 0) = record {
+    let lane : LaneIn c.args.s.now c.args.order.now c.args.place.now c.loop-t.begin
+        (get_or c.args.ends.now c.loop-t.t 0) = record {
       lane = c.loop-t.t;
       ends = c.args.ends.now;
       below = c.loop-t-test.true;

@@ -17,7 +17,8 @@ use borrow.Author.Rules.{rules}
 use Rattle.file_rows.proofs.whole.write_lanes.Given as goal
 
 abbrev pub invariant-loop-t : goal.invariant-loop-t
-invariant-loop-t l = (l.t ≤ 4) × (l.begin ≡ begin_of l.ends l.t) × Puts l.initial.out 16 (in_turn (chain_at l.s) l.t) l.out (16 + 8 * l.begin)
+invariant-loop-t l = (l.t ≤ 4) × (l.begin ≡ begin_of l.ends l.t)
+    × Puts l.initial.out 16 (in_turn (chain_at l.s) l.t) l.out (16 + 8 * l.begin)
 
 abbrev pub decreases-loop-t : goal.decreases-loop-t
 decreases-loop-t l = 4 - l.t

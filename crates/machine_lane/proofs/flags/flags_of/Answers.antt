@@ -25,6 +25,7 @@ pub returns : goal.returns
 returns c =
     let last : c.loop-x.x ≡ 16 = omega (arith, c.loop-x-test.false) in (
       sym c.loop-x.invariant.1,
-      flagged_all c.args.mask c.loop-x.flags (subst (Flagged c.args.mask c.loop-x.flags) last c.loop-x.invariant.2) c.loop-x.invariant.1
+      flagged_all c.args.mask c.loop-x.flags
+          (subst (Flagged c.args.mask c.loop-x.flags) last c.loop-x.invariant.2) c.loop-x.invariant.1
           c.requires,
     )

@@ -10,7 +10,8 @@ use borrow.Author.Rules.{rules}
 use Rattle.text_put.proofs.put.put_text.Given as goal
 
 abbrev pub invariant-loop-i : goal.invariant-loop-i
-invariant-loop-i l = (l.i ≤ length l.text) × (length l.out ≡ length l.initial.out) × Puts l.initial.out l.at (take l.i l.text) l.out (l.at + l.i)
+invariant-loop-i l = (l.i ≤ length l.text) × (length l.out ≡ length l.initial.out)
+    × Puts l.initial.out l.at (take l.i l.text) l.out (l.at + l.i)
 
 abbrev pub decreases-loop-i : goal.decreases-loop-i
 decreases-loop-i l = length l.text - l.i

@@ -31,7 +31,8 @@ loop-i-preserved c =
       omega arith,
       omega arith,
       c.loop-i.invariant.4,
-      rw add-one (moved_down c.loop-i.c c.loop-i.v c.loop-i.i c.loop-i.invariant.0 c.loop-i.invariant.1 h ∙ c.loop-i.invariant.5),
+      rw add-one (moved_down c.loop-i.c c.loop-i.v c.loop-i.i c.loop-i.invariant.0 c.loop-i.invariant.1 h
+          ∙ c.loop-i.invariant.5),
     )
 
 pub returns : goal.returns
