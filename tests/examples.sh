@@ -19,8 +19,11 @@ for machine in source tso pso; do
         cmp "$built/end" -
 done
 
-(cd reference && cargo run --release --offline --quiet --bin listings -- ../crates/lanetext/out/lanetext listing 1000 1)
-(cd reference && cargo run --release --offline --quiet --bin listings -- ../crates/lanepage/out/lanepage page 1000 1)
+listings() {
+    (cd reference && cargo run --release --offline --quiet --bin listings -- "$@")
+}
+listings ../crates/lanetext/out/lanetext listing 1000 1
+listings ../crates/lanepage/out/lanepage page 1000 1
 
 sh tools/liblanes.sh > "$built/log" 2>&1 || { cat "$built/log"; exit 1; }
 cc -std=c99 -Wall -Wextra -Wpedantic -Werror -O2 examples/translate.c target/staticlib/liblanes.a -o "$built/translate"
