@@ -44,7 +44,8 @@ for program in lanetext lanepage; do
 done
 # schedules by hand: a move that no machine has, a line that is no move, refused kernels, a file that is not there
 last_line() {
-    crates/lanerun/out/lanerun "$1" "$2" "$3" | tail -n 1 | grep -Fxq "$4" || { echo "lanerun $1 $2 $3: not '$4'"; exit 1; }
+    crates/lanerun/out/lanerun "$1" "$2" "$3" | tail -n 1 | grep -Fxq "$4" ||
+        { echo "lanerun $1 $2 $3: not '$4'"; exit 1; }
 }
 kernel=examples/store-buffering-mask-3.kernel
 printf '0 0\n2 0\n' > "$built/third-lane.moves"
