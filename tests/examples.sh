@@ -19,8 +19,11 @@ for machine in source tso pso; do
         cmp "$built/end" -
 done
 
-(cd reference && cargo run --release --offline --quiet --bin listings -- ../crates/lanetext/out/lanetext listing 1000 1)
-(cd reference && cargo run --release --offline --quiet --bin listings -- ../crates/lanepage/out/lanepage page 1000 1)
+listings() {
+    (cd reference && cargo run --release --offline --quiet --bin listings -- "$@")
+}
+listings ../crates/lanetext/out/lanetext listing 1000 1
+listings ../crates/lanepage/out/lanepage page 1000 1
 
 sh tools/liblanes.sh > "$built/log" 2>&1 || { cat "$built/log"; exit 1; }
 cc -std=c99 -Wall -Wextra -Wpedantic -Werror -O2 examples/translate.c target/staticlib/liblanes.a -o "$built/translate"
@@ -41,7 +44,8 @@ for program in lanetext lanepage; do
 done
 # schedules by hand: a move that no machine has, a line that is no move, refused kernels, a file that is not there
 last_line() {
-    crates/lanerun/out/lanerun "$1" "$2" "$3" | tail -n 1 | grep -Fxq "$4" || { echo "lanerun $1 $2 $3: not '$4'"; exit 1; }
+    crates/lanerun/out/lanerun "$1" "$2" "$3" | tail -n 1 | grep -Fxq "$4" ||
+        { echo "lanerun $1 $2 $3: not '$4'"; exit 1; }
 }
 kernel=examples/store-buffering-mask-3.kernel
 printf '0 0\n2 0\n' > "$built/third-lane.moves"
