@@ -162,7 +162,7 @@ module _ (k : Program) (w : Lawful k) where
     -- where it ran to beside the source machine
     pub ran_matched : (mvs : List Move) (r : Run) → run (Target m) vol (sheet_program ks) begun mvs ≡ ran r
         → Matched m vol ks
-            (run Source vol (kernel_program ks) begun (source_schedule m vol (sheet_program ks) begun mvs))
+        (run Source vol (kernel_program ks) begun (source_schedule m vol (sheet_program ks) begun mvs))
         (ran r)
     ran_matched mvs r e = subst (Matched m vol ks _) e (matching m vol ks (fenced k w m) mvs begun begun begins)
 

@@ -189,7 +189,7 @@ table =
     ∷ shows Level3 (lane (VL ∷ PL ∷ PS ∷ [])) (codes (3 ∷ 3 ∷ 4 ∷ []))
     ∷ shows Level3 (lane (LOCK ∷ UNLOCK ∷ LOCK ∷ UNLOCK ∷ [])) (codes (5 ∷ 6 ∷ 5 ∷ 13 ∷ 6 ∷ []))
     ∷ shows Level3 (lane (VS ∷ skip_to 4 ∷ VL ∷ LOCK ∷ UNLOCK ∷ []))
-        ((4, 0) ∷ (7, 4) ∷ codes (14 ∷ 3 ∷ 5 ∷ 13 ∷ 6 ∷ []))
+    ((4, 0) ∷ (7, 4) ∷ codes (14 ∷ 3 ∷ 5 ∷ 13 ∷ 6 ∷ []))
     -- and on the pso machine store buffering never finishes with both zero, but for mask 1
     ∷ never (Target Pso) (store_buffering 3)
     ∷ ends (Target Pso) (store_buffering 3) (straight 0 ++ straight 1) true (0 ∷ 1 ∷ [])

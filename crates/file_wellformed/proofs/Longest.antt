@@ -26,7 +26,7 @@ longest : map (λ e. refusal_of e.0) table ≡ map (λ e. e.1) table
 unfolding refusal_of structure_then fields_then header_rule head_rule bad_record record_rule limit_a limit_b
     limit_constant
     limit_target lowest first_of bad_linkage linkage_from chain member walk_of chain_too_long bad_target
-        unreachable_target
+    unreachable_target
     lock_fault
     lock_order all_below descent_at descent_position position
     op_of ops_from record_at fault_position fault_at conflict_below held_from same header entry sets table

@@ -30,7 +30,7 @@ set_lane_each P a t k c lt = set-each P idle a.lanes t (lane_of k c) lt
 -- what holds of the lanes of two states, after lane t is put in both
 pub set_lane_both : (R : ℕ → Lane → Lane → Type 0) (a b : State) → length a.lanes ≡ length b.lanes
     → ((u : ℕ) → R u (lane_at a u) (lane_at b u)) → (t : ℕ) (i k : Control) (c d : Core)
-        → R t (lane_of i c) (lane_of k d)
+    → R t (lane_of i c) (lane_of k d)
     → (u : ℕ) → R u (lane_at (set_lane a t i c) u) (lane_at (set_lane b t k d) u)
 set_lane_both R a b e h t i k c d =
     pointwise_set R idle idle a.lanes b.lanes e h t (lane_of i c) (lane_of k d)

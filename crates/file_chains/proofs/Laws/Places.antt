@@ -129,8 +129,10 @@ module _ {s order place ends : List ℕ} (o : Ordered s order place ends) where
       pub behind_at : (q : ℕ) → q < length (behind order ends t p)
           → get_or (behind order ends t p) q 0 ≡ get_or order (begin_of ends t + (p + 1 + q)) 0
       behind_at q h =
-          get_or-drop (p + 1) (records_in order ends t) q 0 ∙ lane_at_lem t below (p + 1 + q) (omega (arith,
-              behind_length))
+          get_or-drop (p + 1) (records_in order ends t) q 0 ∙ lane_at_lem t below (p + 1 + q) (omega (
+            arith,
+            behind_length,
+          ))
 
       module _ (x : ℕ) (h : position x (behind order ends t p) < length (behind order ends t p)) where
         found_at : get_or order (begin_of ends t + (p + 1 + position x (behind order ends t p))) 0 ≡ x

@@ -73,7 +73,7 @@ module _ (s order place : List ℕ) (n : ℕ) (f : Filling s order place n) wher
             rw (same, get_or-set_same place r (n + 1) 0 (omega (arith, f.place_room))) (omega arith, rw last put)
         go (no apart) =
             let was : get_or (set place r (n + 1)) i 0 ≡ get_or place i 0 =
-                get_or-set_other place r i (n + 1) 0 apart in
+            get_or-set_other place r i (n + 1) 0 apart in
             let old = f.every i (omega arith) in
             rw was (omega (arith, old.0), kept (get_or place i 0 - 1) (omega (arith, old.0)) ∙ old.1)
 

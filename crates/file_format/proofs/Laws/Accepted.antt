@@ -14,7 +14,7 @@ ops_from_at s n [] p d h = absurd (omega arith)
 ops_from_at s n (r ∷ rest) zero d h = ap (λ m. op_of s m rest r) (omega arith)
 ops_from_at s n (r ∷ rest) (suc p) d h =
     ops_from_at s (suc n) rest p d (omega arith)
-        ∙ ap (λ m. op_of s m (drop (suc p) rest) (get_or rest p 0)) (omega arith)
+    ∙ ap (λ m. op_of s m (drop (suc p) rest) (get_or rest p 0)) (omega arith)
 
 pub ops_of_at : (s rs : List ℕ) (p : ℕ) (d : Op) → p < length rs
     → get_or (ops_of s rs) p d ≡ op_of s p (drop (p + 1) rs) (get_or rs p 0)

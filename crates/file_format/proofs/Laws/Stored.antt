@@ -20,7 +20,7 @@ lane_count_lem s h =
 pub lanes_paired : (s : List ℕ) → length (program_of s).lanes ≡ length (program_of s).records
 lanes_paired s =
     length-map (take (lane_count s) (heads s)) (ops_at s)
-        ∙ sym (length-map (take (lane_count s) (heads s)) (records_at s))
+    ∙ sym (length-map (take (lane_count s) (heads s)) (records_at s))
 
 pub lane_paired : (s : List ℕ) (t : ℕ)
     → length (get_or (program_of s).lanes t []) ≡ length (get_or (program_of s).records t [])

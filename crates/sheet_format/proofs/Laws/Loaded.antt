@@ -104,7 +104,7 @@ module _ (s : List ℕ) (header : header_rule s ≡ true) where
             let nd = size_at 3 (omega arith) ed in
             λ i. (nn i ∷ els i ∷ eks i ∷ level_number l ∷ word_bytes (em i) ++ 0 ∷ 0 ∷ [])
             ++ (word_bytes (na i) ++ (word_bytes (nb i) ++ (word_bytes (nc i) ++ (word_bytes (nd i) ++ []))))
-                ++ lanes_by i
+            ++ lanes_by i
 
         pub body_by : 16 + length (in_turn text 4) ≡ length (sheet_bytes l (program_of s))
         body_by = omega (arith, ap length (parts_by refl refl refl refl))

@@ -61,5 +61,7 @@ module _ {rows : List ℕ} {n : ℕ} {ops : List Op} (h : Holds rows n ops) wher
     pub held_fields : row_in (drop (8 * p) rows) ≡ fields_of (get_or ops p no_op)
     held_fields =
         ap row_in from_row
-        ∙ fields_in_lem (get_or ops p no_op) _ (h.small p (get_or ops p no_op) (at_some ops p no_op (omega (arith,
-            h.count))))
+        ∙ fields_in_lem (get_or ops p no_op) _ (h.small p (get_or ops p no_op) (at_some ops p no_op (omega (
+          arith,
+          h.count,
+        ))))

@@ -10,7 +10,7 @@ use Rattle.file_chains.proofs.link.left_over.Given as goal
 abbrev pub invariant-loop-i : goal.invariant-loop-i
 invariant-loop-i l = (l.e ≤ 257)
     × (lowest (λ j. not (get_or (met l.place) j false)) l.i (l.e - l.i)
-        ≡ lowest (λ j. not (get_or (met l.place) j false)) 1 l.n)
+    ≡ lowest (λ j. not (get_or (met l.place) j false)) 1 l.n)
 
 abbrev pub decreases-loop-i : goal.decreases-loop-i
 decreases-loop-i l = l.e - l.i

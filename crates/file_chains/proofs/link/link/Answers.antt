@@ -9,9 +9,12 @@ use Rattle.file_chains.proofs.Laws.Lanes.{linking_start, linking_on, linking_end
 use Rattle.file_chains.proofs.link.link.Goals as goal
 
 pub loop-t-init : goal.loop-t-init
-loop-t-init c =
-    (linking_start _ _ _
-        (few_records _ c.requires.fields.header) c.requires.room.0 c.requires.room.1 c.requires.blank, refl, refl)
+loop-t-init c = (
+  linking_start _ _ _
+      (few_records _ c.requires.fields.header) c.requires.room.0 c.requires.room.1 c.requires.blank,
+  refl,
+  refl,
+)
 
 pub walk-lane-requires : goal.walk-lane-requires
 walk-lane-requires c = (
@@ -37,15 +40,21 @@ loop-t-preserved c = (
 
 pub returns-then-k-n : goal.returns-then-k-n
 returns-then-k-n c =
-    record { bad = linking_full c.loop-t.invariant.0 c.loop-t-test.false (c.if-k-n.true ∙ c.word_at-n.ensures.0);
-        order = λ e. linked c.loop-t.invariant.0 c.loop-t-test.false e }
+    record {
+      bad = linking_full c.loop-t.invariant.0 c.loop-t-test.false (c.if-k-n.true ∙ c.word_at-n.ensures.0);
+      order = λ e. linked c.loop-t.invariant.0 c.loop-t-test.false e;
+    }
 
 pub left_over-bad-requires : goal.left_over-bad-requires
-left_over-bad-requires c =
-    (omega (arith, c.word_at-n.ensures.0, c.loop-t.invariant.0.few),
-        omega (arith, c.word_at-n.ensures.0, c.loop-t.invariant.0.filling.place_room))
+left_over-bad-requires c = (
+  omega (arith, c.word_at-n.ensures.0, c.loop-t.invariant.0.few),
+  omega (arith, c.word_at-n.ensures.0, c.loop-t.invariant.0.filling.place_room),
+)
 
 pub returns : goal.returns
 returns c =
-    record { bad = c.left_over-bad.ensures ∙ ap (lowest _ 1) c.word_at-n.ensures.0 ∙ linking_end c.loop-t.invariant.0
-        c.loop-t-test.false; order = λ e. linked c.loop-t.invariant.0 c.loop-t-test.false e }
+    record {
+      bad = c.left_over-bad.ensures ∙ ap (lowest _ 1) c.word_at-n.ensures.0 ∙ linking_end c.loop-t.invariant.0
+          c.loop-t-test.false;
+      order = λ e. linked c.loop-t.invariant.0 c.loop-t-test.false e;
+    }

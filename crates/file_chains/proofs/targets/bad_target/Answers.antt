@@ -17,8 +17,15 @@ loop-i-init c = (
 
 pub strays-requires : goal.strays-requires
 strays-requires c =
-    record { s_bound = (few_records _ c.requires.fielded.header, c.requires.fielded.records, c.loop-i.invariant.1,
-        omega arith); s_value = c.requires.s_value }
+    record {
+      s_bound = (
+        few_records _ c.requires.fielded.header,
+        c.requires.fielded.records,
+        c.loop-i.invariant.1,
+        omega arith,
+      );
+      s_value = c.requires.s_value;
+    }
 
 pub returns-then-strays : goal.returns-then-strays
 returns-then-strays c =

@@ -41,9 +41,12 @@ bounds-order-j c =
 pub put_record-requires : goal.put_record-requires
 put_record-requires c =
     let below : c.loop-p.p < c.args.end - c.args.begin = c.loop-p-test.true in
-        record { room = omega (arith, puts_length c.loop-p.invariant.1, c.requires.room); known =
-            subst (RecordIn c.args.s.now c.args.place.now c.args.begin (c.args.end - c.args.begin))
-          (sym c.wide_word.ensures.0) (record_in_lem c.requires.lane c.loop-p.p below); }
+    record {
+      room = omega (arith, puts_length c.loop-p.invariant.1, c.requires.room);
+      known =
+          subst (RecordIn c.args.s.now c.args.place.now c.args.begin (c.args.end - c.args.begin))
+          (sym c.wide_word.ensures.0) (record_in_lem c.requires.lane c.loop-p.p below);
+    }
 
 pub overflow_add-p : goal.overflow_add-p
 overflow_add-p c =
@@ -76,6 +79,9 @@ returns c =
     let all = ops_from_length c.args.s.now 0 records in
     let past : n ≤ c.loop-p.p = c.loop-p-test.false in
     puts_end
-    (puts_as (rows_all (ops_of c.args.s.now records) c.loop-p.p (omega (arith, all,
-        counted_in c.requires.lane))) c.loop-p.invariant.1)
+    (puts_as (rows_all (ops_of c.args.s.now records) c.loop-p.p (omega (
+      arith,
+      all,
+      counted_in c.requires.lane,
+    ))) c.loop-p.invariant.1)
     (omega (arith, in_order c.requires.lane))

@@ -19,7 +19,7 @@ use Rattle.file_rows.proofs.chain.write_chain.Given as goal
 abbrev pub invariant-loop-p : goal.invariant-loop-p
 invariant-loop-p l = (l.p ≤ l.n)
     × Puts l.initial.out (16 + 8 * l.begin) (op_rows (take l.p (ops_of l.s (take l.n (drop l.begin l.order))))) l.out
-        (16 + 8 * l.begin + 8 * l.p)
+    (16 + 8 * l.begin + 8 * l.p)
 
 abbrev pub decreases-loop-p : goal.decreases-loop-p
 decreases-loop-p l = l.n - l.p

@@ -32,7 +32,7 @@ write_chain-requires c =
       to = refl;
     } in
     let inside = end_inside c.requires.order c.loop-t.t c.loop-t-test.true in
-    record { room = omega (arith, inside, puts_length c.loop-t.invariant.2, c.requires.room); lane = lane; }
+    record { room = omega (arith, inside, puts_length c.loop-t.invariant.2, c.requires.room); lane = lane }
 
 pub overflow_add-t : goal.overflow_add-t
 overflow_add-t c = omega (arith, c.loop-t-test.true)
@@ -43,7 +43,7 @@ loop-t-smaller c = omega (arith, c.loop-t-test.true)
 pub loop-t-preserved : goal.loop-t-preserved
 loop-t-preserved c =
     let lane : LaneIn c.args.s.now c.args.order.now c.args.place.now c.loop-t.begin
-        (get_or c.args.ends.now c.loop-t.t 0) = record {
+    (get_or c.args.ends.now c.loop-t.t 0) = record {
       lane = c.loop-t.t;
       ends = c.args.ends.now;
       below = c.loop-t-test.true;

@@ -14,12 +14,11 @@ pub loop-x-smaller : goal.loop-x-smaller
 loop-x-smaller c = omega (arith, c.loop-x-test.true)
 
 pub loop-x-preserved : goal.loop-x-preserved
-loop-x-preserved c =
-    (
-      omega (arith, c.loop-x-test.true),
-      length-set c.loop-x.flags c.loop-x.x _ ∙ c.loop-x.invariant.1,
-      flagged_on c.args.mask c.loop-x.flags c.loop-x.x c.loop-x.invariant.2 (omega (arith, c.loop-x-test.true)),
-    )
+loop-x-preserved c = (
+  omega (arith, c.loop-x-test.true),
+  length-set c.loop-x.flags c.loop-x.x _ ∙ c.loop-x.invariant.1,
+  flagged_on c.args.mask c.loop-x.flags c.loop-x.x c.loop-x.invariant.2 (omega (arith, c.loop-x-test.true)),
+)
 
 pub returns : goal.returns
 returns c =

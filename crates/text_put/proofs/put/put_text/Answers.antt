@@ -13,12 +13,11 @@ pub loop-i-init : goal.loop-i-init
 loop-i-init c = (omega arith, refl, puts_end puts_none (omega arith))
 
 pub loop-i-preserved : goal.loop-i-preserved
-loop-i-preserved c =
-    (
-      omega arith,
-      puts_length c.put.ensures ∙ c.loop-i.invariant.1,
-      puts_next _ _ _ c.loop-i.invariant.2 c.loop-i-test.true refl c.put.ensures,
-    )
+loop-i-preserved c = (
+  omega arith,
+  puts_length c.put.ensures ∙ c.loop-i.invariant.1,
+  puts_next _ _ _ c.loop-i.invariant.2 c.loop-i-test.true refl c.put.ensures,
+)
 
 pub returns : goal.returns
 returns c =

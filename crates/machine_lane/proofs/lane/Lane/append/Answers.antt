@@ -25,15 +25,19 @@ pub returns : goal.returns
 returns c =
     let es = entries_of c.args.self.cells c.args.self.values in
     let h : c.args.self.len < length es =
-        omega (arith, room c.args.self _ c.well_formed.0, pending_length c.args.self _ c.well_formed.0) in
+    omega (arith, room c.args.self _ c.well_formed.0, pending_length c.args.self _ c.well_formed.0) in
     let low : c.args.self.len < 64 = omega (arith, room c.args.self _ c.well_formed.0) in
     record {
       lane = lane_eq refl refl refl
           (rw (add-one, entries_set c.args.self.cells c.args.self.values c.args.self.len c.args.cell c.args.value)
           (take-suc-set es c.args.self.len (entry_of c.args.cell c.args.value) h));
       len = add-one c.args.self.len;
-      cell = get_or-set_same c.args.self.cells c.args.self.len c.args.cell 0 (omega (arith,
-          cells_length c.args.self _ c.well_formed.0));
-      value = get_or-set_same c.args.self.values c.args.self.len c.args.value 0 (omega (arith,
-          values_length c.args.self _ c.well_formed.0));
+      cell = get_or-set_same c.args.self.cells c.args.self.len c.args.cell 0 (omega (
+        arith,
+        cells_length c.args.self _ c.well_formed.0,
+      ));
+      value = get_or-set_same c.args.self.values c.args.self.len c.args.value 0 (omega (
+        arith,
+        values_length c.args.self _ c.well_formed.0,
+      ));
     }

@@ -13,15 +13,14 @@ use borrow.Author.Rules.{rules}
 use Rattle.machine_lane.proofs.lane.Lane.commit.Goals as goal
 
 pub loop-i-init : goal.loop-i-init
-loop-i-init c =
-    (
-      cells_length c.args.self _ c.well_formed.0,
-      values_length c.args.self _ c.well_formed.0,
-      omega arith,
-      omega arith,
-      omega arith,
-      refl,
-    )
+loop-i-init c = (
+  cells_length c.args.self _ c.well_formed.0,
+  values_length c.args.self _ c.well_formed.0,
+  omega arith,
+  omega arith,
+  omega arith,
+  refl,
+)
 
 pub loop-i-preserved : goal.loop-i-preserved
 loop-i-preserved c =
