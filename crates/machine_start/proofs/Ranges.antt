@@ -71,14 +71,16 @@ module _ (k : Program) (w : Lawful k) (t : ℕ) where
         (cells_each (level_of m) (steps (volatile_in k) os) at P bars os 0 (λ i o e. aims at o (ops i o e))))
 
   -- each instruction's operand has a cell
-  pub program_ranged : (m : Machine) (p : ℕ) (i : Instr) → get_elem? (get_or (program_for m k) t []) p ≡ some i → Ranged i
+  pub program_ranged : (m : Machine) (p : ℕ) (i : Instr) → get_elem? (get_or (program_for m k) t []) p ≡ some i
+      → Ranged i
   program_ranged =
       program_each Ranged (λ b. tt) ranged_aim
       (λ i o e. ranged_op k.locations k.locks (length os) i w.few_locations w.few_locks o
       ((w.lane t).bounded i o e))
 
   -- each LOAD names one of eight registers
-  pub program_loads : (m : Machine) (p a x : ℕ) → get_elem? (get_or (program_for m k) t []) p ≡ some (op (Load a x)) → a < 8
+  pub program_loads : (m : Machine) (p a x : ℕ) → get_elem? (get_or (program_for m k) t []) p ≡ some (op (Load a x))
+      → a < 8
   program_loads m p a x e =
       program_each Loads (λ b a x q. let z : ◌≡◌ {A = ℕ} 0 1 = cc in absurd (omega arith))
       (λ r o h a x q. let aimed : aim r o ≡ Load a x = cc in h a x (ap op (load_aimed r o a x aimed)))

@@ -30,7 +30,8 @@ module _ (k : Program) where
 
   module _ (w : Lawful k) where
     -- what is read are the machine's programs
-    pub programs_read : (m : Machine) (rest : List ℕ) → read_sheet (sheet_bytes (level_of m) k ++ rest) ≡ program_for m k
+    pub programs_read : (m : Machine) (rest : List ℕ) → read_sheet (sheet_bytes (level_of m) k ++ rest)
+        ≡ program_for m k
     programs_read m rest = lawful_back (level_of m) k rest w ∙ sym (program_lanes k w m)
 
     -- of at most 128 instructions
