@@ -183,6 +183,7 @@ module _ (m : Machine) (vol : ℕ → Bool) (prog : List (List Instr)) (rows : L
       let equal : has_waited f g ≡ true =
       eq-eqb f.done g.done (same.done ∙ sym came ∙ sym (read_back a h.fits_after).done) in
       ap (λ u. cond u waited_word (done_text m (next_instr rows f t) f g t c)) equal
+  outcome c refuses e came = elim came [ ]
   outcome zero (passes k c) e came =
       ap (λ u. cond u waited_word (done_text m (next_instr rows f t) f g t 0)) (done_differs came.0)
       ∙ ap (λ x. done_word ++ x) (pass_instr k c _ refl e)
