@@ -1,0 +1,7 @@
+-- `lanes::run::lanes_run_pso` meets its contract: every answer fits.
+use borrow.Author.Rules.{rules}
+use Rattle.lanes.proofs.Calls.{run_fits}
+use Rattle.lanes.proofs.run.lanes_run_pso.Goals as goal
+
+pub packed-requires : goal.packed-requires
+packed-requires c = search (rules, run_fits)
