@@ -1,0 +1,7 @@
+-- `machine_course::begin::start_rows` meets its contract.
+use Rattle.machine_course.proofs.Laws.Starts.{started_by}
+use Rattle.machine_course.proofs.begin.start_rows.Goals as goal
+
+pub returns : goal.returns
+returns c = started_by c.byte_at-lanes.ensures
+    c.byte_at-locations.ensures c.byte_at-locks.ensures c.start.ensures
