@@ -28,8 +28,8 @@ use Rattle.machine_step.specs.Turns.{turns, Took}
 use Rattle.machine_state.proofs.Laws.Lanes.{lane_in_lem}
 
 -- the turn of the text's move
-pub turn_in : (m : Machine) (f : ℕ → Bool) (prog : List (List Instr)) (s : Blocks) (t c : ℕ) → Sized s → t < count_of
-    s 0
+pub turn_in : (m : Machine) (f : ℕ → Bool) (prog : List (List Instr)) (s : Blocks) (t c : ℕ) → Sized s
+    → t < count_of s 0
     → count_of s 0 ≤ 4
     → move_turn m f prog (state_in s) (move t c) ≡ turns m f (get_or prog t []) s t c
 turn_in m f prog s t c z h k =
