@@ -1,5 +1,5 @@
 -- `machine_moves::moves::run_moves` meets its contract.
-use Rattle.std.proofs.Common.{add-one, arith, get_or}
+use Rattle.std.proofs.Common.{add-one, arith}
 use lib.Seq.{take_all}
 use Rattle.machine_moves.proofs.Laws.Schedules.{made_more}
 use Rattle.machine_moves.proofs.moves.run_moves.Goals as goal
