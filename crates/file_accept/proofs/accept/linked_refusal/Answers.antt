@@ -7,23 +7,15 @@ use Rattle.file_rows.proofs.Laws.Whole.{chains_counted}
 use Rattle.file_accept.proofs.Laws.Checks.{refuses5, refuses6, refuses7, past7}
 use Rattle.file_accept.proofs.Laws.Order.{front_is_lane_order}
 use Rattle.file_accept.proofs.accept.linked_refusal.Goals as goal
-use Rattle.file_accept.proofs.accept.linked_refusal.Goals.{Else-linkage-ne0, Else-long-ne0, Else-target-ne0}
+use Rattle.file_accept.proofs.accept.linked_refusal.Goals.{Else-linkage-ne0, Else-long-ne0}
 
--- ## what has passed behind each test: check 5, check 6, and all to 7
+-- ## what has passed behind each test: check 5, check 6
 
 linked : (s : Else-linkage-ne0) → bad_linkage s.args.file.now ≡ 0
 linked s = sym s.link-linked.ensures.bad ∙ s.if-linkage-ne0.false
 
 short : (s : Else-long-ne0) → chain_too_long s.args.file.now ≡ 0
 short s = sym s.too_long-long.ensures ∙ s.if-long-ne0.false
-
-structured : (s : Else-target-ne0) → Structured s.args.file.now
-structured s = record {
-  fields = s.requires.fields;
-  linkage = sym s.link-linked.ensures.bad ∙ s.if-linkage-ne0.false;
-  chains = sym s.too_long-long.ensures ∙ s.if-long-ne0.false;
-  targets = sym s.bad_target-target.ensures ∙ s.if-target-ne0.false;
-}
 
 -- ## the goals
 
@@ -55,7 +47,12 @@ returns-then-target-ne0 c =
 pub returns : goal.returns
 returns c =
     let at = goal.at.returns c in
-    let ok = structured at.Else-target-ne0 in
+    let ok : Structured c.args.file.now = record {
+      fields = c.requires.fields;
+      linkage = linked at.Else-linkage-ne0;
+      chains = short at.Else-long-ne0;
+      targets = sym c.bad_target-target.ensures ∙ c.if-target-ne0.false;
+    } in
     let ordered = c.link-linked.ensures.order (linked at.Else-linkage-ne0) in record {
       answer = c.lock_refusal.ensures ∙ past7 _ ok.linkage ok.chains ok.targets;
       rows = λ z5 z6 z7. (c.write_chains.ensures, chains_counted ok ordered);
