@@ -9,7 +9,7 @@ use Rattle.machine_start.proofs.Laws.Files.{file_accepted}
 use Rattle.lanes.proofs.Laws.Files.{file_refused, illegal_moves}
 use Rattle.lanes.proofs.Laws.Files.{Takes, takes_place}
 use Rattle.lanes.proofs.call.run_file.Goals as goal
-use Rattle.lanes.proofs.call.run_file.Goals.{In-Wrote, After-word_at}
+use Rattle.lanes.proofs.call.run_file.Goals.{In-Wrote}
 
 pub returns-in-Refuses : goal.returns-in-Refuses
 returns-in-Refuses c =
@@ -26,22 +26,24 @@ returns-then-not-legal_moves c =
     c.args.out.now c.if-out-lt2280.false c.if-moves-eq1.false c.byte_at.ensures c.limit_of.ensures
     c.legal_moves.ensures c.if-not-legal_moves.true
 
--- where the schedule is legal
-takes : (c : After-word_at)
-    → Takes c.args.machine c.word_at.result c.program_of-answer.new.rows c.args.moves.now c.args.file.now
-    c.args.out.now
-takes c =
+pub run_rows-requires-clause-start : goal.run_rows-requires-clause-start
+run_rows-requires-clause-start c =
+    let t : Takes c.args.machine c.word_at.result c.program_of-answer.new.rows c.args.moves.now c.args.file.now
+    c.args.out.now =
     takes_place c.args.machine
     (file_accepted c.args.machine c.args.file.now (replicate 4112 0) (omega arith) c.in-Wrote.ensures)
     c.args.moves.now c.args.out.now c.if-out-lt2280.false c.if-moves-eq1.false c.byte_at.ensures c.limit_of.ensures
     c.legal_moves.ensures c.if-not-legal_moves.false c.word_at.ensures.0 (omega arith)
-
-pub run_rows-requires-clause-start : goal.run_rows-requires-clause-start
-run_rows-requires-clause-start c =
-    let t = takes (goal.at.run_rows-requires-clause-start c).After-word_at in
+    in
     record { file = c.args.file.now; kernel = t.kernel; program = t.program }
 
 pub returns : goal.returns
 returns c =
-    let t = takes (goal.at.returns c).After-word_at in
+    let t : Takes c.args.machine c.word_at.result c.program_of-answer.new.rows c.args.moves.now c.args.file.now
+    c.args.out.now =
+    takes_place c.args.machine
+    (file_accepted c.args.machine c.args.file.now (replicate 4112 0) (omega arith) c.in-Wrote.ensures)
+    c.args.moves.now c.args.out.now c.if-out-lt2280.false c.if-moves-eq1.false c.byte_at.ensures c.limit_of.ensures
+    c.legal_moves.ensures c.if-not-legal_moves.false c.word_at.ensures.0 (omega arith)
+    in
     c.run_rows.ensures _ _ t.program ∙ t.answers
