@@ -23,7 +23,7 @@ accepted-at c = file_accepted c.args.machine c.args.file.now (replicate 4112 0) 
 pub returns-then-not-legal_moves : goal.returns-then-not-legal_moves
 returns-then-not-legal_moves c =
     illegal_moves c.args.machine (accepted-at (goal.at.returns-then-not-legal_moves c).In-Wrote) c.args.moves.now
-    c.args.out.now c.if-out-lt2280.false c.if-moves-eq1.false c.byte_at.ensures c.limit_of.ensures
+    c.args.out.now (omega arith) (λ e. absurd (omega (arith, e))) c.byte_at.ensures c.limit_of.ensures
     c.legal_moves.ensures c.if-not-legal_moves.true
 
 pub run_rows-requires-clause-start : goal.run_rows-requires-clause-start
@@ -32,7 +32,7 @@ run_rows-requires-clause-start c =
     c.args.out.now =
     takes_place c.args.machine
     (file_accepted c.args.machine c.args.file.now (replicate 4112 0) (omega arith) c.in-Wrote.ensures)
-    c.args.moves.now c.args.out.now c.if-out-lt2280.false c.if-moves-eq1.false c.byte_at.ensures c.limit_of.ensures
+    c.args.moves.now c.args.out.now (omega arith) (λ e. absurd (omega (arith, e))) c.byte_at.ensures c.limit_of.ensures
     c.legal_moves.ensures c.if-not-legal_moves.false c.word_at.ensures.0 (omega arith)
     in
     record { file = c.args.file.now; kernel = t.kernel; program = t.program }
@@ -43,7 +43,7 @@ returns c =
     c.args.out.now =
     takes_place c.args.machine
     (file_accepted c.args.machine c.args.file.now (replicate 4112 0) (omega arith) c.in-Wrote.ensures)
-    c.args.moves.now c.args.out.now c.if-out-lt2280.false c.if-moves-eq1.false c.byte_at.ensures c.limit_of.ensures
+    c.args.moves.now c.args.out.now (omega arith) (λ e. absurd (omega (arith, e))) c.byte_at.ensures c.limit_of.ensures
     c.legal_moves.ensures c.if-not-legal_moves.false c.word_at.ensures.0 (omega arith)
     in
     c.run_rows.ensures _ _ t.program ∙ t.answers
