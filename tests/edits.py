@@ -123,7 +123,12 @@ def main(words):
     room = tempfile.mkdtemp()
 
     def seed(crate):
-        os.mkdir(f"{room}/{crate}")
+        # begun with what an earlier check of the crate kept, where there is one: the check looks what of it holds
+        kept = f"crates/{crate}/out/incremental"
+        if os.path.isdir(kept):
+            shutil.copytree(kept, f"{room}/{crate}")
+        else:
+            os.mkdir(f"{room}/{crate}")
         return check(crate, {}, f"{room}/{crate}")
 
     def attempt(edit):
