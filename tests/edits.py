@@ -1,7 +1,7 @@
 #!/usr/bin/env python3
 """Each wrong program of the must-fail edits is refused at the places that its edit names.
 
-usage: tests/edits.py [--logs FOLDER] [CRATE | CRATE/EDIT ..]      at the top; with no names every edit
+usage: tests/edits.py [--anew] [--logs FOLDER] [CRATE | CRATE/EDIT ..]      at the top; with no names every edit
 
 An edit may try a wrong version of several functions of a crate at once, since each is proved from the contracts of
 the others alone. `rt ci` finds that the crate is not proved with the edit; here each wrong program of it is looked at.
@@ -10,9 +10,14 @@ A line `wrong: NAME` begins each, and each names where it must be refused:
   at: FILE LAW            a law, or a computed example
 The edited crate is checked once, on a copy, over what a check of the crate as it stands proved. At each place there
 must be an error that is no consequence of another one, and that says more than that a proof names what the code no
-longer has. --logs keeps what each check said, as FOLDER/CRATE.EDIT. For the libraries below see tools/kit.py."""
+longer has. --logs keeps what each check said, as FOLDER/CRATE.EDIT. For the libraries below see tools/kit.py.
+
+An edit whose wrong programs were all refused so is not tried again on this machine until something that its check
+reads has changed: the toolchain, the edit, the crate, a library below it, or this script. --anew tries all."""
 import concurrent.futures
+import functools
 import glob
+import hashlib
 import os
 import re
 import shutil
@@ -28,6 +33,10 @@ import kit
 ERROR = re.compile(r"(?:\./)?(\S+?):\d+:\d+: error: (?:`([^`]*)`: )?(.*)")
 # The proof names what the code no longer has.
 MISFIT = re.compile(r"is not in scope|has no field|has no `|was not admitted")
+# The sums of all that the edits that were refused in full stand on.
+KEPT = os.path.join(os.environ.get("XDG_CACHE_HOME") or os.path.expanduser("~/.cache"), "lanes-must-fail")
+# The parts of a crate that a check reads.
+PARTS = ("src", "specs", "proofs")
 # What a check may take of memory, in bytes.
 ROOM = 2_500_000_000
 
@@ -35,6 +44,34 @@ ROOM = 2_500_000_000
 def read(path):
     with open(path, encoding="utf-8") as file:
         return file.read()
+
+
+@functools.lru_cache(maxsize=None)
+def version():
+    return subprocess.run(["rt", "version"], check=True, capture_output=True, text=True).stdout
+
+
+@functools.lru_cache(maxsize=None)
+def sum_of(file, size, changed):
+    return hashlib.sha256(read(file).encode()).hexdigest()
+
+
+@functools.lru_cache(maxsize=None)
+def files_of(crate):
+    return [it for part in PARTS for it in sorted(glob.glob(f"crates/{crate}/{part}/**/*.*", recursive=True))]
+
+
+def stamp_of(edit):
+    """A sum of all that the check of an edit reads."""
+    files = ["tests/edits.py", "tools/kit.py", "crates.txt", edit.path]
+    for crate in [*kit.below(edit.crate), edit.crate]:
+        files += files_of(crate)
+    found = hashlib.sha256(version().encode())
+    for file in files:
+        if os.path.isfile(file):
+            stat = os.stat(file)
+            found.update(f"{file} {sum_of(file, stat.st_size, stat.st_mtime_ns)}\n".encode())
+    return found.hexdigest()
 
 
 class Edit:
@@ -90,7 +127,7 @@ class Edit:
 def check(crate, texts, kept):
     """Checks a copy of the crate with these texts in place of its own, over what the folder kept holds."""
     with tempfile.TemporaryDirectory() as copy:
-        for part in ("src", "specs", "proofs"):
+        for part in PARTS:
             if os.path.isdir(f"crates/{crate}/{part}"):
                 shutil.copytree(f"crates/{crate}/{part}", f"{copy}/{part}")
         for path, text in texts.items():
@@ -112,13 +149,23 @@ def processes():
     return max(1, min(len(os.sched_getaffinity(0)), free // ROOM))
 
 
-def main(words):
+def asked(words):
+    """What the words of the call ask for: whether all is tried, the folder for logs, and the names."""
+    anew = words[:1] == ["--anew"]
+    words = words[anew:]
     logs = words[1] if words[:1] == ["--logs"] else None
-    names = words[2:] if logs else words
+    return anew, logs, words[2:] if logs else words
+
+
+def main(words):
+    anew, logs, names = asked(words)
     edits = [Edit(path) for path in sorted(glob.glob("crates/*/must-fail/*.edit"))]
     edits = [it for it in edits if not names or it.crate in names or f"{it.crate}/{it.name}" in names]
-    crates = {it.crate: [other for other in edits if other.crate == it.crate] for it in edits}
-    if not kit.is_proved_here():
+    stamps = {it.path: stamp_of(it) for it in edits}
+    old = [it for it in edits if not anew and not it.wrong and os.path.exists(f"{KEPT}/{stamps[it.path]}")]
+    crates = {it.crate: [other for other in edits if other.crate == it.crate and other not in old] for it in edits}
+    crates = {crate: tried for crate, tried in crates.items() if tried}
+    if crates and not kit.is_proved_here():
         kit.bring_up_to_date(crates)
     room = tempfile.mkdtemp()
 
@@ -140,6 +187,10 @@ def main(words):
             with open(f"{logs}/{edit.crate}.{edit.name}", "w", encoding="utf-8") as file:
                 file.write(said)
         edit.look(status, said)
+        if not edit.wrong and stamp_of(edit) == stamps[edit.path]:
+            os.makedirs(KEPT, exist_ok=True)
+            with open(f"{KEPT}/{stamps[edit.path]}", "w", encoding="utf-8") as file:
+                file.write(edit.path + "\n")
 
     try:
         with concurrent.futures.ThreadPoolExecutor(processes()) as pool:
@@ -163,7 +214,8 @@ def main(words):
             print(f"{edit.path}: {why}")
     if any(edit.wrong for edit in edits):
         return 1
-    print(f"edits: {sum(len(it.programs) for it in edits)} wrong programs, each refused at a fact of its own")
+    told = f"; {len(old)} of the {len(edits)} edits were tried by an earlier run on this machine" if old else ""
+    print(f"edits: {sum(len(it.programs) for it in edits)} wrong programs, each refused at a fact of its own{told}")
     return 0
 
 
