@@ -89,7 +89,6 @@ def main():
             elif rank:
                 print(f"the library's word: {name} -> {goes}")
     fields = {n for n, at in where.items() if any(k in ("field", "inner") for _, k in at)}
-    modules = {m for m in where}
 
     def lent(text):
         """The names that a file takes from a library, where they stay as they are."""
@@ -120,8 +119,6 @@ def main():
                         goes = None
                     if name in twice and path.startswith("Rattle."):
                         goes = None
-                if goes and before.endswith("{") and False:
-                    goes = None
                 # code of Rust: a name with no capital and no dash is a function's, so it stays
                 if goes and code and not ("-" in name or re.search("[A-Z]", name)):
                     goes = None
