@@ -1,7 +1,8 @@
-// The answer to a kernel file: accepted, or the refusal with the record that it names.
-#[derive(Clone, Copy)]
+// The refusals of the paper's table, each with the record that it names.
+
+// 1 to 8 and 12 are of a kernel file, 9 is of a buffer that is lent for an answer, 10 of a schedule, 11 of a run.
+#[derive(Clone, Copy, Debug, PartialEq, Eq)]
 pub enum Refusal {
-    Accepted,
     TruncatedHeader,
     BadHeader,
     BadLength,
@@ -10,5 +11,8 @@ pub enum Refusal {
     ChainTooLong(usize),
     BadTarget(usize),
     LockFault(usize),
+    ShortBuffer,
+    IllegalMove,
+    ReleaseNotHeld(usize),
     LockOrder(usize),
 }

@@ -12,6 +12,7 @@ use borrow.Author.Tests.{le-ltb, ne_eqb}
 use Rattle.file_format.specs.Fields.{byte, record_count}
 use Rattle.file_format.specs.Rules.{head_rule, header_rule}
 use Rattle.file_format.proofs.Laws.Rules.{few_records}
+use Rattle.file_verdict.specs.declared.refusal.Refusal.TheVariants.{BadHeader, BadLength}
 use Rattle.file_verdict.specs.Verdict.{refused, fields_then, structure_then, refusal_of, verdict}
 
 -- k bytes of a file, the first of which is byte i
@@ -30,11 +31,11 @@ module _ (n : ℕ) (s : List ℕ) where
   header_front h = ap header_rule (bytes_front 0 16 h)
 
 -- the verdict on a file that is longer than 3,088 bytes
-long_verdict : (s : List ℕ) → 3088 < length s → verdict s ≡ refused (cond (header_rule s) 3 2) 0
+long_verdict : (s : List ℕ) → 3088 < length s → verdict s ≡ refused (cond (header_rule s) BadLength BadHeader)
 unfolding refusal_of structure_then fields_then
 long_verdict s h = go (header_rule s) refl
   where
-    go : (b : Bool) → header_rule s ≡ b → verdict s ≡ refused (cond b 3 2) 0
+    go : (b : Bool) → header_rule s ≡ b → verdict s ≡ refused (cond b BadLength BadHeader)
     go true e =
         let other = ne_eqb (length s) (16 + 12 * record_count s) (λ z. omega (arith, few_records s e)) in
         rw (le-ltb (length s) 16 (omega arith), e, other)
@@ -47,5 +48,5 @@ front_verdict s = go (dec_le (length s) 3089)
     go (yes h) = ap verdict (take_all 3089 s h)
     go (no n) =
         long_verdict (take 3089 s) (omega (arith, length-take 3089 s))
-        ∙ ap (λ b. refused (cond b 3 2) 0) (header_front 3089 s (omega arith))
+        ∙ ap (λ b. refused (cond b BadLength BadHeader)) (header_front 3089 s (omega arith))
         ∙ sym (long_verdict s (omega arith))

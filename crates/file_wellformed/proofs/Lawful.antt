@@ -9,7 +9,7 @@ use native.Mathlib.Decide.{dec_lt}
 use Rattle.laws.proofs.Lists.{some_at}
 use Rattle.file_format.specs.declared.accepted.Op.{Op}
 use Rattle.file_format.specs.declared.accepted.Op.TheVariants.{Set}
-use Rattle.file_verdict.specs.declared.refusal.Refusal.TheVariants.{Accepted}
+use Rattle.std.specs.Prelude.{Ok}
 use Rattle.file_format.specs.Fields.{lane_count, locations, locks, record_count, head, heads}
 use Rattle.file_format.specs.Search.{first_of}
 use Rattle.file_format.specs.Accepted.{Program, records_at, ops_at, program_of}
@@ -39,7 +39,7 @@ no_lane ls ks = record {
   rising = λ p b l e has. let z : ◌≡◌ {A = ℕ} 0 1 = cc in absurd (omega arith);
 }
 
-module _ (s : List ℕ) (e : refusal_of s ≡ Accepted) where
+module _ (s : List ℕ) (e : refusal_of s ≡ Ok tt) where
   fields : Fielded s
   fields = (sound s e).0.fields
 

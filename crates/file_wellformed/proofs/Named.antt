@@ -1,16 +1,17 @@
--- What a refusal names: a number up to 12 that is not 9, and a record of the file, or 0.
+-- What the refusal of a file names: a number up to 12, but for 9 to 11, and a record of the file, or 0.
 use Prim.Native.Nat.{ℕ, zero, suc, ◌+◌, ◌*◌, ◌≤◌, ◌<◌, min}
-use mathlib.Core.Path.{◌≡◌, refl}
+use mathlib.Core.Path.{◌≡◌, refl, subst}
 use mathlib.Core.List.{List, [], ◌∷◌, map}
 use mathlib.Core.Bool.{Bool, true, false, not, cond}
 use mathlib.Core.Logic.{◌≢◌}
 use native.Mathlib.Omega.{arith}
 use native.Mathlib.Decide.{dec_lt}
-use borrow.Author.Tests.{eqb-true, not-false}
+use borrow.Author.Tests.{eqb-true, ltb-true, not-false}
 use lib.ListN.{get_or, set, length, take, get_or-eq_default}
 use lib.Dec.{ltb, eqb}
+use Rattle.std.specs.Prelude.{Ok, Err}
 use Rattle.file_verdict.specs.declared.refusal.Refusal.{Refusal}
-use Rattle.file_verdict.specs.declared.refusal.Refusal.TheVariants.{Accepted, TruncatedHeader, BadHeader, BadLength}
+use Rattle.file_verdict.specs.declared.refusal.Refusal.TheVariants.{TruncatedHeader, BadHeader, BadLength}
 use Rattle.file_verdict.specs.declared.refusal.Refusal.TheVariants.{BadRecord, BadLinkage, ChainTooLong, BadTarget}
 use Rattle.file_verdict.specs.declared.refusal.Refusal.TheVariants.{LockFault, LockOrder}
 use Rattle.file_format.specs.Fields.{lane_count, record_count, head, heads}
@@ -21,25 +22,14 @@ use Rattle.file_format.specs.Targets.{bad_target}
 use Rattle.file_format.specs.Accepted.{records_at, program_of}
 use Rattle.file_format.specs.Held.{record_at, lock_fault}
 use Rattle.file_format.specs.Rising.{lock_order}
-use Rattle.file_verdict.specs.Verdict.{unless, fields_then, structure_then, refusal_of, number_of, record_of}
+use Rattle.file_verdict.specs.Verdict.{Checked, unless, refused_if, fields_then, structure_then, refusal_of}
+use Rattle.file_verdict.specs.Verdict.{number_of, record_of}
 use Rattle.file_format.proofs.Laws.Rules.{few_records, head_range}
 use Rattle.file_format.proofs.Bounded.{chain_range}
 
--- 9 is of a buffer, not of a file
-pub number_small : (s : List ℕ) → (number_of (refusal_of s) ≤ 12) × (number_of (refusal_of s) ≢ 9)
-number_small s = go (refusal_of s)
-  where
-    go : (r : Refusal) → (number_of r ≤ 12) × (number_of r ≢ 9)
-    go Accepted = (omega arith, λ e. omega arith)
-    go TruncatedHeader = (omega arith, λ e. omega arith)
-    go BadHeader = (omega arith, λ e. omega arith)
-    go BadLength = (omega arith, λ e. omega arith)
-    go (BadRecord r) = (omega arith, λ e. omega arith)
-    go (BadLinkage r) = (omega arith, λ e. omega arith)
-    go (ChainTooLong r) = (omega arith, λ e. omega arith)
-    go (BadTarget r) = (omega arith, λ e. omega arith)
-    go (LockFault r) = (omega arith, λ e. omega arith)
-    go (LockOrder r) = (omega arith, λ e. omega arith)
+-- the numbers of a file's refusals: 9 is of a buffer, 10 of a schedule, 11 of a run
+abbrev pub OfFile : ℕ → Type 0
+OfFile x = (x ≤ 12) × (x ≢ 9) × (x ≢ 10) × (x ≢ 11)
 
 module _ (n : ℕ) where
   -- what a search among numbers up to n gives is up to n
@@ -117,40 +107,56 @@ module _ (n : ℕ) where
         first_small _ 0 4 (λ t h. at_small (get_or (program_of s).records t []) (f t)
         (lanes_small (lane_count s) (heads s) heads_small t))
 
-  -- where a check names a record up to n, and what comes after it does once it passed, the refusal does
-  refuse_if : (b : Bool) (r a : Refusal) → record_of r ≤ n → (b ≡ false → record_of a ≤ n) → record_of (cond b r a) ≤ n
+  -- a refusal has a number of a file's, and names a record up to n
+  abbrev Named : Checked → Type 0
+  Named (Ok u) = Unit {0}
+  Named (Err r) = OfFile (number_of r) × (record_of r ≤ n)
+
+  -- where a check's refusal is such, and what comes after it once it passed
+  refuse_if : (b : Bool) (r : Refusal) (a : Checked) → Named (Err r) → (b ≡ false → Named a) → Named (refused_if b r a)
   refuse_if true r a h g = h
   refuse_if false r a h g = g refl
 
-  refuse_unless : (x : ℕ) (f : ℕ → Refusal) (a : Refusal) → record_of (f x) ≤ n → (x ≡ 0 → record_of a ≤ n)
-      → record_of (unless x f a) ≤ n
+  refuse_unless : (x : ℕ) (f : ℕ → Refusal) (a : Checked) → Named (Err (f x)) → (x ≡ 0 → Named a) → Named (unless x f a)
   refuse_unless x f a h g = go (eqb x 0) refl
     where
-      go : (b : Bool) → eqb x 0 ≡ b → record_of (cond b a (f x)) ≤ n
+      go : (b : Bool) → eqb x 0 ≡ b → Named (cond b a (Err (f x)))
       go true e = g (eqb-true x 0 e)
       go false e = h
 
+  of_file : (x : ℕ) → ltb x 9 ≡ true → OfFile x
+  of_file x h =
+      let l : x < 9 = ltb-true x 9 h in
+      (omega arith, λ e. omega arith, λ e. omega arith, λ e. omega arith)
+
   -- the checks in their order, where n is at least the count of a header that keeps its rule
-  named : (s : List ℕ) → (header_rule s ≡ true → record_count s ≤ n) → record_of (refusal_of s) ≤ n
+  named : (s : List ℕ) → (header_rule s ≡ true → record_count s ≤ n) → Named (refusal_of s)
   unfolding refusal_of structure_then fields_then bad_record bad_linkage chain_too_long bad_target lock_fault lock_order
   named s most =
-      refuse_if (ltb (length s) 16) TruncatedHeader _ (omega arith) (λ _.
-      refuse_if (not (header_rule s)) BadHeader _ (omega arith) (λ bad.
+      refuse_if (ltb (length s) 16) TruncatedHeader _ (of_file 1 refl, omega arith) (λ _.
+      refuse_if (not (header_rule s)) BadHeader _ (of_file 2 refl, omega arith) (λ bad.
       let header = not-false (header_rule s) bad in
       let few : record_count s ≤ n = most header in
-      refuse_if (not (eqb (length s) (16 + 12 * record_count s))) BadLength _ (omega arith) (λ _.
-      refuse_unless (bad_record s) BadRecord _ (lowest_small _ 0 (record_count s) (omega arith)) (λ records.
-      refuse_unless (bad_linkage s) BadLinkage _ (linkage_small s few header records _ 0 4 (omega arith)) (λ _.
+      refuse_if (not (eqb (length s) (16 + 12 * record_count s))) BadLength _ (of_file 3 refl, omega arith) (λ _.
+      refuse_unless (bad_record s) BadRecord _ (of_file 4 refl, lowest_small _ 0 (record_count s) (omega arith))
+      (λ records.
+      refuse_unless (bad_linkage s) BadLinkage _
+      (of_file 5 refl, linkage_small s few header records _ 0 4 (omega arith)) (λ _.
       refuse_unless (chain_too_long s) ChainTooLong _
-      (first_small _ 0 4 (λ t h. lane_small s few header records 65 t h 64)) (λ _.
-      refuse_unless (bad_target s) BadTarget _ (lowest_small _ 0 (record_count s) (omega arith)) (λ _.
-      refuse_unless (lock_fault (program_of s)) LockFault _ (locks_small s few header records _) (λ _.
-      refuse_unless (lock_order (program_of s)) LockOrder Accepted (locks_small s few header records _)
-      (λ _. omega arith)))))))))
+      (of_file 6 refl, first_small _ 0 4 (λ t h. lane_small s few header records 65 t h 64)) (λ _.
+      refuse_unless (bad_target s) BadTarget _ (of_file 7 refl, lowest_small _ 0 (record_count s) (omega arith))
+      (λ _.
+      refuse_unless (lock_fault (program_of s)) LockFault _ (of_file 8 refl, locks_small s few header records _) (λ _.
+      refuse_unless (lock_order (program_of s)) LockOrder (Ok tt)
+      ((omega arith, λ e. omega arith, λ e. omega arith, λ e. omega arith), locks_small s few header records _)
+      (λ _. tt)))))))))
+
+pub number_small : (s : List ℕ) (r : Refusal) → refusal_of s ≡ Err r → OfFile (number_of r)
+number_small s r e = (subst (Named 256) e (named 256 s (few_records s))).0
 
 -- the record is one of the file's, or 0
-pub record_counted : (s : List ℕ) → record_of (refusal_of s) ≤ record_count s
-record_counted s = named (record_count s) s (λ _. omega arith)
+pub record_counted : (s : List ℕ) (r : Refusal) → refusal_of s ≡ Err r → record_of r ≤ record_count s
+record_counted s r e = (subst (Named (record_count s)) e (named (record_count s) s (λ _. omega arith))).1
 
-pub record_named : (s : List ℕ) → record_of (refusal_of s) ≤ 256
-record_named s = named 256 s (few_records s)
+pub record_named : (s : List ℕ) (r : Refusal) → refusal_of s ≡ Err r → record_of r ≤ 256
+record_named s r e = (subst (Named 256) e (named 256 s (few_records s))).1

@@ -1,5 +1,5 @@
 -- The bytes of a sheet, and what lowering answers and leaves in the output buffer.
-use Rattle.std.specs.Prelude.{ℕ, ◌/◌, ◌%◌, cond, List, [], ◌∷◌, ◌++◌, map, ltb, length, get_or, drop}
+use Rattle.std.specs.Prelude.{ℕ, ◌/◌, ◌%◌, cond, List, [], ◌∷◌, ◌++◌, map, ltb, length, get_or, drop, Result, Ok, Err}
 use Rattle.file_format.specs.declared.accepted.Op.{Op}
 use Rattle.file_format.specs.declared.accepted.Op.TheVariants.{Set, Add, Load, Store, Lock, Unlock, Skip}
 use Rattle.file_format.specs.Accepted.{Program}
@@ -7,8 +7,8 @@ use Rattle.file_verdict.specs.Verdict.{Verdict, refused, accepted, verdict}
 use Rattle.barrier_placement.specs.declared.cookbook.Barrier.{Barrier}
 use Rattle.barrier_placement.specs.declared.cookbook.Barrier.TheVariants.{LL, LS, SS, SL}
 use Rattle.barrier_placement.specs.Cookbook.{code_of}
-use Rattle.sheet_format.specs.declared.WriteResult.{WriteResult}
-use Rattle.sheet_format.specs.declared.WriteResult.TheVariants.{Wrote, Refuses}
+use Rattle.file_verdict.specs.declared.refusal.Refusal.{Refusal}
+use Rattle.file_verdict.specs.declared.refusal.Refusal.TheVariants.{ShortBuffer}
 use Rattle.sheet_format.specs.Layout.{Instr, op, barrier}
 use Rattle.sheet_format.specs.declared.Level.{Level}
 use Rattle.sheet_format.specs.declared.Level.TheVariants.{Level0, Level1, Level2, Level3}
@@ -87,15 +87,19 @@ sheet_bytes l k = header l k (sheet_lanes l k) ++ joined (map (lane_bytes l) (sh
 abbrev pub over : List ℕ → List ℕ → List ℕ
 over bytes buffer = bytes ++ drop (length bytes) buffer
 
+-- the answer of what writes into an output buffer: the bytes written, or the refusal
+abbrev pub WriteResult : Type 0
+WriteResult = Result ℕ Refusal
+
 -- the answer, and the output buffer after; 9 where it is shorter than the bytes
 abbrev pub write_into : List ℕ → List ℕ → WriteResult × List ℕ
 write_into bytes buffer =
-    cond (ltb (length buffer) (length bytes)) (Refuses 9 0, buffer)
-    (Wrote (length bytes), over bytes buffer)
+    cond (ltb (length buffer) (length bytes)) (Err ShortBuffer, buffer)
+    (Ok (length bytes), over bytes buffer)
 
--- a refused file's number and record, or the bytes of an accepted kernel
+-- a file's refusal, or the bytes of an accepted kernel
 abbrev pub answer_by : (Program → List ℕ) → Verdict → List ℕ → WriteResult × List ℕ
-answer_by bytes (refused n r) buffer = (Refuses n r, buffer)
+answer_by bytes (refused r) buffer = (Err r, buffer)
 answer_by bytes (accepted k) buffer = write_into (bytes k) buffer
 
 abbrev pub lower_by : Level → Verdict → List ℕ → WriteResult × List ℕ

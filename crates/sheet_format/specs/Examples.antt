@@ -8,7 +8,8 @@ use Rattle.barrier_placement.specs.Place.{stands, due, due_after}
 use Rattle.sheet_format.specs.Layout.{Instr, op, barrier, sheet}
 use Rattle.sheet_format.specs.declared.Level.TheVariants.{Level0, Level1, Level2, Level3}
 use Rattle.sheet_format.specs.Levels.{drains, placed, sheet_lanes}
-use Rattle.sheet_format.specs.declared.WriteResult.TheVariants.{Wrote, Refuses}
+use Rattle.std.specs.Prelude.{Ok, Err}
+use Rattle.file_verdict.specs.declared.refusal.Refusal.TheVariants.{ShortBuffer}
 use Rattle.sheet_format.specs.Bytes.{sheet_bytes, write_into}
 use Rattle.sheet_format.specs.Read.{read_sheet}
 
@@ -210,8 +211,8 @@ unfolding read_sheet stands due due_after
 read_holds = refl
 
 -- a buffer that is longer keeps what lies behind the sheet; one that is shorter is as it was
-fits_hold : write_into (1 ∷ 2 ∷ []) (7 ∷ 8 ∷ 9 ∷ []) ≡ (Wrote 2, 1 ∷ 2 ∷ 9 ∷ [])
+fits_hold : write_into (1 ∷ 2 ∷ []) (7 ∷ 8 ∷ 9 ∷ []) ≡ (Ok 2, 1 ∷ 2 ∷ 9 ∷ [])
 fits_hold = refl
 
-short_hold : write_into (1 ∷ 2 ∷ []) (7 ∷ []) ≡ (Refuses 9 0, 7 ∷ [])
+short_hold : write_into (1 ∷ 2 ∷ []) (7 ∷ []) ≡ (Err ShortBuffer, 7 ∷ [])
 short_hold = refl

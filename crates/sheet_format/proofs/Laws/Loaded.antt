@@ -15,7 +15,8 @@ use Rattle.file_format.proofs.Laws.Rules.{four_lanes_lem}
 use Rattle.file_format.proofs.Laws.Stored.{lane_count_lem}
 use Rattle.file_verdict.specs.Verdict.{verdict, accepted, refusal_of, number_of, record_of}
 use Rattle.file_verdict.proofs.Laws.Verdict.{sound, accepted_as}
-use Rattle.sheet_format.specs.declared.WriteResult.TheVariants.{Refuses}
+use Rattle.std.specs.Prelude.{Ok, Err}
+use Rattle.file_verdict.specs.declared.refusal.Refusal.{Refusal}
 use Rattle.sheet_format.specs.declared.Level.{Level}
 use Rattle.sheet_format.specs.Layout.{Instr, sheet}
 use Rattle.sheet_format.specs.Levels.{placed, placed_lanes, sheet_lanes}
@@ -27,11 +28,11 @@ use Rattle.sheet_format.proofs.Laws.Rows.{lane_bytes_lem}
 use Rattle.sheet_format.proofs.Laws.Turn.{turn_same, turn_all, turn_four}
 
 module _ (s : List ℕ) where
-  pub refused_by : (bytes : Program → List ℕ) (buffer : List ℕ) → ¬ number_of (refusal_of s) ≡ 0
-      → answer_by bytes (verdict s) buffer ≡ (Refuses (number_of (refusal_of s)) (record_of (refusal_of s)), buffer)
-  refused_by bytes buffer h = rw (ne_eqb (number_of (refusal_of s)) 0 h)
+  pub refused_by : {r : Refusal} (bytes : Program → List ℕ) (buffer : List ℕ) → refusal_of s ≡ Err r
+      → answer_by bytes (verdict s) buffer ≡ (Err r, buffer)
+  refused_by bytes buffer h = rw h
 
-  pub accepted_by : number_of (refusal_of s) ≡ 0 → verdict s ≡ accepted (program_of s)
+  pub accepted_by : refusal_of s ≡ Ok tt → verdict s ≡ accepted (program_of s)
   accepted_by h = rw h
 
 module _ (s : List ℕ) (ok : verdict s ≡ accepted (program_of s)) where

@@ -9,7 +9,8 @@ use lib.Dec.{leb}
 use borrow.Author.Tests.{le-leb}
 use lib.Seq.{sets, sets-eq, length-sets, take-suc, take-append_seam}
 use Rattle.laws.proofs.Parts.{sets_on}
-use Rattle.sheet_format.specs.declared.WriteResult.TheVariants.{Wrote, Refuses}
+use Rattle.std.specs.Prelude.{Ok, Err}
+use Rattle.file_verdict.specs.declared.refusal.Refusal.TheVariants.{ShortBuffer}
 use Rattle.sheet_format.specs.Bytes.{over, write_into}
 use Rattle.sheet_format.specs.Put.{Puts, laid}
 use Rattle.sheet_format.proofs.Laws.Written.{written_all, short_untouched}
@@ -70,16 +71,16 @@ puts_next t i j {l} {m} {n} {k} {b} p h e q =
 
 -- a text that is measured first, by laying it into another buffer, and then laid into the output buffer if it fits
 module _ {l m x : List ℕ} {size : ℕ} (p : Puts l 0 x m size) where
-  pub measured_short : (buffer : List ℕ) → length buffer < size → (Refuses 9 0, buffer) ≡ write_into x buffer
+  pub measured_short : (buffer : List ℕ) → length buffer < size → (Err ShortBuffer, buffer) ≡ write_into x buffer
   measured_short buffer h = sym (short_untouched x buffer (omega (arith, p.behind)))
 
   pub measured_whole : {buffer after : List ℕ} {end : ℕ} → size ≤ length buffer → Puts buffer 0 x after end
-      → (Wrote end, after) ≡ write_into x buffer
+      → (Ok end, after) ≡ write_into x buffer
   measured_whole {buffer} {after} {end} h q =
       let fits : length x ≤ length buffer = omega (arith, p.behind) in
       let whole : end ≡ length x = omega (arith, q.behind) in
       let laid : after ≡ over x buffer = puts_front fits q in
-      (λ i. (Wrote (whole i), laid i)) ∙ sym (written_all x buffer fits)
+      (λ i. (Ok (whole i), laid i)) ∙ sym (written_all x buffer fits)
 
 -- a sheet in three parts: the halves of its header, and its lanes
 pub whole_put : (buffer first counts body bytes : List ℕ) {l₁ l₂ l₃ : List ℕ} → length first ≡ 8 → length counts ≡ 8
