@@ -27,7 +27,8 @@ use Rattle.machine_spec.specs.View.{View, Seen, saw, refusal as seenRefusal, obs
 use Rattle.claims.specs.Schedules.{source_schedule, target_schedule}
 use Rattle.claims.specs.Direct.{direct}
 use Rattle.claims.proofs.Fenced.{kernel_program, sheet_program}
-use Rattle.machine_spec.specs.Run.{answer_of, refusal, start_of, level_of, program_for, run_on, run_program, run_file}
+use Rattle.file_verdict.specs.declared.refusal.Refusal.TheVariants.{IllegalMove}
+use Rattle.machine_spec.specs.Run.{answer_of, refused_with, start_of, level_of, program_for, run_on, run_program, run_file}
 use Rattle.machine_spec.specs.Run.{shown}
 use Rattle.machine_spec.specs.Run.{run_by, counts_as}
 use Rattle.claims.specs.Claims.{Shares, source_for, target_for, answer_for, Demand3, Runs, Bounds}
@@ -141,7 +142,7 @@ module _ (k : Program) (w : Lawful k) where
         rw (answered Source k a x.0 la x.1, answered (Target m) k b y.0 lb y.1) (record {
           ran = refl;
           ran_too = refl;
-          same = ap (view_seen (shown (refusal (start_of k) 0 0)))
+          same = ap (view_seen (shown (refused_with (start_of k) IllegalMove)))
               (sym (ap (observe P) x.1) ∙ e ∙ ap (observe Q) y.1);
         })
 
@@ -237,7 +238,7 @@ demand3 s k e m =
 pub runs : (s : List ℕ) (k : Program) → verdict s ≡ accepted k → Runs s k
 runs s k e m mvs le =
     let x = ran_to k (accepted_lawful s k e) m mvs le in
-    ap (λ a. a.number) (sym (from_bytes m s k e mvs) ∙ answered m k mvs x.0 le x.1)
+    ap (λ a. a.refusal) (sym (from_bytes m s k e mvs) ∙ answered m k mvs x.0 le x.1)
 
 pub bounds : (s : List ℕ) (k : Program) → verdict s ≡ accepted k → Bounds s k
 bounds s k e =

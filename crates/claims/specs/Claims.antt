@@ -2,6 +2,7 @@
 -- finished run is over and one that is not finished has a permitted move, that number 11 is never met, and the bounds
 -- of sheets and states. The last record, `Claims`, has all of it, and proofs/Theorem.antt proves it. A line
 -- `name: meaning` tells what a name of another file means.
+use Rattle.std.specs.Prelude.{None}
 use Rattle.std.specs.Prelude.{◌≡◌, Bool, true, false, ◌&&◌, List, [], ◌∷◌, ◌++◌, map, ◌≢◌, ◌⊎◌, ◌↔◌, ℕ, suc, ◌+◌, ◌*◌}
 use Rattle.std.specs.Prelude.{◌≤◌, ◌<◌, length, get_or}
 use Rattle.std.proofs.Math.Option.{none, some}
@@ -139,7 +140,7 @@ pub record Placement (l : Level) (k : Program) (bytes : List ℕ) : Type 0 where
 --   Pso the panel, over the level 3 sheet
 -- program_for m k: the instructions of each lane that the machine carries out
 -- start_of k: the start state; begin: a run from it, with no move done yet
--- run_file m s: the answer of machine m's run over a schedule; `.number` is 0 or that of a refusal, `.state` the end
+-- run_file m s: the answer of machine m's run over a schedule; `.refusal` is None or the refusal, `.state` the end
 -- shown: what is compared of an answer: loaded values in order, finished, registers, memory, lock words, pending lists,
 --   marks left out
 -- counts_as m k mvs: the schedule mvs, or the empty one where 10 refuses it
@@ -151,8 +152,8 @@ pub record Placement (l : Level) (k : Program) (bytes : List ℕ) : Type 0 where
 
 -- both runs took place, and share what is compared
 pub record Shares (a b : Answer) : Type 0 where
-  pub ran : a.number ≡ 0
-  pub ran_too : b.number ≡ 0
+  pub ran : a.refusal ≡ None
+  pub ran_too : b.refusal ≡ None
   pub same : shown a ≡ shown b
 
 -- the source schedule for a target's schedule, and the target's schedule for a source schedule
@@ -228,7 +229,7 @@ pub record Finishes (s : List ℕ) (k : Program) : Type 0 where
 -- a schedule that is not refused with 10 runs to its end: no run meets an UNLOCK whose lock its lane does not hold
 abbrev pub Runs : List ℕ → Program → Type 0
 Runs s k = (m : Machine) (mvs : List Move) → legal (length k.lanes) (limit m) mvs ≡ true
-    → (run_file m s mvs).number ≡ 0
+    → (run_file m s mvs).refusal ≡ None
 
 -- ## bounds
 

@@ -5,7 +5,6 @@ ghost use Rattle.file_format.specs.Structured.{Fielded};
 ghost use Rattle.file_format.specs.Accepted.{program_of};
 ghost use Rattle.file_format.specs.Linkage.{bad_linkage, chain_too_long};
 ghost use Rattle.file_format.specs.Targets.{bad_target};
-ghost use Rattle.file_verdict.specs.declared.refusal.Refusal.TheVariants.{Accepted};
 ghost use Rattle.file_verdict.specs.Verdict.{verdict, accepted, refusal_of, fields_then};
 ghost use Rattle.sheet_format.specs.declared.Level.TheVariants.{Level0};
 ghost use Rattle.sheet_format.specs.Bytes.{over, sheet_bytes};
@@ -18,32 +17,36 @@ use file_fields::header::{bad_length, header_rule};
 use file_fields::rules::bad_record;
 use file_locks::lock_refusal;
 use file_rows::whole::write_chains;
-use file_verdict::number::number_of;
 use file_verdict::refusal::Refusal;
 
-// The refusal of checks 1 to 4, which need no buffer; `Accepted` where the header and the records keep their rules.
-pub fn field_refusal(file: &[u8]) -> Refusal
-    ensures { result ≡ fields_then file.now Accepted }
+// Checks 1 to 4, which need no buffer: whether the header and the records keep their rules.
+pub fn field_refusal(file: &[u8]) -> Result<(), Refusal>
+    ensures { result ≡ fields_then file.now (Ok tt) }
 {
     if file.len() < 16 {
-        return Refusal::TruncatedHeader;
+        return Err(Refusal::TruncatedHeader);
     }
     if !header_rule(file) {
-        return Refusal::BadHeader;
+        return Err(Refusal::BadHeader);
     }
     if bad_length(file) {
-        return Refusal::BadLength;
+        return Err(Refusal::BadLength);
     }
     let record = bad_record(file);
     if record != 0 {
-        return Refusal::BadRecord(record);
+        return Err(Refusal::BadRecord(record));
     }
-    Refusal::Accepted
+    Ok(())
 }
 
-// The refusal of checks 5 to 8 and 12, on a file that checks 1 to 4 pass. Its chains are written, and the records
+// Checks 5 to 8 and 12, on a file that checks 1 to 4 pass. Its chains are written, and the records
 // stand in `order` lane after lane, once 5 to 7 have passed. What it leaves in `place` is open.
-pub fn linked_refusal(file: &[u8], rows: &mut [u8], order: &mut [u16], place: &mut [u16]) -> Refusal
+pub fn linked_refusal(
+    file: &[u8],
+    rows: &mut [u8],
+    order: &mut [u16],
+    place: &mut [u16],
+) -> Result<(), Refusal>
     requires fields { Fielded file.now }
     requires room { 16 + 8 * record_count file.now ≤ length rows.old }
     requires order { (record_count file.now ≤ length order.old) × (record_count file.now < length place.old) }
@@ -60,16 +63,16 @@ pub fn linked_refusal(file: &[u8], rows: &mut [u8], order: &mut [u16], place: &m
     let linked = link(file, order, place);
     let linkage = linked.bad;
     if linkage != 0 {
-        return Refusal::BadLinkage(linkage);
+        return Err(Refusal::BadLinkage(linkage));
     }
     let ends = linked.ends;
     let long = too_long(file, order, &ends);
     if long != 0 {
-        return Refusal::ChainTooLong(long);
+        return Err(Refusal::ChainTooLong(long));
     }
     let target = bad_target(file, place, &ends);
     if target != 0 {
-        return Refusal::BadTarget(target);
+        return Err(Refusal::BadTarget(target));
     }
     write_chains(rows, file, order, place, &ends);
     lock_refusal(file, rows, order, &ends)
@@ -77,16 +80,13 @@ pub fn linked_refusal(file: &[u8], rows: &mut [u8], order: &mut [u16], place: &m
 
 // The refusal, checks 1 to 8 and 12 in the order of the table. The chains of an accepted file stand at the front of
 // `rows`, which a refusal leaves open.
-pub fn accept(file: &[u8], rows: &mut [u8]) -> Refusal
+pub fn accept(file: &[u8], rows: &mut [u8]) -> Result<(), Refusal>
     requires room { Fielded file.now → 16 + 8 * record_count file.now ≤ length rows.old }
     ensures answer { result ≡ refusal_of file.now }
     ensures rows { verdict file.now ≡ accepted (program_of file.now)
         → rows.new ≡ over (sheet_bytes Level0 (program_of file.now)) rows.old }
 {
-    let fields = field_refusal(file);
-    if number_of(fields) != 0 {
-        return fields;
-    }
+    field_refusal(file)?;
     let mut order = [0u16; 256];
     let mut place = [0u16; 257];
     linked_refusal(file, rows, &mut order, &mut place)

@@ -6,7 +6,7 @@ ghost use Rattle.sheet_format.specs.Bytes.{lower_by};
 ghost use Rattle.file_accept.specs.Size.{size_in};
 
 use crate::accept::accept;
-use file_verdict::number::{number_of, record_of};
+use file_verdict::refusal::Refusal;
 use sheet_format::WriteResult;
 use sheet_rows::parts::parts_of;
 
@@ -26,15 +26,11 @@ pub fn chain_file(file: &[u8], out: &mut [u8]) -> WriteResult
     ensures { (result, out.new) ≡ lower_by Level0 (verdict file.now) out.old }
 {
     let mut rows = [0u8; 2064];
-    let refusal = accept(file, &mut rows);
-    let number = number_of(refusal);
-    if number != 0 {
-        return WriteResult::Refuses(number, record_of(refusal));
-    }
+    accept(file, &mut rows)?;
     let size = size_of(&rows);
     if out.len() < size {
-        return WriteResult::Refuses(9, 0);
+        return Err(Refusal::ShortBuffer);
     }
     out[..size].copy_from_slice(&rows[..size]);
-    WriteResult::Wrote(size)
+    Ok(size)
 }

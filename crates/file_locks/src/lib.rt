@@ -212,7 +212,7 @@ fn find_records(rows: &[u8], order: &[u16], from: usize, end: usize) -> Found
 
 // The refusal of checks 8 and 12, from the chains of the file as rows: a fault of any lane comes before the order in
 // which the first of them takes its locks.
-fn find_refusal(s: &[u8], rows: &[u8], order: &[u16], ends: &[usize; 4]) -> Refusal
+fn find_refusal(s: &[u8], rows: &[u8], order: &[u16], ends: &[usize; 4]) -> Result<(), Refusal>
     requires structure { Structured s.now }
     requires order { (place : List ℕ) × Ordered s.now order.now place ends.now }
     requires chains { (own : List ℕ) × (rows.now ≡ over (sheet_bytes Level0 (program_of s.now)) own)
@@ -227,20 +227,20 @@ fn find_refusal(s: &[u8], rows: &[u8], order: &[u16], ends: &[usize; 4]) -> Refu
         let found = find_records(rows, order, from, end);
         let fault = found.fault;
         if fault != 0 {
-            return Refusal::LockFault(fault);
+            return Err(Refusal::LockFault(fault));
         }
         descent = first(descent, found.descent);
         from = end;
         t += 1;
     }
     if descent != 0 {
-        return Refusal::LockOrder(descent);
+        return Err(Refusal::LockOrder(descent));
     }
-    Refusal::Accepted
+    Ok(())
 }
 
 // The same, in one pass where nothing is wrong, and in none where the header counts no locks.
-pub fn lock_refusal(s: &[u8], rows: &[u8], order: &[u16], ends: &[usize; 4]) -> Refusal
+pub fn lock_refusal(s: &[u8], rows: &[u8], order: &[u16], ends: &[usize; 4]) -> Result<(), Refusal>
     requires structure { Structured s.now }
     requires order { (place : List ℕ) × Ordered s.now order.now place ends.now }
     requires chains { (own : List ℕ) × (rows.now ≡ over (sheet_bytes Level0 (program_of s.now)) own)
@@ -248,7 +248,7 @@ pub fn lock_refusal(s: &[u8], rows: &[u8], order: &[u16], ends: &[usize; 4]) -> 
     ensures { result ≡ lock_refusal (program_of s.now) }
 {
     if s[2] == 0 {
-        return Refusal::Accepted;
+        return Ok(());
     }
     let mut from = 0;
     let mut t = 0;
@@ -260,5 +260,5 @@ pub fn lock_refusal(s: &[u8], rows: &[u8], order: &[u16], ends: &[usize; 4]) -> 
         from = end;
         t += 1;
     }
-    Refusal::Accepted
+    Ok(())
 }

@@ -1,5 +1,8 @@
 -- Turns that the source and the tso machine must and must not take, values that they load, and runs of small kernels,
 -- by computation.
+use Rattle.std.specs.Prelude.{Option, Some, None}
+use Rattle.file_verdict.specs.declared.refusal.Refusal.{Refusal}
+use Rattle.file_verdict.specs.declared.refusal.Refusal.TheVariants.{IllegalMove, ReleaseNotHeld}
 use Rattle.std.specs.Prelude.{◌≡◌, refl, Bool, true, false, List, [], ◌∷◌, map, ℕ, eqb, replicate}
 use Rattle.file_format.specs.declared.accepted.Op.{Op}
 use Rattle.file_format.specs.declared.accepted.Op.TheVariants.{Set, Load, Store, Lock, Unlock, Skip}
@@ -137,8 +140,7 @@ lane1_stores =
     }
 
 record Ran : Type 0 where
-  number : ℕ
-  rec : ℕ
+  refusal : Option Refusal
   done : ℕ
   waited : ℕ
   finished : Bool
@@ -151,8 +153,7 @@ abbrev outcome : Machine → Program → List Move → Ran
 outcome m k mvs =
     let a : Answer = run_program m k mvs in
     record {
-      number = a.number;
-      rec = a.rec;
+      refusal = a.refusal;
       done = a.done;
       waited = a.waited;
       finished = a.finished;
@@ -166,8 +167,7 @@ outcome m k mvs =
 abbrev ends : ℕ → ℕ → Bool → Bool → List Loaded → List ℕ → List ℕ → Ran
 ends d w f e row m ls =
     record {
-      number = 0;
-      rec = 0;
+      refusal = None;
       done = d;
       waited = w;
       finished = f;
@@ -178,11 +178,10 @@ ends d w f e row m ls =
     }
 
 -- a refusal with its record, in the start state
-abbrev refuse : ℕ → ℕ → List ℕ → List ℕ → Ran
-refuse n r m ls =
+abbrev refuse : Refusal → List ℕ → List ℕ → Ran
+refuse r m ls =
     record {
-      number = n;
-      rec = r;
+      refusal = Some r;
       done = 0;
       waited = 0;
       finished = false;
@@ -211,8 +210,8 @@ runs =
       ends 5 0 false true (took 0 2 0 ∷ []) (1 ∷ 0 ∷ []) [],
     )
     -- a choice above 1, and a lane of T or more, are looked for before the first move
-    ∷ (outcome (Target Tso) exchange (move 0 0 ∷ move 0 2 ∷ []), refuse 10 0 (0 ∷ 0 ∷ []) [])
-    ∷ (outcome Source exchange (move 0 0 ∷ move 2 0 ∷ []), refuse 10 0 (0 ∷ 0 ∷ []) [])
+    ∷ (outcome (Target Tso) exchange (move 0 0 ∷ move 0 2 ∷ []), refuse IllegalMove (0 ∷ 0 ∷ []) [])
+    ∷ (outcome Source exchange (move 0 0 ∷ move 2 0 ∷ []), refuse IllegalMove (0 ∷ 0 ∷ []) [])
     ∷ (outcome Source exchange (move 0 0 ∷ move 0 2 ∷ []), ends 1 1 false true [] (0 ∷ 0 ∷ []) [])
     -- a lane at its end waits; while a release is pending its lock is held, and the run is not finished
     ∷ (
@@ -243,7 +242,7 @@ runs =
     -- an UNLOCK of a lock that is not held, by its record
     ∷ (
       outcome Source (single (Set 0 1 ∷ Store 0 0 ∷ Unlock 0 ∷ [])) (move 0 0 ∷ move 0 0 ∷ move 0 0 ∷ move 0 1 ∷ []),
-      refuse 11 3 (0 ∷ []) (0 ∷ []),
+      refuse (ReleaseNotHeld 3) (0 ∷ []) (0 ∷ []),
     )
     -- a SKIP goes to its target where the register is 0, and on where it is not
     ∷ (

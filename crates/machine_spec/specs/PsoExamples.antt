@@ -18,7 +18,7 @@ use Rattle.machine_spec.specs.declared.Model.TheVariants.{Tso, Pso}
 use Rattle.machine_spec.specs.Step.{Core, Turn, waits, refuses, passes, does, value_of, turn}
 use Rattle.machine_spec.specs.Schedule.{Move, move}
 use Rattle.machine_spec.specs.State.{lane_at}
-use Rattle.machine_spec.specs.Run.{Answer, run_program}
+use Rattle.machine_spec.specs.Run.{number_in, Answer, run_program}
 
 -- location 1 is volatile, location 0 is not
 abbrev vol : ℕ → Bool
@@ -171,7 +171,7 @@ passing mask = record {
 -- number, moves done and waited, the marks of lane 0, what lane 1 loaded, memory
 abbrev ends : Answer → ℕ × ℕ × ℕ × ℕ × List ℕ × List ℕ
 ends a =
-    (a.number, a.done, a.waited, (lane_at a.state 0).control.marks, map (λ l. l.value) a.row, a.state.memory)
+    (number_in a.refusal, a.done, a.waited, (lane_at a.state 0).control.marks, map (λ l. l.value) a.row, a.state.memory)
 
 -- both stores, and the flag's commit before that of data; lane 1 loads
 abbrev overtaking : List Move

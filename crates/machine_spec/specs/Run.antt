@@ -1,8 +1,10 @@
 -- Runs from the bytes of a kernel file: what the machines answer.
-use Rattle.std.specs.Prelude.{ℕ, Bool, false, cond, List, [], map, ltb, length, get_or, replicate}
+use Rattle.std.specs.Prelude.{ℕ, Bool, false, cond, List, [], map, ltb, length, get_or, replicate, Option, Some, None}
 use Rattle.file_format.specs.Fields.{lane_count, locations, locks}
 use Rattle.file_format.specs.Accepted.{Program}
-use Rattle.file_verdict.specs.Verdict.{Verdict, refused as rejected, accepted, verdict}
+use Rattle.file_verdict.specs.declared.refusal.Refusal.{Refusal}
+use Rattle.file_verdict.specs.declared.refusal.Refusal.TheVariants.{IllegalMove, ReleaseNotHeld}
+use Rattle.file_verdict.specs.Verdict.{Verdict, refused as rejected, accepted, verdict, number_of, record_of}
 use Rattle.sheet_format.specs.Layout.{Instr, op}
 use Rattle.sheet_format.specs.declared.Level.{Level}
 use Rattle.sheet_format.specs.declared.Level.TheVariants.{Level0, Level2, Level3}
@@ -16,26 +18,33 @@ use Rattle.machine_spec.specs.Schedule.{Move, limit, legal}
 use Rattle.machine_spec.specs.State.{State, Loaded, Outcome, ran, refused, start_state, begin, run}
 use Rattle.machine_spec.specs.View.{finished, View, view_of}
 
--- number 0 is a success, else the paper's number of the refusal; rec is the record that it names, 0 where none
+-- the refusal, or none where the run took place
 pub record Answer : Type 0 where
-  pub number : ℕ
-  pub rec : ℕ
+  pub refusal : Option Refusal
   pub state : State
   pub finished : Bool
   pub done : ℕ
   pub waited : ℕ
   pub row : List Loaded
 
+-- the paper's number of the refusal, 0 where there is none, and the record that it names
+abbrev pub number_in : Option Refusal → ℕ
+number_in None = 0
+number_in (Some r) = number_of r
+
+abbrev pub record_in : Option Refusal → ℕ
+record_in None = 0
+record_in (Some r) = record_of r
+
 -- a refusal: the start state s, not finished, nothing counted
-abbrev pub refusal : State → ℕ → ℕ → Answer
-refusal s n r = record { number = n; rec = r; state = s; finished = false; done = 0; waited = 0; row = [] }
+abbrev pub refused_with : State → Refusal → Answer
+refused_with s r = record { refusal = Some r; state = s; finished = false; done = 0; waited = 0; row = [] }
 
 -- records are the kernel's, lane by lane: an UNLOCK of a lock that is not held is named by its place in its lane
 abbrev pub answer_of : List (List Instr) → List (List ℕ) → State → Outcome → Answer
-answer_of prog records s (refused t p) = refusal s 11 (get_or (get_or records t []) p 0)
+answer_of prog records s (refused t p) = refused_with s (ReleaseNotHeld (get_or (get_or records t []) p 0))
 answer_of prog records s (ran r) = record {
-  number = 0;
-  rec = 0;
+  refusal = None;
   state = r.state;
   finished = finished prog r.state;
   done = r.done;
@@ -66,15 +75,15 @@ abbrev pub run_program : Machine → Program → List Move → Answer
 run_program m k mvs =
     cond (legal (length k.lanes) (limit m) mvs)
     (answer_of (program_for m k) k.records (start_of k) (run_on m k mvs))
-    (refusal (start_of k) 10 0)
+    (refused_with (start_of k) IllegalMove)
 
 -- a refused file's start state: that of its header where this is valid, from 3 on; else no lane, location or lock
-abbrev pub refused_start : List ℕ → ℕ → State
-refused_start s n = cond (ltb n 3) (start_state 0 [] 0)
+abbrev pub refused_start : List ℕ → Refusal → State
+refused_start s r = cond (ltb (number_of r) 3) (start_state 0 [] 0)
     (start_state (lane_count s) (replicate (locations s) 0) (locks s))
 
 abbrev pub run_by : Machine → List ℕ → Verdict → List Move → Answer
-run_by m s (rejected n r) mvs = refusal (refused_start s n) n r
+run_by m s (rejected r) mvs = refused_with (refused_start s r) r
 run_by m s (accepted k) mvs = run_program m k mvs
 
 abbrev pub run_file : Machine → List ℕ → List Move → Answer

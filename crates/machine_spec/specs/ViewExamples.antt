@@ -12,7 +12,7 @@ use Rattle.machine_spec.specs.declared.Machine.TheVariants.{Source, Target}
 use Rattle.machine_spec.specs.declared.Model.TheVariants.{Tso}
 use Rattle.machine_spec.specs.Schedule.{Move, move}
 use Rattle.machine_spec.specs.State.{Loaded}
-use Rattle.machine_spec.specs.Run.{run_program, shown, counts_as}
+use Rattle.machine_spec.specs.Run.{number_in, run_program, shown, counts_as}
 
 -- location 1 is volatile; lane 1 has MFENCE before its LOAD at level 2
 abbrev kernel : Program
@@ -77,7 +77,7 @@ tso_shows = refl
 -- ## limits of schedules: choice 64 and 65, choice 1 and 2, lane T − 1 and T
 
 abbrev number : Machine → Move → ℕ
-number m mv = (run_program m kernel (mv ∷ [])).number
+number m mv = number_in (run_program m kernel (mv ∷ [])).refusal
 
 source_limits : map (number Source) (move 0 64 ∷ move 0 65 ∷ move 1 64 ∷ move 2 0 ∷ []) ≡ 0 ∷ 10 ∷ 0 ∷ 10 ∷ []
 source_limits = refl

@@ -8,6 +8,7 @@ use native.Mathlib.Omega.{arith}
 use native.Mathlib.Decide.{dec_lt, ℕ_discrete}
 use borrow.Author.Tests.{lt-ltb, le-ltb, eq-eqb, eqb-true, not-false}
 use lib.Dec.{eqb}
+use Rattle.std.specs.Prelude.{Ok, Err}
 use lib.ListN.{length}
 use Rattle.file_format.specs.Fields.{record_count}
 use Rattle.file_format.specs.Rules.{header_rule, bad_record}
@@ -16,27 +17,27 @@ use Rattle.file_format.specs.Targets.{bad_target}
 use Rattle.file_format.specs.Accepted.{program_of}
 use Rattle.file_format.specs.Structured.{Fielded}
 use Rattle.file_verdict.specs.declared.refusal.Refusal.{Refusal}
-use Rattle.file_verdict.specs.declared.refusal.Refusal.TheVariants.{Accepted, TruncatedHeader, BadHeader, BadLength}
+use Rattle.file_verdict.specs.declared.refusal.Refusal.TheVariants.{TruncatedHeader, BadHeader, BadLength}
 use Rattle.file_verdict.specs.declared.refusal.Refusal.TheVariants.{BadRecord}
 use Rattle.file_verdict.specs.declared.refusal.Refusal.TheVariants.{BadLinkage, ChainTooLong, BadTarget}
-use Rattle.file_verdict.specs.Verdict.{unless, fields_then, structure_then, lock_refusal, refusal_of, number_of}
+use Rattle.file_verdict.specs.Verdict.{Checked, unless, fields_then, structure_then, lock_refusal, refusal_of}
 use Rattle.file_verdict.specs.Verdict.{verdict, accepted}
-use Rattle.file_verdict.proofs.Laws.Verdict.{names, passes, accepted_as}
+use Rattle.file_verdict.proofs.Laws.Verdict.{no_pass, names, passes, accepted_as}
 use Rattle.file_accept.specs.Checks.{linked_refusal}
 
 module _ (s : List ℕ) where
   -- ## checks 5 to 7, and the rest
 
-  abbrev from8 : Refusal
+  abbrev from8 : Checked
   from8 = lock_refusal (program_of s)
 
-  abbrev from7 : Refusal
+  abbrev from7 : Checked
   from7 = unless (bad_target s) BadTarget from8
 
-  abbrev from6 : Refusal
+  abbrev from6 : Checked
   from6 = unless (chain_too_long s) ChainTooLong from7
 
-  pub refuses5 : {x : ℕ} → x ≡ bad_linkage s → ¬ x ≡ 0 → BadLinkage x ≡ linked_refusal s
+  pub refuses5 : {x : ℕ} → x ≡ bad_linkage s → ¬ x ≡ 0 → Err (BadLinkage x) ≡ linked_refusal s
   unfolding linked_refusal
   refuses5 = names (bad_linkage s) BadLinkage from6
 
@@ -45,14 +46,14 @@ module _ (s : List ℕ) where
     unfolding linked_refusal
     past5 = passes (bad_linkage s) BadLinkage from6 z5
 
-    pub refuses6 : {x : ℕ} → x ≡ chain_too_long s → ¬ x ≡ 0 → ChainTooLong x ≡ linked_refusal s
+    pub refuses6 : {x : ℕ} → x ≡ chain_too_long s → ¬ x ≡ 0 → Err (ChainTooLong x) ≡ linked_refusal s
     refuses6 e h = names (chain_too_long s) ChainTooLong from7 e h ∙ past5
 
     module _ (z6 : chain_too_long s ≡ 0) where
       past6 : from7 ≡ linked_refusal s
       past6 = passes (chain_too_long s) ChainTooLong from7 z6 ∙ past5
 
-      pub refuses7 : {x : ℕ} → x ≡ bad_target s → ¬ x ≡ 0 → BadTarget x ≡ linked_refusal s
+      pub refuses7 : {x : ℕ} → x ≡ bad_target s → ¬ x ≡ 0 → Err (BadTarget x) ≡ linked_refusal s
       refuses7 e h = names (bad_target s) BadTarget from8 e h ∙ past6
 
       module _ (z7 : bad_target s ≡ 0) where
@@ -61,17 +62,17 @@ module _ (s : List ℕ) where
 
 -- ## checks 1 to 4, whatever the rest
 
-module _ (s : List ℕ) (rest : Refusal) where
-  pub refuses1 : length s < 16 → TruncatedHeader ≡ fields_then s rest
+module _ (s : List ℕ) (rest : Checked) where
+  pub refuses1 : length s < 16 → Err TruncatedHeader ≡ fields_then s rest
   unfolding fields_then
   refuses1 h = rw (lt-ltb (length s) 16 h) refl
 
-  pub refuses2 : 16 ≤ length s → not (header_rule s) ≡ true → BadHeader ≡ fields_then s rest
+  pub refuses2 : 16 ≤ length s → not (header_rule s) ≡ true → Err BadHeader ≡ fields_then s rest
   unfolding fields_then
   refuses2 h h2 = rw (le-ltb (length s) 16 h, h2) refl
 
   pub refuses3 : 16 ≤ length s → not (header_rule s) ≡ false
-      → not (eqb (length s) (16 + 12 * record_count s)) ≡ true → BadLength ≡ fields_then s rest
+      → not (eqb (length s) (16 + 12 * record_count s)) ≡ true → Err BadLength ≡ fields_then s rest
   unfolding fields_then
   refuses3 h h2 h3 = rw (le-ltb (length s) 16 h, h2, h3) refl
 
@@ -83,7 +84,7 @@ module _ (s : List ℕ) (rest : Refusal) where
       unfolding fields_then
       past3 = rw (le-ltb (length s) 16 h1, h2, h3) refl
 
-      pub refuses4 : {x : ℕ} → x ≡ bad_record s → ¬ x ≡ 0 → BadRecord x ≡ fields_then s rest
+      pub refuses4 : {x : ℕ} → x ≡ bad_record s → ¬ x ≡ 0 → Err (BadRecord x) ≡ fields_then s rest
       refuses4 e h = names (bad_record s) BadRecord rest e h ∙ past3
 
       pub past4 : bad_record s ≡ 0 → rest ≡ fields_then s rest
@@ -103,11 +104,7 @@ module _ (s : List ℕ) where
 
   -- one of checks 1 to 4 refuses, and the rest does not matter
   abbrev Refuses : Type 0
-  Refuses =
-      (0 < number_of (fields_then s Accepted)) × ((rest : Refusal) → fields_then s rest ≡ fields_then s Accepted)
-
-  refuses_by : {r : Refusal} → 0 < number_of r → ((rest : Refusal) → r ≡ fields_then s rest) → Fielded s ⊎ Refuses
-  refuses_by some is = inr (omega (arith, ap number_of (is Accepted)), λ rest. sym (is rest) ∙ is Accepted)
+  Refuses = (r : Refusal) × ((rest : Checked) → Err r ≡ fields_then s rest)
 
   by_fields : Fielded s ⊎ Refuses
   by_fields =
@@ -117,26 +114,26 @@ module _ (s : List ℕ) where
       go : Dec (length s < 16) → (b : Bool) → not (header_rule s) ≡ b
           → (d : Bool) → not (eqb (length s) (16 + 12 * record_count s)) ≡ d → Dec (bad_record s ≡ 0)
           → Fielded s ⊎ Refuses
-      go (yes h) b h2 d h3 e = refuses_by (omega arith) (λ rest. refuses1 s rest h)
-      go (no h) true h2 d h3 e = refuses_by (omega arith) (λ rest. refuses2 s rest (omega arith) h2)
-      go (no h) false h2 true h3 e = refuses_by (omega arith) (λ rest. refuses3 s rest (omega arith) h2 h3)
+      go (yes h) b h2 d h3 e = inr (_, λ rest. refuses1 s rest h)
+      go (no h) true h2 d h3 e = inr (_, λ rest. refuses2 s rest (omega arith) h2)
+      go (no h) false h2 true h3 e = inr (_, λ rest. refuses3 s rest (omega arith) h2 h3)
       go (no h) false h2 false h3 (no e) =
-          refuses_by (omega arith) (λ rest. refuses4 s rest (omega arith) h2 h3 refl e)
+          inr (_, λ rest. refuses4 s rest (omega arith) h2 h3 refl e)
       go (no h) false h2 false h3 (yes e) =
           inl (record { header = not-false _ h2; sized = eqb-true _ _ (not-false _ h3); records = e })
 
-  pub fields_passed : number_of (fields_then s Accepted) ≡ 0 → Fielded s
-  fields_passed z = ⊎_elim (λ f. f) (λ r. absurd (omega arith)) by_fields
+  pub fields_passed : fields_then s (Ok tt) ≡ Ok tt → Fielded s
+  fields_passed p = ⊎_elim (λ f. f) (λ r. absurd (no_pass (r.1 (Ok tt) ∙ p))) by_fields
 
   pub fields_kept : Fielded s → refusal_of s ≡ linked_refusal s
   fields_kept f = refusal_is ∙ fields_then_lem s (linked_refusal s) f
 
-  pub fields_refused : ¬ number_of (fields_then s Accepted) ≡ 0 → refusal_of s ≡ fields_then s Accepted
-  fields_refused some =
-      ⊎_elim (λ f. absurd (some (ap number_of (fields_then_lem s Accepted f))))
-      (λ r. refusal_is ∙ r.1 (linked_refusal s))
+  pub fields_refused : {r : Refusal} → Err r ≡ fields_then s (Ok tt) → Err r ≡ refusal_of s
+  fields_refused e =
+      ⊎_elim (λ f. absurd (no_pass (e ∙ fields_then_lem s (Ok tt) f)))
+      (λ r. e ∙ sym (r.1 (Ok tt)) ∙ r.1 (linked_refusal s) ∙ sym refusal_is)
       by_fields
 
   -- a refused file is not accepted
-  pub not_accepted : {r : Refusal} → r ≡ refusal_of s → 0 < number_of r → ¬ verdict s ≡ accepted (program_of s)
-  not_accepted e h v = omega (arith, ap number_of (e ∙ (accepted_as s (program_of s) v).0))
+  pub not_accepted : {r : Refusal} → Err r ≡ refusal_of s → ¬ verdict s ≡ accepted (program_of s)
+  not_accepted e v = no_pass (e ∙ (accepted_as s (program_of s) v).0)

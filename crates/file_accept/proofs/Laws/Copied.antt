@@ -8,7 +8,8 @@ use lib.Seq.{length-take-le, take_at, take_all}
 use Rattle.file_format.specs.Accepted.{program_of}
 use Rattle.file_verdict.specs.Verdict.{verdict, accepted}
 use Rattle.file_wellformed.proofs.Lawful.{accepted_lawful}
-use Rattle.sheet_format.specs.declared.WriteResult.TheVariants.{Wrote, Refuses}
+use Rattle.std.specs.Prelude.{Ok, Err}
+use Rattle.file_verdict.specs.declared.refusal.Refusal.TheVariants.{ShortBuffer}
 use Rattle.sheet_format.specs.declared.Level.TheVariants.{Level0}
 use Rattle.sheet_format.specs.Bytes.{over, sheet_bytes, lower_by}
 use Rattle.sheet_format.proofs.Laws.Loaded.{header_by_lem, answered_by}
@@ -53,14 +54,14 @@ module _
       part_counted h = sym (length-take-le size rows (omega (arith, rows_room h, size_small)))
 
       pub answer_short : (buffer : List ℕ) → length buffer < size
-          → (Refuses 9 0, buffer) ≡ lower_by Level0 (verdict s) buffer
+          → (Err ShortBuffer, buffer) ≡ lower_by Level0 (verdict s) buffer
       answer_short buffer h =
           sym (short_untouched (sheet_bytes Level0 (program_of s)) buffer (omega (arith, size_is)))
           ∙ answered_by s ok (sheet_bytes Level0) buffer
 
       pub answer_copied : (buffer : List ℕ) {after : List ℕ} → size ≤ length buffer
           → after ≡ take (length (take size rows)) (take size rows) ++ drop (length (take size rows)) buffer
-          → (Wrote size, after) ≡ lower_by Level0 (verdict s) buffer
+          → (Ok size, after) ≡ lower_by Level0 (verdict s) buffer
       answer_copied buffer {after} room copied =
           let bytes = sheet_bytes Level0 (program_of s) in
           let whole : size ≡ length bytes = e ∙ size_is in
@@ -69,6 +70,6 @@ module _
           let same : after ≡ over bytes buffer =
           copied ∙ ap (λ x. take (length x) x ++ drop (length x) buffer) part
           ∙ ap (λ x. x ++ drop (length bytes) buffer) (take_all (length bytes) bytes (omega arith)) in
-          (λ i. (Wrote (whole i), same i))
+          (λ i. (Ok (whole i), same i))
           ∙ sym (written_all bytes buffer (omega arith))
           ∙ answered_by s ok (sheet_bytes Level0) buffer

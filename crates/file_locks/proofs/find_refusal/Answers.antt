@@ -1,5 +1,6 @@
 -- `file_locks::find_refusal` meets its contract. The first fault from lane t on is the first of all, and the first
 -- descent is the one found, or else the first from lane t on.
+use Rattle.std.specs.Prelude.{Ok}
 use Prim.Native.Nat.{suc, ◌+◌}
 use mathlib.Core.Path.{◌≡◌, refl, sym, ap, ◌∙◌}
 use native.Mathlib.Omega.{arith}
@@ -8,7 +9,7 @@ use Rattle.file_format.specs.Held.{lock_fault}
 use Rattle.file_format.specs.Rising.{lock_order}
 use Rattle.file_format.proofs.Laws.Search.{first_on, first_found, first_none}
 use Rattle.file_chains.specs.Ordered.{begin_of}
-use Rattle.file_verdict.specs.declared.refusal.Refusal.TheVariants.{Accepted, LockFault, LockOrder}
+use Rattle.file_verdict.specs.declared.refusal.Refusal.TheVariants.{LockFault, LockOrder}
 use Rattle.file_verdict.proofs.Laws.Verdict.{names, passes}
 use Rattle.file_locks.proofs.Laws.Descents.{named_on, named_end}
 use Rattle.file_locks.proofs.Laws.Order.{fault, descent, lane_fits, found_is, fault_first, descent_first}
@@ -60,9 +61,9 @@ loop-t-preserved c =
 pub returns-then-descent-ne0 : goal.returns-then-descent-ne0
 returns-then-descent-ne0 c =
     let r = (goal.at.returns-then-descent-ne0 c).After-loop-t in
-    names _ LockOrder Accepted (order_is r) c.if-descent-ne0.true ∙ passes _ LockFault _ (no-fault r)
+    names _ LockOrder (Ok tt) (order_is r) c.if-descent-ne0.true ∙ passes _ LockFault _ (no-fault r)
 
 pub returns : goal.returns
 returns c =
     let r = (goal.at.returns c).After-loop-t in
-    passes _ LockOrder Accepted (sym (order_is r) ∙ c.if-descent-ne0.false) ∙ passes _ LockFault _ (no-fault r)
+    passes _ LockOrder (Ok tt) (sym (order_is r) ∙ c.if-descent-ne0.false) ∙ passes _ LockFault _ (no-fault r)

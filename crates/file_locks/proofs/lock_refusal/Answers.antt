@@ -1,10 +1,11 @@
 -- `file_locks::lock_refusal` meets its contract. No lane before t has a fault, and none descends.
+use Rattle.std.specs.Prelude.{Ok}
 use Prim.Native.Nat.{suc, ◌+◌}
 use mathlib.Core.Path.{◌≡◌, refl, sym, ap, ◌∙◌}
 use native.Mathlib.Omega.{arith}
 use Rattle.file_format.proofs.Laws.Search.{first_on, first_none}
 use Rattle.file_chains.specs.Ordered.{begin_of}
-use Rattle.file_verdict.specs.declared.refusal.Refusal.TheVariants.{Accepted, LockFault, LockOrder}
+use Rattle.file_verdict.specs.declared.refusal.Refusal.TheVariants.{LockFault, LockOrder}
 use Rattle.file_verdict.proofs.Laws.Verdict.{passes}
 use Rattle.file_locks.proofs.Laws.Held.{clean_records}
 use Rattle.file_locks.proofs.Laws.NoLocks.{no_fault, no_descent}
@@ -14,7 +15,7 @@ use Rattle.file_locks.proofs.lock_refusal.Goals as goal
 -- no lane takes or frees a lock
 pub returns-then-s-eq0 : goal.returns-then-s-eq0
 returns-then-s-eq0 c =
-    passes _ LockOrder Accepted (no_descent c.args.s.now c.requires.structure c.if-s-eq0.true)
+    passes _ LockOrder (Ok tt) (no_descent c.args.s.now c.requires.structure c.if-s-eq0.true)
     ∙ passes _ LockFault _ (no_fault c.args.s.now c.requires.structure c.if-s-eq0.true)
 
 pub loop-t-init : goal.loop-t-init
@@ -44,5 +45,5 @@ loop-t-preserved c =
 
 pub returns : goal.returns
 returns c =
-    passes _ LockOrder Accepted (sym (first_none _ _ _ c.loop-t-test.false c.loop-t.invariant.2))
+    passes _ LockOrder (Ok tt) (sym (first_none _ _ _ c.loop-t-test.false c.loop-t.invariant.2))
     ∙ passes _ LockFault _ (sym (first_none _ _ _ c.loop-t-test.false c.loop-t.invariant.1))
