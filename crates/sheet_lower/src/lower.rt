@@ -9,7 +9,7 @@ ghost use Rattle.sheet_format.specs.Bytes.{lower_by, lower1 as lowered1, lower2 
 
 use crate::whole::write_sheet;
 use file_accept::accept::{field_refusal, linked_refusal};
-use file_verdict::number::{number_of, record_of};
+use file_verdict::refusal::Refusal;
 use sheet_format::{Level, WriteResult};
 
 // A file that checks 1 to 4 let pass, through its chains in `rows` and its lanes' plans in `plan`.
@@ -31,57 +31,33 @@ fn lower_in(
     ensures order { verdict file.now ≡ accepted (program_of file.now)
         → take (record_count file.now) order.new ≡ lane_order (program_of file.now) }
 {
-    let refusal = linked_refusal(file, rows, order, place);
-    let number = number_of(refusal);
-    if number != 0 {
-        return WriteResult::Refuses(number, record_of(refusal));
-    }
+    linked_refusal(file, rows, order, place)?;
     let size = write_sheet(level, out, file, rows, plan);
     if out.len() < size {
-        return WriteResult::Refuses(9, 0);
+        return Err(Refusal::ShortBuffer);
     }
-    WriteResult::Wrote(size)
+    Ok(size)
 }
 
-// A file of at most 16 records, without clearing more than their chains take.
-fn lower_short(level: Level, file: &[u8], out: &mut [u8]) -> WriteResult
-    requires { Fielded file.now × (length file.now ≤ 208) }
+// The same through buffers of its own, of these sizes: without clearing more than the file's chains take.
+fn lower_within<const ROWS: usize, const ORDER: usize, const PLACES: usize, const PLANS: usize>(
+    level: Level,
+    file: &[u8],
+    out: &mut [u8],
+) -> WriteResult
+    requires fields { Fielded file.now }
+    requires rows { (16 + 8 * record_count file.now ≤ ROWS) × (record_count file.now + 4 ≤ PLANS) }
+    requires order { (record_count file.now ≤ ORDER) × (record_count file.now < PLACES) }
+    requires small { (ROWS < 65536) × (ORDER < 65536) × (PLACES < 65536) × (PLANS < 65536) }
     ensures { (result, out.new) ≡ lower_by level (verdict file.now) out.old }
 {
-    let mut rows = [0u8; 144];
-    let mut order = [0u16; 16];
-    let mut place = [0u16; 17];
-    let mut plan = [0u32; 20];
+    let mut rows = [0u8; ROWS];
+    let mut order = [0u16; ORDER];
+    let mut place = [0u16; PLACES];
+    let mut plan = [0u32; PLANS];
     lower_in(
         level, file, out, &mut rows, &mut order, &mut place, &mut plan,
     )
-}
-
-// A file of at most 64 records.
-fn lower_medium(level: Level, file: &[u8], out: &mut [u8]) -> WriteResult
-    requires { Fielded file.now × (length file.now ≤ 784) }
-    ensures { (result, out.new) ≡ lower_by level (verdict file.now) out.old }
-{
-    let mut rows = [0u8; 528];
-    let mut order = [0u16; 64];
-    let mut place = [0u16; 65];
-    let mut plan = [0u32; 68];
-    lower_in(
-        level, file, out, &mut rows, &mut order, &mut place, &mut plan,
-    )
-}
-
-// A file of up to 256 records, which stand in `order` lane after lane if it is accepted.
-fn lower_long(level: Level, file: &[u8], out: &mut [u8], order: &mut [u16]) -> WriteResult
-    requires { Fielded file.now × (256 ≤ length order.old) }
-    ensures answer { (result, out.new) ≡ lower_by level (verdict file.now) out.old }
-    ensures order { verdict file.now ≡ accepted (program_of file.now)
-        → take (record_count file.now) order.new ≡ lane_order (program_of file.now) }
-{
-    let mut rows = [0u8; 2064];
-    let mut place = [0u16; 257];
-    let mut plan = [0u32; 260];
-    lower_in(level, file, out, &mut rows, order, &mut place, &mut plan)
 }
 
 // The sheet of a level, as `lower` writes it, and the records of an accepted file in the order of its lanes at the
@@ -92,12 +68,11 @@ pub fn lower_ordered(level: Level, file: &[u8], out: &mut [u8], order: &mut [u16
     ensures order { verdict file.now ≡ accepted (program_of file.now)
         → take (record_count file.now) order.new ≡ lane_order (program_of file.now) }
 {
-    let fields = field_refusal(file);
-    let refused = number_of(fields);
-    if refused != 0 {
-        return WriteResult::Refuses(refused, record_of(fields));
-    }
-    lower_long(level, file, out, order)
+    field_refusal(file)?; // before a buffer is cleared
+    let mut rows = [0u8; 2064];
+    let mut place = [0u16; 257];
+    let mut plan = [0u32; 260];
+    lower_in(level, file, out, &mut rows, order, &mut place, &mut plan)
 }
 
 // The sheet of a level at the front of `out`; a refusal, 9 for a buffer that is too short, leaves `out` as it was.
@@ -105,19 +80,16 @@ pub fn lower_ordered(level: Level, file: &[u8], out: &mut [u8], order: &mut [u16
 pub fn lower(level: Level, file: &[u8], out: &mut [u8]) -> WriteResult
     ensures { (result, out.new) ≡ lower_by level (verdict file.now) out.old }
 {
-    let early = field_refusal(file);
-    let found = number_of(early);
-    if found != 0 {
-        return WriteResult::Refuses(found, record_of(early));
-    }
+    field_refusal(file)?; // before a buffer is chosen
     if file.len() <= 208 {
-        return lower_short(level, file, out);
+        // at most 16 records
+        return lower_within::<144, 16, 17, 20>(level, file, out);
     }
     if file.len() <= 784 {
-        return lower_medium(level, file, out);
+        // at most 64
+        return lower_within::<528, 64, 65, 68>(level, file, out);
     }
-    let mut order = [0u16; 256];
-    lower_long(level, file, out, &mut order)
+    lower_within::<2064, 256, 257, 260>(level, file, out)
 }
 
 // The level 1 sheet at the front of `out`; a refusal, 9 for a buffer that is too short, leaves `out` as it was.

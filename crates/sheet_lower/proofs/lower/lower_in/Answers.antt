@@ -6,43 +6,38 @@ use native.Mathlib.Omega.{arith}
 use lib.ListN.{length}
 use Rattle.file_format.specs.Accepted.{program_of}
 use Rattle.file_format.specs.Structured.{Structured, Fielded}
-use Rattle.file_verdict.specs.declared.refusal.Refusal.{Refusal}
-use Rattle.file_verdict.specs.Verdict.{number_of, record_of, verdict, accepted}
+use Rattle.file_verdict.specs.Verdict.{verdict, accepted}
 use Rattle.file_verdict.proofs.Laws.Verdict.{sound, accepted_as}
 use Rattle.file_accept.specs.Checks.{linked_refusal}
 use Rattle.file_accept.proofs.Laws.Checks.{fields_kept, not_accepted}
-use Rattle.sheet_format.specs.declared.WriteResult.TheVariants.{Refuses}
+use Rattle.std.specs.Prelude.{Ok}
+use Rattle.std.proofs.lemmas.Result.{err_from_is_err_and}
 use Rattle.sheet_format.specs.Bytes.{sheet_bytes}
 use Rattle.sheet_format.proofs.Laws.Loaded.{refused_by, accepted_by, answered_by}
 use Rattle.sheet_format.proofs.Laws.Written.{written_length, answer_short, answer_full}
 use Rattle.sheet_lower.specs.Sheet.{sheet_of}
 use Rattle.sheet_lower.proofs.lower.lower_in.Goals as goal
 
--- behind the test: the file is accepted
-ok : (s : List ℕ) {r : Refusal} {n : ℕ} → Fielded s → r ≡ linked_refusal s → n ≡ number_of r → n ≡ 0
-    → verdict s ≡ accepted (program_of s)
-ok s f is e z = accepted_by s (omega (arith, e ∙ ap number_of (is ∙ sym (fields_kept s f)), z))
+-- behind the `?`: the file is accepted
+ok : (s : List ℕ) → Fielded s → Ok tt ≡ linked_refusal s → verdict s ≡ accepted (program_of s)
+ok s f is = accepted_by s (fields_kept s f ∙ sym is)
 
 structured : (s : List ℕ) → verdict s ≡ accepted (program_of s) → Structured s
 structured s v = (sound s (accepted_as s (program_of s) v).0).0
 
-pub returns-then-number-ne0 : goal.returns-then-number-ne0
-returns-then-number-ne0 c =
-    let answer = c.linked_refusal-refusal.ensures.answer ∙ sym (fields_kept c.args.file.now c.requires.fields) in
-    let number = c.number_of-number.ensures ∙ ap number_of answer in
-    let record_is = c.record_of.ensures ∙ ap record_of answer in
-    let some = c.if-number-ne0.true in record {
-      answer =
-          (λ i. (Refuses (number i) (record_is i), c.args.out.now))
-          ∙ sym (refused_by c.args.file.now (sheet_bytes c.args.level) c.args.out.now (omega (arith, number, some)));
-      order = λ v. absurd (not_accepted c.args.file.now answer (omega (arith, c.number_of-number.ensures, some)) v);
+pub returns-in_err-linked_refusal : goal.returns-in_err-linked_refusal
+returns-in_err-linked_refusal c =
+    let p = err_from_is_err_and c.from_residual.result c.from_residual.ensures.1 in
+    let answer = c.in_err-linked_refusal.ensures.answer ∙ sym (fields_kept c.args.file.now c.requires.fields) in record {
+      answer = rw (p.1, p.2) (sym (refused_by c.args.file.now (sheet_bytes c.args.level) c.args.out.now (sym answer)));
+      order = λ v. absurd (not_accepted c.args.file.now answer v);
     }
 
 pub write_sheet-size-requires : goal.write_sheet-size-requires
 write_sheet-size-requires c =
-    let refusal = c.linked_refusal-refusal.ensures in
+    let refusal = c.in_ok-linked_refusal.ensures in
     let v =
-    ok c.args.file.now c.requires.fields refusal.answer c.number_of-number.ensures c.if-number-ne0.false in
+    ok c.args.file.now c.requires.fields refusal.answer in
     let st = structured c.args.file.now v in
     let wrote = refusal.rows st.linkage st.chains st.targets in record {
       s_value = v;
@@ -61,9 +56,9 @@ pub returns-then-out-size : goal.returns-then-out-size
 returns-then-out-size c =
     let s = c.args.file.now in
     let out = c.args.out.now in
-    let refusal = c.linked_refusal-refusal.ensures in
+    let refusal = c.in_ok-linked_refusal.ensures in
     let put = c.write_sheet-size.ensures in
-    let v = ok s c.requires.fields refusal.answer c.number_of-number.ensures c.if-number-ne0.false in
+    let v = ok s c.requires.fields refusal.answer in
     let st = structured s v in
     let bytes = sheet_of c.args.level s in
     let long = ap length put.wrote ∙ written_length bytes out in record {
@@ -77,9 +72,9 @@ pub returns : goal.returns
 returns c =
     let s = c.args.file.now in
     let out = c.args.out.now in
-    let refusal = c.linked_refusal-refusal.ensures in
+    let refusal = c.in_ok-linked_refusal.ensures in
     let put = c.write_sheet-size.ensures in
-    let v = ok s c.requires.fields refusal.answer c.number_of-number.ensures c.if-number-ne0.false in
+    let v = ok s c.requires.fields refusal.answer in
     let st = structured s v in
     let bytes = sheet_of c.args.level s in
     let long = ap length put.wrote ∙ written_length bytes out in record {
