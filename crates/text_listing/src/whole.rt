@@ -19,11 +19,9 @@ fn put_lane(out: &mut [u8], start: usize, lane: u32, count: u32, sheet: &[u8], f
 {
     let mut at = start;
     let mut row = from;
-    let mut p: u32 = 0;
-    while p < count {
+    for p in 0..count {
         at = put_line(out, at, lane, p, sheet, row);
         row += 8;
-        p += 1;
     }
     at
 }
@@ -32,8 +30,7 @@ fn put_lane(out: &mut [u8], start: usize, lane: u32, count: u32, sheet: &[u8], f
 fn lanes_of(sheet: &[u8]) -> u32
     ensures { (result ≡ length (counts sheet.now)) × (result ≤ 4) }
 {
-    let t = byte_at(sheet, 0) as u32;
-    if t < 4 { t } else { 4 }
+    u32::from(byte_at(sheet, 0)).min(4)
 }
 
 // The lines of every lane.
@@ -45,12 +42,10 @@ fn put_lanes(out: &mut [u8], start: usize, sheet: &[u8]) -> usize
     let lanes = lanes_of(sheet);
     let mut at = start;
     let mut from: usize = 16;
-    let mut t: u32 = 0;
-    while t < lanes {
+    for t in 0..lanes {
         let count = word_at(sheet, 8 + 2 * (t as usize));
         at = put_lane(out, at, t, count, sheet, from);
         from += 8 * (count as usize);
-        t += 1;
     }
     at
 }

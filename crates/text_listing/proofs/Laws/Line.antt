@@ -107,3 +107,7 @@ line_few lane p o a b c hl hp ha hb hc =
 
 pub first_same : {t u l m v w k j : ℕ} → t ≡ u → l ≡ m → v ≡ w → k ≡ j → first_line t l v k ≡ first_line u m w j
 first_same e1 e2 e3 e4 = cc
+
+-- an instruction by other names of its code and its first two operands
+pub instr_same : {o p a d b e : ℕ} (c : ℕ) → o ≡ p → a ≡ d → b ≡ e → instr_by o a b c ≡ instr_by p d e c
+instr_same c e1 e2 e3 = cc

@@ -10,10 +10,7 @@ use Rattle.text_listing.proofs.Laws.Sheet.{total}
 use Rattle.text_listing.proofs.whole.put_lanes.Given as goal
 
 abbrev pub invariant-loop-t : goal.invariant-loop-t
-invariant-loop-t l = (l.t ≤ l.lanes) × (length l.out ≡ length l.initial.out) ×
+invariant-loop-t l = (length l.out ≡ length l.initial.out) ×
     (l.from ≡ 16 + 8 * total (take l.t (counts l.sheet)))
     × (l.at ≤ l.start + 3342285 * l.t) × (l.from ≤ 16 + 524280 * l.t)
     × Puts l.initial.out l.start (sheet_lines 0 (read_lanes (take l.t (counts l.sheet)) (drop 16 l.sheet))) l.out l.at
-
-abbrev pub decreases-loop-t : goal.decreases-loop-t
-decreases-loop-t l = l.lanes - l.t
