@@ -6,6 +6,7 @@ ghost use Rattle.text_listing.specs.Listing.{lane_lines, sheet_lines, sheet_text
 ghost use Rattle.sheet_format.specs.Bytes.{write_into};
 
 use crate::line::put_line;
+use crate::measured::list;
 use crate::title::put_first;
 use sheet_format::WriteResult;
 use sheet_rows::read::{byte_at, word_at};
@@ -58,16 +59,9 @@ fn put_sheet(out: &mut [u8], sheet: &[u8], mask: u16) -> usize
     put_lanes(out, i, sheet)
 }
 
-// The listing of a level 2 sheet at the front of `out`; 9, and `out` as it was, where it does not fit. It is measured
-// first, by laying it into a buffer that it does not fit.
+// The listing of a level 2 sheet at the front of `out`; 9, and `out` as it was, where it does not fit.
 pub fn list_sheet(sheet: &[u8], mask: u16, out: &mut [u8]) -> WriteResult
     ensures { (result, out.new) ≡ write_into (sheet_text sheet.now mask) out.old }
 {
-    let mut none = [0u8; 1];
-    let size = put_sheet(&mut none, sheet, mask);
-    if out.len() < size {
-        return WriteResult::Refuses(9, 0);
-    }
-    let end = put_sheet(out, sheet, mask);
-    WriteResult::Wrote(end)
+    list(|buffer: &mut [u8]| put_sheet(buffer, sheet, mask), out)
 }

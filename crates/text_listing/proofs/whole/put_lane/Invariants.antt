@@ -1,7 +1,7 @@
 -- `text_listing::whole::put_lane` meets its contract. What is written so far are the lines of the first p instructions.
 use Prim.Native.Nat.{◌+◌}
 use mathlib.Core.Path.{◌≡◌}
-use Prim.Native.Nat.{◌*◌, ◌-◌, ◌≤◌}
+use Prim.Native.Nat.{◌*◌, ◌≤◌}
 use lib.ListN.{length, drop}
 use Rattle.sheet_format.specs.Read.{read_rows}
 use Rattle.sheet_format.specs.Put.{Puts}

@@ -14,34 +14,6 @@ pub loop-t-init : goal.loop-t-init
 unfolding sheet_lines
 loop-t-init c = (refl, omega arith, omega arith, omega arith, puts_none)
 
-pub overflow_cast-t : goal.overflow_cast-t
-overflow_cast-t c = omega (arith, c.lanes_of-lanes.ensures.1)
-
-pub overflow_mul-t : goal.overflow_mul-t
-overflow_mul-t c = omega (arith, c.lanes_of-lanes.ensures.1)
-
-pub overflow_add-t : goal.overflow_add-t
-overflow_add-t c = omega (arith, c.lanes_of-lanes.ensures.1)
-
-pub word_at-count-requires : goal.word_at-count-requires
-word_at-count-requires c = omega (arith, c.lanes_of-lanes.ensures.1)
-
-pub put_lane-at-requires : goal.put_lane-at-requires
-put_lane-at-requires c =
-    (omega arith, omega arith)
-
-pub overflow_mul-from : goal.overflow_mul-from
-overflow_mul-from c = omega (arith, c.word_at-count.ensures.1)
-
-pub overflow_add-from : goal.overflow_add-from
-overflow_add-from c =
-    omega (
-      arith,
-      c.word_at-count.ensures.1,
-      c.loop-t.invariant.3,
-      c.lanes_of-lanes.ensures.1,
-    )
-
 pub loop-t-preserved : goal.loop-t-preserved
 loop-t-preserved c =
     let more : c.loop-t.t < length (counts c.args.sheet.now) = omega (arith, c.lanes_of-lanes.ensures.0) in (

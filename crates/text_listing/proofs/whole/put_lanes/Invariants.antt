@@ -1,7 +1,7 @@
 -- `text_listing::whole::put_lanes` meets its contract. What is written so far are the lines of the first t lanes.
 use Prim.Native.Nat.{◌+◌}
 use mathlib.Core.Path.{◌≡◌}
-use Prim.Native.Nat.{◌*◌, ◌-◌, ◌≤◌}
+use Prim.Native.Nat.{◌*◌, ◌≤◌}
 use lib.ListN.{length, take, drop}
 use Rattle.sheet_format.specs.Read.{read_lanes, counts}
 use Rattle.sheet_format.specs.Put.{Puts}
