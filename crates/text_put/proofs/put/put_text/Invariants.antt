@@ -6,4 +6,5 @@ use Rattle.sheet_format.specs.Put.{Puts}
 use Rattle.text_put.proofs.put.put_text.Given as goal
 
 abbrev pub invariant-loop-i : goal.invariant-loop-i
-invariant-loop-i l = (length l.out ≡ length l.initial.out) × Puts l.initial.out l.at (take l.i l.text) l.out (l.at + l.i)
+invariant-loop-i l = (length l.out ≡ length l.initial.out)
+    × Puts l.initial.out l.at (take l.i l.text) l.out (l.at + l.i)
