@@ -2,6 +2,7 @@
 #![tactic(auto)]
 
 pub mod line;
+mod measured;
 pub mod refusal;
 mod title;
 pub mod whole;

@@ -31,19 +31,20 @@ pub fn put_name(out: &mut [u8], at: usize, o: u32) -> usize
     requires { at + 6 ≤ 2 ^ 62 }
     ensures { (a b c : ℕ) → Puts out.old at (instr_name (instr_by o a b c)) out.new result }
 {
-    match o {
-        1 => return put_text(out, at, b"SET"),
-        2 => return put_text(out, at, b"ADD"),
-        3 => return put_text(out, at, b"LOAD"),
-        4 => return put_text(out, at, b"STORE"),
-        5 => return put_text(out, at, b"LOCK"),
-        6 => return put_text(out, at, b"UNLOCK"),
-        7 => return put_text(out, at, b"SKIP"),
-        11 => return put_text(out, at, b"LL"),
-        12 => return put_text(out, at, b"LS"),
-        13 => return put_text(out, at, b"SS"),
-        _ => return put_text(out, at, b"MFENCE"),
-    }
+    let name: &[u8] = match o {
+        1 => b"SET",
+        2 => b"ADD",
+        3 => b"LOAD",
+        4 => b"STORE",
+        5 => b"LOCK",
+        6 => b"UNLOCK",
+        7 => b"SKIP",
+        11 => b"LL",
+        12 => b"LS",
+        13 => b"SS",
+        _ => b"MFENCE",
+    };
+    put_text(out, at, name)
 }
 
 // The instruction of a code, with its fields.
@@ -53,10 +54,10 @@ pub fn put_instr(out: &mut [u8], at: usize, o: u32, a: u32, b: u32, c: u32) -> u
 {
     let i = put_name(out, at, o);
     match o {
-        1 | 7 => return put_two(out, i, b" ", a, c),
-        2 | 3 | 4 => return put_two(out, i, b" ", a, b),
-        5 | 6 => return put_one(out, i, b" ", b),
-        _ => return i,
+        1 | 7 => put_two(out, i, b" ", a, c),
+        2 | 3 | 4 => put_two(out, i, b" ", a, b),
+        5 | 6 => put_one(out, i, b" ", b),
+        _ => i,
     }
 }
 
@@ -80,9 +81,9 @@ pub fn put_line(
     let k = put_instr(
         out,
         j,
-        row.code as u32,
-        row.a as u32,
-        row.b as u32,
+        u32::from(row.code),
+        u32::from(row.a),
+        u32::from(row.b),
         row.word,
     );
     put(out, k, b'\n')

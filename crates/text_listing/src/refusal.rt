@@ -4,6 +4,7 @@ ghost use Rattle.sheet_format.specs.Put.{Puts};
 ghost use Rattle.sheet_format.specs.Bytes.{write_into};
 ghost use Rattle.text_listing.specs.Line.{refusal_line};
 
+use crate::measured::list;
 use sheet_format::WriteResult;
 use text_put::put::put;
 use text_put::words::put_one;
@@ -17,16 +18,9 @@ fn put_refusal(out: &mut [u8], number: u32, rec: u32) -> usize
     put(out, j, b'\n')
 }
 
-// The line of a refusal at the front of `out`; 9, and `out` as it was, where it does not fit. It is measured first, by
-// laying it into a buffer that it does not fit.
+// The line of a refusal at the front of `out`; 9, and `out` as it was, where it does not fit.
 pub fn list_refusal(number: u32, rec: u32, out: &mut [u8]) -> WriteResult
     ensures { (result, out.new) ≡ write_into (refusal_line number rec) out.old }
 {
-    let mut none = [0u8; 1];
-    let size = put_refusal(&mut none, number, rec);
-    if out.len() < size {
-        return WriteResult::Refuses(9, 0);
-    }
-    let end = put_refusal(out, number, rec);
-    WriteResult::Wrote(end)
+    list(|buffer: &mut [u8]| put_refusal(buffer, number, rec), out)
 }

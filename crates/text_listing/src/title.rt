@@ -17,9 +17,9 @@ pub(crate) fn put_first(out: &mut [u8], sheet: &[u8], mask: u16) -> usize
         (byte sheet.now 2))
         out.new result }
 {
-    let i = put_one(out, 0, b"lanes ", byte_at(sheet, 0) as u32);
-    let j = put_one(out, i, b" locations ", byte_at(sheet, 1) as u32);
+    let i = put_one(out, 0, b"lanes ", u32::from(byte_at(sheet, 0)));
+    let j = put_one(out, i, b" locations ", u32::from(byte_at(sheet, 1)));
     let k = put_one(out, j, b" volatile ", u16::count_ones(mask));
-    let m = put_one(out, k, b" locks ", byte_at(sheet, 2) as u32);
+    let m = put_one(out, k, b" locks ", u32::from(byte_at(sheet, 2)));
     put(out, m, b'\n')
 }

@@ -6,6 +6,7 @@ ghost use Rattle.text_listing.specs.Listing.{lane_lines, sheet_lines, sheet_text
 ghost use Rattle.sheet_format.specs.Bytes.{write_into};
 
 use crate::line::put_line;
+use crate::measured::list;
 use crate::title::put_first;
 use sheet_format::WriteResult;
 use sheet_rows::read::{byte_at, word_at};
@@ -19,11 +20,9 @@ fn put_lane(out: &mut [u8], start: usize, lane: u32, count: u32, sheet: &[u8], f
 {
     let mut at = start;
     let mut row = from;
-    let mut p: u32 = 0;
-    while p < count {
+    for p in 0..count {
         at = put_line(out, at, lane, p, sheet, row);
         row += 8;
-        p += 1;
     }
     at
 }
@@ -32,8 +31,7 @@ fn put_lane(out: &mut [u8], start: usize, lane: u32, count: u32, sheet: &[u8], f
 fn lanes_of(sheet: &[u8]) -> u32
     ensures { (result ≡ length (counts sheet.now)) × (result ≤ 4) }
 {
-    let t = byte_at(sheet, 0) as u32;
-    if t < 4 { t } else { 4 }
+    u32::from(byte_at(sheet, 0)).min(4)
 }
 
 // The lines of every lane.
@@ -45,12 +43,10 @@ fn put_lanes(out: &mut [u8], start: usize, sheet: &[u8]) -> usize
     let lanes = lanes_of(sheet);
     let mut at = start;
     let mut from: usize = 16;
-    let mut t: u32 = 0;
-    while t < lanes {
+    for t in 0..lanes {
         let count = word_at(sheet, 8 + 2 * (t as usize));
         at = put_lane(out, at, t, count, sheet, from);
         from += 8 * (count as usize);
-        t += 1;
     }
     at
 }
@@ -63,16 +59,9 @@ fn put_sheet(out: &mut [u8], sheet: &[u8], mask: u16) -> usize
     put_lanes(out, i, sheet)
 }
 
-// The listing of a level 2 sheet at the front of `out`; 9, and `out` as it was, where it does not fit. It is measured
-// first, by laying it into a buffer that it does not fit.
+// The listing of a level 2 sheet at the front of `out`; 9, and `out` as it was, where it does not fit.
 pub fn list_sheet(sheet: &[u8], mask: u16, out: &mut [u8]) -> WriteResult
     ensures { (result, out.new) ≡ write_into (sheet_text sheet.now mask) out.old }
 {
-    let mut none = [0u8; 1];
-    let size = put_sheet(&mut none, sheet, mask);
-    if out.len() < size {
-        return WriteResult::Refuses(9, 0);
-    }
-    let end = put_sheet(out, sheet, mask);
-    WriteResult::Wrote(end)
+    list(|buffer: &mut [u8]| put_sheet(buffer, sheet, mask), out)
 }

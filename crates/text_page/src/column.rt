@@ -21,22 +21,14 @@ pub struct Column {
     pub side: Side,
 }
 
-// What a text of n characters leaves of a column.
-fn gap_in(width: usize, n: usize) -> usize
-    ensures { result ≡ width - n }
-{
-    if n < width { width - n } else { 0 }
-}
-
 // Where a text of n characters begins in its column, from 0.
 fn place_in(column: Column, n: usize) -> usize
     requires { InLine column }
     ensures { (result ≡ place_in column n) × (result ≤ 32) }
 {
     let from = column.first - 1;
-    let gap = gap_in(column.width, n);
-    let side = column.side;
-    match side {
+    let gap = column.width.saturating_sub(n);
+    match column.side {
         Side::Left => from,
         Side::Right => from + gap,
     }

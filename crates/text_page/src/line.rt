@@ -94,6 +94,16 @@ fn name_in(line: &mut [u8], code: u32)
     put_in(line, NAME, &name[..size]);
 }
 
+// A number in its column, and the record.
+fn number_in(line: &mut [u8], place: Column, n: u32, rec: u32)
+    requires { InLine place }
+    ensures { line.new ≡ in_columns line.old
+        (place ∷ column 30 3 Right ∷ []) (decimal n ∷ decimal rec ∷ []) }
+{
+    put_number(line, place, n);
+    put_number(line, RECORD, rec);
+}
+
 // Register a, another number in its own column, and the record.
 fn pair_in(line: &mut [u8], a: u32, second: Column, n: u32, rec: u32)
     requires { InLine second }
@@ -101,17 +111,7 @@ fn pair_in(line: &mut [u8], a: u32, second: Column, n: u32, rec: u32)
         (column 14 1 Right ∷ second ∷ column 30 3 Right ∷ []) (decimal a ∷ decimal n ∷ decimal rec ∷ []) }
 {
     put_number(line, REGISTER, a);
-    put_number(line, second, n);
-    put_number(line, RECORD, rec);
-}
-
-// Operand b alone, and the record.
-fn lock_in(line: &mut [u8], b: u32, rec: u32)
-    ensures { line.new ≡ in_columns line.old
-        (column 16 2 Right ∷ column 30 3 Right ∷ []) (decimal b ∷ decimal rec ∷ []) }
-{
-    put_number(line, OPERAND, b);
-    put_number(line, RECORD, rec);
+    number_in(line, second, n, rec);
 }
 
 // The fields of an instruction behind its name, and the record that it comes from; a barrier has none.
@@ -122,8 +122,8 @@ fn fields_in(line: &mut [u8], code: u32, a: u32, b: u32, word: u32, rec: u32)
     match code {
         1 | 7 => pair_in(line, a, CONSTANT, word, rec),
         2 | 3 | 4 => pair_in(line, a, OPERAND, b, rec),
-        5 | 6 => lock_in(line, b, rec),
-        _ => return,
+        5 | 6 => number_in(line, OPERAND, b, rec),
+        _ => {}
     }
 }
 
@@ -136,15 +136,11 @@ fn put_instruction(out: &mut [u8], at: usize, lane: u32, position: u32, row: Row
     let mut line = [b' '; 32];
     put_number(&mut line, LANE, lane);
     put_number(&mut line, POSITION, position);
-    name_in(&mut line, row.code as u32);
-    fields_in(
-        &mut line,
-        row.code as u32,
-        row.a as u32,
-        row.b as u32,
-        row.word,
-        rec,
-    );
+    let code = u32::from(row.code);
+    let a = u32::from(row.a);
+    let b = u32::from(row.b);
+    name_in(&mut line, code);
+    fields_in(&mut line, code, a, b, row.word, rec);
     put_line(out, at, &line)
 }
 

@@ -25,48 +25,32 @@ fn place_of(parts: Parts, i: usize) -> Place
         → 16 + 8 * i < get_or (parts_in sheet).from 3 0 + 8 * get_or (parts_in sheet).count 3 0
         → RowAt sheet i result.lane result.position }
 {
-    let count = parts.count;
-    if i < count[0] {
-        return Place {
-            lane: 0,
-            position: i,
-        };
+    let mut position = i;
+    for lane in 0..3 {
+        let count = parts.count[lane];
+        if position < count {
+            return Place { lane, position };
+        }
+        position -= count;
     }
-    let second = i - count[0];
-    if second < count[1] {
-        return Place {
-            lane: 1,
-            position: second,
-        };
-    }
-    let third = second - count[1];
-    if third < count[2] {
-        return Place {
-            lane: 2,
-            position: third,
-        };
-    }
-    Place {
-        lane: 3,
-        position: third - count[2],
-    }
+    Place { lane: 3, position }
 }
 
 // How many records the instruction with this code comes from: an operation from one, a barrier from none.
 fn takes(code: u8) -> usize
     ensures { (result ≤ 1) × ((a b c : ℕ) → result ≡ takesOf (instr_by code a b c)) }
 {
-    if code == 0 {
-        return 0;
+    match code {
+        1..=7 => 1,
+        _ => 0,
     }
-    if code < 8 { 1 } else { 0 }
 }
 
 // The record at j in the order; 0 past it.
 fn record_at(order: &[u16], j: usize) -> u32
     ensures { result ≡ get_or order.now j 0 }
 {
-    if j < order.len() { order[j] as u32 } else { 0 }
+    u32::from(order.get(j).copied().unwrap_or(0))
 }
 
 // The n lines with their headings, from the front of `out`; the position behind them.
@@ -78,15 +62,13 @@ pub(crate) fn put_lines(out: &mut [u8], sheet: &[u8], order: &[u16], n: usize) -
     let parts = parts_of(sheet);
     let mut at = 0;
     let mut next = 0;
-    let mut i = 0;
-    while i < n {
+    for i in 0..n {
         let row = row_at(sheet, 16 + 8 * i);
         let place = place_of(parts, i);
         let lane = place.lane as u32;
         let position = place.position as u32;
         at = put_row(out, at, i, lane, position, row, record_at(order, next));
         next += takes(row.code);
-        i += 1;
     }
     at
 }

@@ -18,7 +18,7 @@ fn page_size(n: usize) -> usize
     if n == 0 {
         return 33;
     }
-    33 * (n + (n + 54) / 55)
+    33 * (n + n.div_ceil(55))
 }
 
 // The pages from the n rows of a level 2 sheet and the records in the order of its lanes; 9, and `out` as it was, where

@@ -3,7 +3,7 @@
 ghost use Rattle.std.specs.Prelude.{◌≡◌, ◌+◌, ◌<◌, ◌≤◌, ◌^◌, ◌∷◌, [], length, set};
 ghost use Rattle.sheet_format.specs.Put.{Puts};
 
-// A byte, where there is room for it.
+// A byte, where there is room for it. A test and no `get_mut`, tried: its contract does not say what the slice ends as.
 pub fn store(out: &mut [u8], at: usize, b: u8)
     ensures { out.new ≡ set out.old at b }
 {
@@ -24,10 +24,8 @@ pub fn put_text(out: &mut [u8], at: usize, text: &[u8]) -> usize
     requires { at + length text.now ≤ 2 ^ 62 }
     ensures { Puts out.old at text.now out.new result }
 {
-    let mut i = 0;
-    while i < text.len() {
-        put(out, at + i, text[i]);
-        i += 1;
+    for (i, b) in text.iter().enumerate() {
+        put(out, at + i, *b);
     }
-    at + i
+    at + text.len()
 }

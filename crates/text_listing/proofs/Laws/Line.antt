@@ -1,34 +1,22 @@
 -- Laws of lines: the name and the text of an instruction by its code, and how long they are at most.
 use Prim.Native.Nat.{ℕ, suc, ◌+◌, ◌^◌, ◌≤◌, ◌<◌}
-use mathlib.Core.Path.{◌≡◌, refl, sym, ap, ◌∙◌}
+use mathlib.Core.Path.{◌≡◌, refl, ap, ◌∙◌}
 use mathlib.Core.Logic.{◌⊎◌}
 use mathlib.Core.Bool.{Bool, true, false, cond}
 use mathlib.Core.List.{List, [], ◌∷◌, ◌++◌}
 use native.Mathlib.Omega.{arith}
 use lib.Dec.{eqb}
 use lib.ListN.{length, length-append}
-use borrow.Author.Tests.{ne_eqb}
 use Rattle.file_format.specs.declared.accepted.Op.TheVariants.{Set, Add, Load, Store, Lock, Unlock, Skip}
 use Rattle.barrier_placement.specs.declared.cookbook.Barrier.TheVariants.{LL, LS, SS, SL}
 use Rattle.sheet_format.specs.Layout.{Instr, op, barrier}
 use Rattle.sheet_format.specs.Read.{barrier_by, instr_by}
 use Rattle.sheet_format.specs.Put.{Puts}
-use Rattle.sheet_format.proofs.Laws.Codes.{by_code, other_code, word_codes, pair_codes, lock_codes, barrier_codes}
+use Rattle.sheet_format.proofs.Laws.Codes.{word_codes, pair_codes, lock_codes, barrier_codes}
 use Rattle.text_put.specs.Decimal.{decimal}
 use Rattle.text_put.specs.Words.{space}
 use Rattle.text_listing.specs.Line.{pair, instr_name, instr_text, line_of, first_line}
 use Rattle.text_put.proofs.Laws.Decimal.{decimal_few}
-
--- the name by a code that is known
-pub code_name : (k : ℕ) {o : ℕ} (a b c : ℕ) → o ≡ k → instr_name (instr_by k a b c) ≡ instr_name (instr_by o a b c)
-code_name k a b c e = ap instr_name (by_code k a b c e)
-
--- every other code
-pub other_name : (o a b c : ℕ) → (o ≡ 1 → ⊥) → (o ≡ 2 → ⊥) → (o ≡ 3 → ⊥) → (o ≡ 4 → ⊥) → (o ≡ 5 → ⊥) → (o ≡ 6 → ⊥)
-    → (o ≡ 7 → ⊥) → (o ≡ 11 → ⊥) → (o ≡ 12 → ⊥) → (o ≡ 13 → ⊥) → instr_name (barrier SL) ≡ instr_name (instr_by o a b c)
-other_name o a b c n1 n2 n3 n4 n5 n6 n7 n11 n12 n13 =
-    let fence : barrier_by o ≡ SL = rw (ne_eqb o 11 n11, ne_eqb o 12 n12, ne_eqb o 13 n13) refl in
-    ap (λ x. instr_name (barrier x)) (sym fence) ∙ ap instr_name (other_code o a b c n1 n2 n3 n4 n5 n6 n7)
 
 pub name_few : (i : Instr) → length (instr_name i) ≤ 6
 name_few (op (Set a c)) = omega arith
@@ -107,3 +95,7 @@ line_few lane p o a b c hl hp ha hb hc =
 
 pub first_same : {t u l m v w k j : ℕ} → t ≡ u → l ≡ m → v ≡ w → k ≡ j → first_line t l v k ≡ first_line u m w j
 first_same e1 e2 e3 e4 = cc
+
+-- an instruction by other names of its code and its first two operands
+pub instr_same : {o p a d b e : ℕ} (c : ℕ) → o ≡ p → a ≡ d → b ≡ e → instr_by o a b c ≡ instr_by p d e c
+instr_same c e1 e2 e3 = cc

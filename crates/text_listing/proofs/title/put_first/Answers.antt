@@ -1,4 +1,5 @@
 -- `text_listing::title::put_first` meets its contract.
+use mathlib.Core.Path.{◌∙◌}
 use native.Mathlib.Omega.{arith}
 use Rattle.laws.proofs.Numbers.{ones_in_lem}
 use Rattle.text_listing.specs.Line.{first_line}
@@ -16,9 +17,9 @@ returns c =
     c.put_one-m.ensures.1)
     c.put.ensures in
     let same =
-    first_same c.byte_at.ensures c.byte_at-2.ensures
+    first_same (c.from.ensures ∙ c.byte_at.ensures) (c.from-2.ensures ∙ c.byte_at-2.ensures)
     (ones_in_lem 16 c.args.mask (omega arith))
-    c.byte_at-3.ensures in (
+    (c.from-3.ensures ∙ c.byte_at-3.ensures) in (
       omega (
         arith,
         c.put.ensures.behind,

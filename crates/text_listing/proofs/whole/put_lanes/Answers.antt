@@ -12,57 +12,25 @@ use Rattle.text_listing.proofs.whole.put_lanes.Goals as goal
 
 pub loop-t-init : goal.loop-t-init
 unfolding sheet_lines
-loop-t-init c = (omega arith, refl, omega arith, omega arith, omega arith, puts_none)
-
-pub overflow_cast-t : goal.overflow_cast-t
-overflow_cast-t c = omega (arith, c.lanes_of-lanes.ensures.1)
-
-pub overflow_mul-t : goal.overflow_mul-t
-overflow_mul-t c = omega (arith, c.lanes_of-lanes.ensures.1)
-
-pub overflow_add-t : goal.overflow_add-t
-overflow_add-t c = omega (arith, c.lanes_of-lanes.ensures.1)
-
-pub word_at-count-requires : goal.word_at-count-requires
-word_at-count-requires c = omega (arith, c.lanes_of-lanes.ensures.1)
-
-pub put_lane-at-requires : goal.put_lane-at-requires
-put_lane-at-requires c =
-    (omega arith, omega arith)
-
-pub overflow_mul-from : goal.overflow_mul-from
-overflow_mul-from c = omega (arith, c.word_at-count.ensures.1)
-
-pub overflow_add-from : goal.overflow_add-from
-overflow_add-from c =
-    omega (
-      arith,
-      c.word_at-count.ensures.1,
-      c.loop-t.invariant.4,
-      c.lanes_of-lanes.ensures.1,
-    )
-
-pub overflow_add-t-in-loop-t : goal.overflow_add-t-in-loop-t
-overflow_add-t-in-loop-t c = omega (arith, c.lanes_of-lanes.ensures.1)
+loop-t-init c = (refl, omega arith, omega arith, omega arith, puts_none)
 
 pub loop-t-preserved : goal.loop-t-preserved
 loop-t-preserved c =
     let more : c.loop-t.t < length (counts c.args.sheet.now) = omega (arith, c.lanes_of-lanes.ensures.0) in (
-      omega arith,
-      puts_length c.put_lane-at.ensures.1 ∙ c.loop-t.invariant.1,
-      from_next c.args.sheet.now c.loop-t.t c.loop-t.from c.word_at-count.result more c.loop-t.invariant.2
+      puts_length c.put_lane-at.ensures.1 ∙ c.loop-t.invariant.0,
+      from_next c.args.sheet.now c.loop-t.t c.loop-t.from c.word_at-count.result more c.loop-t.invariant.1
           c.word_at-count.ensures.0,
-      omega (arith, c.put_lane-at.ensures.0, c.loop-t.invariant.3, c.word_at-count.ensures.1),
-      omega (arith, c.loop-t.invariant.4, c.word_at-count.ensures.1),
-      puts_as (lanes_next c.args.sheet.now c.loop-t.t c.loop-t.from c.word_at-count.result more c.loop-t.invariant.2
+      omega (arith, c.put_lane-at.ensures.0, c.loop-t.invariant.2, c.word_at-count.ensures.1),
+      omega (arith, c.loop-t.invariant.3, c.word_at-count.ensures.1),
+      puts_as (lanes_next c.args.sheet.now c.loop-t.t c.loop-t.from c.word_at-count.result more c.loop-t.invariant.1
           c.word_at-count.ensures.0)
-          (puts_on c.loop-t.invariant.5 c.put_lane-at.ensures.1),
+          (puts_on c.loop-t.invariant.4 c.put_lane-at.ensures.1),
     )
 
 pub returns : goal.returns
 unfolding read_sheet
 returns c =
     let all = take_all c.loop-t.t (counts c.args.sheet.now) (omega (arith, c.lanes_of-lanes.ensures.0)) in record {
-      puts = puts_as (ap (λ ns. sheet_lines 0 (read_lanes ns (drop 16 c.args.sheet.now))) all) c.loop-t.invariant.5;
-      upper_bound = omega (arith, c.loop-t.invariant.3, c.lanes_of-lanes.ensures.1);
+      puts = puts_as (ap (λ ns. sheet_lines 0 (read_lanes ns (drop 16 c.args.sheet.now))) all) c.loop-t.invariant.4;
+      upper_bound = omega (arith, c.loop-t.invariant.2, c.lanes_of-lanes.ensures.1);
     }

@@ -15,15 +15,15 @@ use Rattle.text_page.proofs.line.fields_in.Goals as goal
 abbrev Laid : List ℕ → List ℕ → ℕ → Instr → Type 0
 Laid line after r i = after ≡ in_columns line (drop 3 columns) (field_texts i r)
 
-pub returns-in_default : goal.returns-in_default
+pub returns-then-code-lt1 : goal.returns-then-code-lt1
 unfolding in_columns
-returns-in_default c =
+returns-then-code-lt1 c =
     barrier_codes (Laid c.args.line.now _ c.args.rec) c.args.code c.args.a c.args.b c.args.word
     (λ p q. omega arith) refl
 
-pub returns-in_default-2 : goal.returns-in_default-2
+pub returns-else-code-lt7 : goal.returns-else-code-lt7
 unfolding in_columns
-returns-in_default-2 c =
+returns-else-code-lt7 c =
     barrier_codes (Laid c.args.line.now _ c.args.rec) c.args.code c.args.a c.args.b c.args.word
     (λ p q. search rules) refl
 
@@ -43,4 +43,4 @@ pub returns-in-5 : goal.returns-in-5
 unfolding in_column in_columns
 returns-in-5 c =
     lock_codes (Laid c.args.line.now _ c.args.rec) c.args.code c.args.a c.args.b c.args.word (omega arith)
-    (omega arith) c.lock_in.ensures c.lock_in.ensures
+    (omega arith) c.number_in.ensures c.number_in.ensures

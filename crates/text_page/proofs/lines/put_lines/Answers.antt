@@ -20,7 +20,7 @@ pub loop-i-init : goal.loop-i-init
 unfolding paged
 loop-i-init c =
     let none = sym (rank_none (read_rows c.args.n (drop 16 c.args.sheet.now))) in
-    (omega arith, refl, omega arith, omega arith, none, λ k g. puts_none)
+    (refl, omega arith, omega arith, none, λ k g. puts_none)
 
 pub overflow_mul-i : goal.overflow_mul-i
 overflow_mul-i c = omega (arith, few_given c.requires.1)
@@ -28,20 +28,17 @@ overflow_mul-i c = omega (arith, few_given c.requires.1)
 pub overflow_add-i : goal.overflow_add-i
 overflow_add-i c = omega (arith, few_given c.requires.1)
 
-pub overflow_cast-lane : goal.overflow_cast-lane
-overflow_cast-lane c = omega (arith, c.place_of-place.ensures.few.0)
-
 pub overflow_cast-position : goal.overflow_cast-position
 overflow_cast-position c =
     omega (arith, c.place_of-place.ensures.few.1, few_given c.requires.1)
 
 pub put_row-at-requires : goal.put_row-at-requires
 put_row-at-requires c =
-    (omega (arith, c.loop-i.invariant.2, few_given c.requires.1), omega (arith, few_given c.requires.1))
+    (omega (arith, c.loop-i.invariant.1, few_given c.requires.1), omega (arith, few_given c.requires.1))
 
 pub overflow_add-next : goal.overflow_add-next
 overflow_add-next c =
-    omega (arith, c.loop-i.invariant.3, c.takes-next.ensures.0, few_given c.requires.1)
+    omega (arith, c.loop-i.invariant.2, c.takes-next.ensures.0, few_given c.requires.1)
 
 pub loop-i-preserved : goal.loop-i-preserved
 loop-i-preserved c =
@@ -55,17 +52,16 @@ loop-i-preserved c =
     let few =
     headed_few c.loop-i.i line
     (instruction_length c.place_of-place.result.lane c.place_of-place.result.position x c.record_at.result) in (
-      omega arith,
-      puts_length c.put_row-at.ensures ∙ c.loop-i.invariant.1,
-      omega (arith, c.loop-i.invariant.2, c.put_row-at.ensures.behind, few),
-      omega (arith, c.loop-i.invariant.3, c.takes-next.ensures.0),
+      puts_length c.put_row-at.ensures ∙ c.loop-i.invariant.0,
+      omega (arith, c.loop-i.invariant.1, c.put_row-at.ensures.behind, few),
+      omega (arith, c.loop-i.invariant.2, c.takes-next.ensures.0),
       ap (λ m. c.loop-i.next + m) took
-          ∙ record_next c.args.n c.loop-i.i sheet c.loop-i-test.true read c.loop-i.invariant.4,
-      λ k g. laid_next g c.loop-i-test.true here read c.loop-i.invariant.4 c.record_at.ensures
-          (c.loop-i.invariant.5 k g) c.put_row-at.ensures,
+          ∙ record_next c.args.n c.loop-i.i sheet c.loop-i-test.true read c.loop-i.invariant.3,
+      λ k g. laid_next g c.loop-i-test.true here read c.loop-i.invariant.3 c.record_at.ensures
+          (c.loop-i.invariant.4 k g) c.put_row-at.ensures,
     )
 
 pub returns : goal.returns
 returns c = λ k g.
     let all = take_all c.loop-i.i (page_lines k) (omega (arith, g.counted, c.loop-i-test.false)) in
-    puts_as (ap (paged 0) all) (c.loop-i.invariant.5 k g)
+    puts_as (ap (paged 0) all) (c.loop-i.invariant.4 k g)

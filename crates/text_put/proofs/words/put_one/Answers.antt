@@ -4,7 +4,6 @@ use lib.ListN.{length-append}
 use Rattle.text_put.specs.Decimal.{decimal}
 use Rattle.sheet_format.proofs.Laws.Put.{puts_on}
 use Rattle.text_put.proofs.Laws.Decimal.{decimal_few}
-use borrow.Author.Rules.{rules}
 use Rattle.text_put.proofs.words.put_one.Goals as goal
 
 pub returns : goal.returns

@@ -1,9 +1,9 @@
--- `text_page::line::lock_in` meets its contract.
+-- `text_page::line::number_in` meets its contract.
 use mathlib.Core.Path.{ap, ◌∙◌}
 use Rattle.text_put.specs.Decimal.{decimal}
 use Rattle.text_page.specs.declared.column.Side.TheVariants.{Right}
 use Rattle.text_page.specs.Columns.{column, in_column, in_columns}
-use Rattle.text_page.proofs.line.lock_in.Goals as goal
+use Rattle.text_page.proofs.line.number_in.Goals as goal
 
 pub returns : goal.returns
 unfolding in_columns
