@@ -5,7 +5,7 @@ use Rattle.std.specs.Prelude.{length, get_or, take, drop, replicate}
 use Rattle.file_verdict.specs.Verdict.{verdict}
 use Rattle.sheet_format.specs.declared.Level.{Level}
 use Rattle.sheet_format.specs.declared.Level.TheVariants.{Level1, Level2, Level3}
-use Rattle.sheet_format.specs.declared.WriteResult.{WriteResult}
+use Rattle.sheet_format.specs.Bytes.{WriteResult}
 use Rattle.sheet_format.specs.declared.WriteResult.TheVariants.{Wrote, Refuses}
 use Rattle.sheet_format.specs.Bytes.{lower_by}
 use Rattle.text_listing.specs.Listing.{printed}

@@ -3,7 +3,7 @@ use Rattle.std.specs.Prelude.{ℕ, ◌+◌, ◌*◌, ◌^◌, ◌<◌, List}
 use Rattle.file_format.specs.Accepted.{Program}
 use Rattle.file_verdict.specs.Verdict.{Verdict, verdict}
 use Rattle.sheet_format.specs.declared.Level.TheVariants.{Level1, Level2, Level3}
-use Rattle.sheet_format.specs.declared.WriteResult.{WriteResult}
+use Rattle.sheet_format.specs.Bytes.{WriteResult}
 use Rattle.sheet_format.specs.declared.WriteResult.TheVariants.{Wrote, Refuses}
 use Rattle.sheet_format.specs.Bytes.{sheet_bytes, answer_by}
 use Rattle.machine_spec.specs.declared.Machine.{Machine}

@@ -2,7 +2,7 @@
 use Rattle.std.specs.Prelude.{ℕ, ◌≤◌, ◌<◌, ◌≡◌, Bool, true, List, [], length, get_or}
 use Rattle.file_format.specs.Accepted.{Program}
 use Rattle.file_verdict.specs.Verdict.{accepted, verdict}
-use Rattle.sheet_format.specs.declared.WriteResult.{WriteResult}
+use Rattle.sheet_format.specs.Bytes.{WriteResult}
 use Rattle.sheet_format.specs.declared.WriteResult.TheVariants.{Wrote}
 use Rattle.sheet_format.specs.Levels.{volatile_in}
 use Rattle.sheet_format.specs.Bytes.{over, sheet_bytes}

@@ -9,11 +9,12 @@ use lib.Dec.{eqb}
 use lib.ListN.{length, take}
 use Rattle.file_format.specs.Accepted.{Program, program_of}
 use Rattle.file_format.specs.Lawful.{Lawful}
-use Rattle.file_verdict.specs.Verdict.{refused, accepted, verdict, refusal_of, number_of, record_of}
+use Rattle.file_verdict.specs.Verdict.{Verdict, refused, accepted, verdict, number_of, record_of}
 use Rattle.file_wellformed.proofs.Front.{front_verdict}
 use Rattle.file_wellformed.proofs.Lawful.{accepted_lawful}
 use Rattle.file_wellformed.proofs.Named.{number_small, record_named}
-use Rattle.sheet_format.specs.declared.WriteResult.TheVariants.{Wrote}
+use Rattle.std.specs.Prelude.{Ok}
+use Rattle.file_verdict.proofs.Laws.Verdict.{refused_as}
 use Rattle.sheet_format.specs.Bytes.{over, write_into}
 use Rattle.sheet_format.proofs.Laws.Written.{written_all}
 use Rattle.text_listing.specs.Listing.{listing, printed, printed_by}
@@ -38,19 +39,15 @@ module _
     (text : Program → List ℕ) (size : ℕ) (line : 37 ≤ size) (few : (k : Program) → Lawful k → length (text k) ≤ size)
     (s : List ℕ) where
   printed_few : length (printed_by text (verdict s)) ≤ size
-  printed_few = go (eqb number 0) refl
+  printed_few = go (verdict s) refl
     where
-      number : ℕ
-      number = number_of (refusal_of s)
-
-      named : ℕ
-      named = record_of (refusal_of s)
-
-      go : (b : Bool) → eqb number 0 ≡ b
-          → length (printed_by text (cond b (accepted (program_of s)) (refused number named))) ≤ size
-      go true e = few (program_of s) (accepted_lawful s (program_of s) (rw e))
-      go false e =
-          omega (arith, refusal_small number named (omega (arith, (number_small s).0)) (omega (arith, record_named s)))
+      go : (v : Verdict) → verdict s ≡ v → length (printed_by text v) ≤ size
+      go (accepted k) e = few k (accepted_lawful s k e)
+      go (refused r) e =
+          let of = refused_as s r e in
+          let small = number_small s r of in
+          let named = record_named s r of in
+          omega (arith, refusal_small (number_of r) (record_of r) (omega (arith, small.0)) (omega (arith, named)))
 
 pub printed_small : (s : List ℕ) → length (printed s) ≤ 65536
 printed_small = printed_few listing 65536 (omega arith) (λ k w. omega (arith, listing_small k w))
@@ -60,9 +57,9 @@ pages_small = printed_few page_text 17226 (omega arith) (λ k w. (lawful_pages k
 
 -- so the answer on such a buffer is never 9
 pub prints : (s out : List ℕ) → 65536 ≤ length out
-    → write_into (printed s) out ≡ (Wrote (length (printed s)), over (printed s) out)
+    → write_into (printed s) out ≡ (Ok (length (printed s)), over (printed s) out)
 prints s out h = written_all (printed s) out (omega (arith, printed_small s))
 
 pub prints_pages : (s out : List ℕ) → 17226 ≤ length out
-    → write_into (printed_pages s) out ≡ (Wrote (length (printed_pages s)), over (printed_pages s) out)
+    → write_into (printed_pages s) out ≡ (Ok (length (printed_pages s)), over (printed_pages s) out)
 prints_pages s out h = written_all (printed_pages s) out (omega (arith, pages_small s))

@@ -1,7 +1,7 @@
 -- The text of a level 2 sheet: of a kernel, and of the bytes of a sheet with the kernel's mask.
 use Rattle.std.specs.Prelude.{ℕ, suc, List, [], ◌∷◌, ◌++◌, length, get_or}
 use Rattle.file_format.specs.Accepted.{Program}
-use Rattle.file_verdict.specs.Verdict.{Verdict, refused, accepted, verdict}
+use Rattle.file_verdict.specs.Verdict.{number_of, record_of, Verdict, refused, accepted, verdict}
 use Rattle.sheet_format.specs.Layout.{Instr}
 use Rattle.sheet_format.specs.declared.Level.TheVariants.{Level2}
 use Rattle.sheet_format.specs.Levels.{sheet_lanes}
@@ -26,7 +26,7 @@ listing k =
 
 -- what is printed of a kernel file: the line of its refusal, or a text of the kernel
 abbrev pub printed_by : (Program → List ℕ) → Verdict → List ℕ
-printed_by text (refused number r) = refusal_line number r
+printed_by text (refused r) = refusal_line (number_of r) (record_of r)
 printed_by text (accepted k) = text k
 
 abbrev pub printed : List ℕ → List ℕ

@@ -3,6 +3,7 @@ ghost use Rattle.std.specs.Prelude.{◌≡◌, List, ℕ};
 ghost use Rattle.sheet_format.specs.Bytes.{write_into};
 ghost use Rattle.text_listing.specs.Lays.{Lays};
 
+use file_verdict::refusal::Refusal;
 use sheet_format::WriteResult;
 
 // The text that `lay` lays, at the front of `out`; 9, and `out` as it was, where it does not fit. It is measured first,
@@ -14,8 +15,8 @@ pub(crate) fn list<F: Fn(&mut [u8]) -> usize>(lay: F, out: &mut [u8]) -> WriteRe
     let mut none = [0u8; 1];
     let size = lay(&mut none);
     if out.len() < size {
-        return WriteResult::Refuses(9, 0);
+        return Err(Refusal::ShortBuffer);
     }
     let end = lay(out);
-    WriteResult::Wrote(end)
+    Ok(end)
 }

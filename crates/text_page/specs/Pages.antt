@@ -2,7 +2,7 @@
 use Rattle.std.specs.Prelude.{ℕ, suc, ◌+◌, ◌*◌, ◌/◌, cond, List, [], ◌∷◌, ◌++◌, eqb, length, take, drop}
 use Rattle.file_format.specs.Accepted.{Program}
 use Rattle.file_verdict.specs.Verdict.{verdict}
-use Rattle.sheet_format.specs.declared.WriteResult.{WriteResult}
+use Rattle.sheet_format.specs.Bytes.{WriteResult}
 use Rattle.sheet_format.specs.Bytes.{joined, answer_by}
 use Rattle.sheet_format.specs.Put.{in_turn}
 use Rattle.text_put.specs.Decimal.{decimal}

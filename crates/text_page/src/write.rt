@@ -7,6 +7,7 @@ ghost use Rattle.text_page.specs.Given.{Given};
 
 use crate::line::put_heading;
 use crate::lines::put_lines;
+use file_verdict::refusal::Refusal;
 use sheet_format::{Level, WriteResult};
 use sheet_lower::lower::lower_ordered;
 
@@ -30,14 +31,14 @@ fn put_pages(sheet: &[u8], order: &[u16], n: usize, out: &mut [u8]) -> WriteResu
 {
     let size = page_size(n);
     if out.len() < size {
-        return WriteResult::Refuses(9, 0);
+        return Err(Refusal::ShortBuffer);
     }
     if n == 0 {
         put_heading(out, 0, 1);
     } else {
         put_lines(out, sheet, order, n);
     }
-    WriteResult::Wrote(size)
+    Ok(size)
 }
 
 // The pages of the level 2 sheet at the front of `out`; a refusal, 9 for a buffer that is too short, leaves `out` as it
@@ -47,9 +48,6 @@ pub fn write_page(file: &[u8], out: &mut [u8]) -> WriteResult
 {
     let mut sheet = [0u8; 4112];
     let mut order = [0u16; 256];
-    let answer = lower_ordered(Level::Level2, file, &mut sheet, &mut order);
-    match answer {
-        WriteResult::Refuses(number, rec) => WriteResult::Refuses(number, rec),
-        WriteResult::Wrote(size) => put_pages(&sheet, &order, (size - 16) / 8, out),
-    }
+    let size = lower_ordered(Level::Level2, file, &mut sheet, &mut order)?;
+    put_pages(&sheet, &order, (size - 16) / 8, out)
 }

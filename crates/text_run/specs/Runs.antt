@@ -3,7 +3,7 @@ use Rattle.std.specs.Prelude.{ℕ, suc, ◌^◌, ◌<◌, ◌≡◌, cond, List,
 use Rattle.std.proofs.lemmas.List.Edits.{sets}
 use Rattle.file_format.specs.Accepted.{Program}
 use Rattle.file_verdict.specs.Verdict.{Verdict, refused, accepted, verdict}
-use Rattle.sheet_format.specs.declared.WriteResult.{WriteResult}
+use Rattle.sheet_format.specs.Bytes.{WriteResult}
 use Rattle.sheet_format.specs.declared.WriteResult.TheVariants.{Wrote, Refuses}
 use Rattle.sheet_format.specs.Levels.{volatile_in}
 use Rattle.machine_spec.specs.declared.Machine.{Machine}

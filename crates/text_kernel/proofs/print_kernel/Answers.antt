@@ -8,18 +8,19 @@ use Rattle.text_listing.specs.Listing.{sheet_text}
 use Rattle.text_kernel.proofs.Laws.Printed.{refusal_printed, sheet_printed}
 use Rattle.text_kernel.proofs.print_kernel.Goals as goal
 
-pub overflow_cast-rec : goal.overflow_cast-rec
-overflow_cast-rec c =
-    let small = answer_small (sheet_bytes Level2) c.args.file.now _ c.in-Refuses.ensures in omega (arith, small)
+pub list_refused-requires : goal.list_refused-requires
+list_refused-requires c =
+    let small = answer_small (sheet_bytes Level2) c.args.file.now _ c.in-Err.ensures in
+    (omega (arith, small), omega (arith, small))
 
-pub returns-in-Refuses : goal.returns-in-Refuses
-returns-in-Refuses c =
-    c.list_refusal.ensures
+pub returns-in-Err : goal.returns-in-Err
+returns-in-Err c =
+    c.list_refused.ensures
     ∙ ap (λ t. write_into t c.args.out.now)
-    (refusal_printed c.args.file.now _ (omega arith) c.in-Refuses.ensures)
+    (refusal_printed c.args.file.now _ (omega arith) c.in-Err.ensures)
 
-pub returns-in-Wrote : goal.returns-in-Wrote
-returns-in-Wrote c =
+pub returns-in-Ok : goal.returns-in-Ok
+returns-in-Ok c =
     c.list_sheet.ensures
-    ∙ ap (λ m. write_into (sheet_text c.lower2-answer.new.out m) c.args.out.now) c.word_at.ensures.0
-    ∙ ap (λ t. write_into t c.args.out.now) (sheet_printed c.args.file.now _ (omega arith) c.in-Wrote.ensures)
+    ∙ ap (λ m. write_into (sheet_text c.lower2.new.out m) c.args.out.now) c.word_at.ensures.0
+    ∙ ap (λ t. write_into t c.args.out.now) (sheet_printed c.args.file.now _ (omega arith) c.in-Ok.ensures)

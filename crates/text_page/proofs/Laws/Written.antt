@@ -12,9 +12,10 @@ use Rattle.file_verdict.proofs.Laws.Verdict.{accepted_as}
 use Rattle.file_wellformed.proofs.Lawful.{accepted_lawful}
 use Rattle.file_accept.specs.Order.{lane_order}
 use Rattle.sheet_format.specs.declared.Level.TheVariants.{Level2}
-use Rattle.sheet_format.specs.declared.WriteResult.{WriteResult}
-use Rattle.sheet_format.specs.declared.WriteResult.TheVariants.{Wrote, Refuses}
-use Rattle.sheet_format.specs.Bytes.{sheet_bytes, over, write_into, answer_by, lower_by}
+use Rattle.std.specs.Prelude.{Ok, Err}
+use Rattle.file_verdict.specs.declared.refusal.Refusal.{Refusal}
+use Rattle.file_verdict.specs.declared.refusal.Refusal.TheVariants.{ShortBuffer}
+use Rattle.sheet_format.specs.Bytes.{WriteResult, sheet_bytes, over, write_into, answer_by, lower_by}
 use Rattle.sheet_format.specs.Put.{Puts}
 use Rattle.sheet_format.proofs.Laws.Put.{puts_as, measured_whole}
 use Rattle.sheet_format.proofs.Laws.Written.{short_untouched, written_all}
@@ -35,34 +36,34 @@ module _ {k : Program} {sheet order : List ℕ} {n : ℕ} (g : Given k sheet ord
       ∙ ap (λ m. 33 * (m + page_count m)) (sym g.counted)
 
   module _ {size : ℕ} {buffer : List ℕ} (measured : size ≡ 33 * (n + page_count n)) where
-    pub short_given : length buffer < size → (Refuses 9 0, buffer) ≡ write_into (page_text k) buffer
+    pub short_given : length buffer < size → (Err ShortBuffer, buffer) ≡ write_into (page_text k) buffer
     short_given h = sym (short_untouched (page_text k) buffer (omega (arith, text_length)))
 
     module _ (fits : size ≤ length buffer) {after : List ℕ} {end : ℕ} where
-      whole_given : Puts buffer 0 (page_text k) after end → (Wrote size, after) ≡ write_into (page_text k) buffer
+      whole_given : Puts buffer 0 (page_text k) after end → (Ok size, after) ≡ write_into (page_text k) buffer
       whole_given p =
           let is : end ≡ size = omega (arith, p.behind, text_length) in
-          ap (λ m. (Wrote m, after)) (sym is) ∙ measured_whole p (omega arith) p
+          ap (λ m. (Ok m, after)) (sym is) ∙ measured_whole p (omega arith) p
 
       -- a heading alone, and lines
       pub alone_given : n ≡ 0 → Puts buffer 0 (heading_line 1) after end
-          → (Wrote size, after) ≡ write_into (page_text k) buffer
+          → (Ok size, after) ≡ write_into (page_text k) buffer
       unfolding page_text
       alone_given z p = whole_given (puts_as (sym (pages_none (page_lines k) (sym g.counted ∙ z))) p)
 
       pub laid_given : ¬ n ≡ 0 → Puts buffer 0 (paged 0 (page_lines k)) after end
-          → (Wrote size, after) ≡ write_into (page_text k) buffer
+          → (Ok size, after) ≡ write_into (page_text k) buffer
       unfolding page_text
       laid_given some p = whole_given (puts_as (sym (pages_paged (page_lines k) (omega (arith, g.counted)))) p)
 
 -- ## what lowering leaves in a buffer that takes every level 2 sheet
 
 module _ (s own : List ℕ) (big : 4112 ≤ length own) where
-  pub refused_page : {n r : ℕ} {after : List ℕ} → (Refuses n r, after) ≡ lower_by Level2 (verdict s) own
-      → (out : List ℕ) → (Refuses n r, out) ≡ write_page s out
+  pub refused_page : {r : Refusal} {after : List ℕ} → (Err r, after) ≡ lower_by Level2 (verdict s) own
+      → (out : List ℕ) → (Err r, out) ≡ write_page s out
   refused_page p out = sym (ap (λ v. answer_by page_text v out) (refuses_as Level2 s own (omega arith) p))
 
-  module _ {n : ℕ} {after : List ℕ} (p : (Wrote n, after) ≡ lower_by Level2 (verdict s) own) where
+  module _ {n : ℕ} {after : List ℕ} (p : (Ok n, after) ≡ lower_by Level2 (verdict s) own) where
     pub accepted_page : verdict s ≡ accepted (program_of s)
     accepted_page =
         let w = wrote_as Level2 s own (omega arith) p in
@@ -71,8 +72,8 @@ module _ (s own : List ℕ) (big : 4112 ≤ length own) where
     lawful_page : Lawful (program_of s)
     lawful_page = accepted_lawful s (program_of s) accepted_page
 
-    written_page : ◌≡◌ {A = WriteResult × List ℕ} (Wrote n, after)
-        (Wrote (length (sheet_bytes Level2 (program_of s))), over (sheet_bytes Level2 (program_of s)) own)
+    written_page : ◌≡◌ {A = WriteResult × List ℕ} (Ok n, after)
+        (Ok (length (sheet_bytes Level2 (program_of s))), over (sheet_bytes Level2 (program_of s)) own)
     written_page =
         let small = sheet_small Level2 (program_of s) lawful_page in
         p ∙ ap (λ v. lower_by Level2 v own) accepted_page
@@ -80,7 +81,7 @@ module _ (s own : List ℕ) (big : 4112 ≤ length own) where
 
     pub sized_page : n ≡ 16 + 8 * length (page_lines (program_of s))
     sized_page =
-        let whole : Wrote n ≡ Wrote (length (sheet_bytes Level2 (program_of s))) =
+        let whole : ◌≡◌ {A = WriteResult} (Ok n) (Ok (length (sheet_bytes Level2 (program_of s)))) =
         ap (λ (z : WriteResult × List ℕ). z.0) written_page in
         let size : n ≡ length (sheet_bytes Level2 (program_of s)) = cc in
         omega (arith, sheet_size Level2 (program_of s), lines_length (program_of s))

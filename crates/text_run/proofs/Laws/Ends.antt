@@ -14,7 +14,7 @@ use Rattle.file_format.proofs.Laws.Rules.{four_lanes_lem}
 use Rattle.file_format.proofs.Laws.Stored.{lane_count_lem}
 use Rattle.file_verdict.specs.Verdict.{Verdict, refused, accepted, verdict}
 use Rattle.file_verdict.proofs.Laws.Verdict.{sound, accepted_as}
-use Rattle.sheet_format.specs.declared.WriteResult.{WriteResult}
+use Rattle.sheet_format.specs.Bytes.{WriteResult}
 use Rattle.sheet_format.specs.declared.WriteResult.TheVariants.{Wrote, Refuses}
 use Rattle.sheet_format.specs.Bytes.{over}
 use Rattle.sheet_format.specs.Put.{Puts}
