@@ -1,5 +1,5 @@
 -- `file_chains::link::left_over` meets its contract.
-use Prim.Native.Nat.{◌≤◌, ◌-◌}
+use Prim.Native.Nat.{◌+◌, ◌-◌}
 use lib.ListN.{get_or}
 use mathlib.Core.Bool.{not, false}
 use mathlib.Core.Path.{◌≡◌}
@@ -8,9 +8,6 @@ use Rattle.file_chains.specs.Walks.{met}
 use Rattle.file_chains.proofs.link.left_over.Given as goal
 
 abbrev pub invariant-loop-i : goal.invariant-loop-i
-invariant-loop-i l = (l.e ≤ 257)
-    × (lowest (λ j. not (get_or (met l.place) j false)) l.i (l.e - l.i)
-    ≡ lowest (λ j. not (get_or (met l.place) j false)) 1 l.n)
-
-abbrev pub decreases-loop-i : goal.decreases-loop-i
-decreases-loop-i l = l.e - l.i
+invariant-loop-i l =
+    lowest (λ j. not (get_or (met l.place) j false)) l.i (l.n + 1 - l.i)
+    ≡ lowest (λ j. not (get_or (met l.place) j false)) 1 l.n
