@@ -34,8 +34,7 @@ pub fn field_refusal(file: &[u8]) -> Refusal
     if bad_length(file) {
         return Refusal::BadLength;
     }
-    let record = bad_record(file);
-    if record != 0 {
+    if let Some(record) = bad_record(file) {
         return Refusal::BadRecord(record);
     }
     Refusal::Accepted
@@ -57,18 +56,14 @@ pub fn linked_refusal(file: &[u8], rows: &mut [u8], order: &mut [u16], place: &m
         → bad_target file.now ≡ 0
         → take (record_count file.now) order.new ≡ lane_order (program_of file.now) }
 {
-    let linked = link(file, order, place);
-    let linkage = linked.bad;
-    if linkage != 0 {
-        return Refusal::BadLinkage(linkage);
-    }
-    let ends = linked.ends;
-    let long = too_long(file, order, &ends);
-    if long != 0 {
+    let ends = match link(file, order, place) {
+        Ok(ends) => ends,
+        Err(linkage) => return Refusal::BadLinkage(linkage),
+    };
+    if let Some(long) = too_long(file, order, &ends) {
         return Refusal::ChainTooLong(long);
     }
-    let target = bad_target(file, place, &ends);
-    if target != 0 {
+    if let Some(target) = bad_target(file, place, &ends) {
         return Refusal::BadTarget(target);
     }
     write_chains(rows, file, order, place, &ends);
