@@ -1,21 +1,20 @@
 -- What a header and a record that keep their rules have.
 use Prim.Native.Nat.{ℕ, zero, suc, ◌+◌, ◌^◌, ◌≤◌, ◌<◌}
-use mathlib.Core.Path.{◌≡◌, refl, ap, ap₂, ◌∙◌}
-use mathlib.Core.List.{List, [], ◌∷◌}
-use mathlib.Core.Bool.{Bool, true, not, cond}
-use lib.Dec.{ltb, leb, eqb}
-use lib.ListN.{length, get_or}
+use mathlib.Core.Path.{◌≡◌, refl, ap₂, ◌∙◌}
+use mathlib.Core.List.{List}
+use mathlib.Core.Bool.{true, not, cond}
+use lib.Dec.{ltb}
+use lib.ListN.{get_or}
 use native.Mathlib.Omega.{arith}
 use borrow.Author.Tests.{ltb-true, leb-true, le-ltb, not-false}
 use Rattle.laws.proofs.Bools.{cond_by}
 use Rattle.laws.proofs.Lists.{get_d_within}
 use Rattle.laws.proofs.Numbers.{below_four}
 use Rattle.file_format.specs.Fields.{lane_count, locations, locks, mask, record_count, head}
-use Rattle.file_format.specs.Fields.{operation, register_a, operand_b, reserved, constant, target, next}
+use Rattle.file_format.specs.Fields.{operation, target, next}
 use Rattle.file_format.specs.Rules.{head_rule, header_tests, header_rule, record_tests, record_rule, bad_record}
 use Rattle.file_format.specs.Rules.{row_a, row_b, row_constant, row_target, limit_a, limit_b, limit_constant}
 use Rattle.file_format.specs.Rules.{limit_target, Limits}
-use Rattle.file_format.specs.Search.{all}
 use Rattle.file_format.proofs.Laws.Search.{all_at, nothing_found}
 
 module _ (s : List ℕ) (ok : header_rule s ≡ true) where
