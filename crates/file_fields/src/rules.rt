@@ -12,6 +12,7 @@ pub fn bad_record(s: &[u8]) -> Option<usize>
     ensures { result ≡ named (bad_record s.now) }
 {
     let rows = rows_of(s);
+    // a `for`: with `find` the proof did not close, since it learns too little of the calls that returned `false`
     for i in 1..rows.count + 1 {
         if !record_rule(s, i, &rows) {
             return Some(i);
