@@ -39,12 +39,7 @@ fn left_over(n: usize, place: &[u16]) -> Option<usize>
     requires { (n ≤ 256) × (n < length place.now) }
     ensures { result ≡ named (lowest (λ i. not (get_or (met place.now) i false)) 1 n) }
 {
-    for i in 1..n + 1 {
-        if place[i] == 0 {
-            return Some(i);
-        }
-    }
-    None
+    (1..n + 1).find(|&i| place[i] == 0)
 }
 
 // Walks the lanes: the order of the records, each record's place in it, and where each lane ends in it; or the record

@@ -30,7 +30,11 @@ pub fn too_long(s: &[u8], order: &[u16], ends: &[usize; 4]) -> Option<usize>
 fn reaches(ends: &[usize; 4], j: usize, z: usize) -> bool
     ensures { result ≡ reached ends.now j z }
 {
-    j < z && ends.iter().find(|&&end| j <= end).is_some_and(|&end| z <= end)
+    j < z
+        && ends
+            .iter()
+            .find(|&&end| j <= end)
+            .is_some_and(|&end| z <= end)
 }
 
 // The target of record i is neither zero nor later in its lane.
@@ -50,6 +54,7 @@ pub fn bad_target(s: &[u8], place: &[u16], ends: &[usize; 4]) -> Option<usize>
     ensures { result ≡ named (bad_target s.now) }
 {
     let n = word_at(s, 6);
+    // a `for`: with `find` the proof did not close, since it learns too little of the calls that returned `false`
     for i in 1..n + 1 {
         if strays(s, place, ends, i) {
             return Some(i);
