@@ -38,7 +38,6 @@ pub(crate) fn rows_of(s: &[u8]) -> Rows
 }
 
 // The rule of record i, all bytes of which the file has.
-
 pub(crate) fn record_rule(s: &[u8], i: usize, rows: &Rows) -> bool
     requires { (16 + 12 * i ≤ length s.now)
         × Limits s.now rows.now.count rows.now.a rows.now.b rows.now.constant rows.now.target }
