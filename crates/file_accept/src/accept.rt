@@ -32,8 +32,7 @@ pub fn field_refusal(file: &[u8]) -> Result<(), Refusal>
     if bad_length(file) {
         return Err(Refusal::BadLength);
     }
-    let record = bad_record(file);
-    if record != 0 {
+    if let Some(record) = bad_record(file) {
         return Err(Refusal::BadRecord(record));
     }
     Ok(())
@@ -60,18 +59,14 @@ pub fn linked_refusal(
         → bad_target file.now ≡ 0
         → take (record_count file.now) order.new ≡ lane_order (program_of file.now) }
 {
-    let linked = link(file, order, place);
-    let linkage = linked.bad;
-    if linkage != 0 {
-        return Err(Refusal::BadLinkage(linkage));
-    }
-    let ends = linked.ends;
-    let long = too_long(file, order, &ends);
-    if long != 0 {
+    let ends = match link(file, order, place) {
+        Ok(ends) => ends,
+        Err(linkage) => return Err(Refusal::BadLinkage(linkage)),
+    };
+    if let Some(long) = too_long(file, order, &ends) {
         return Err(Refusal::ChainTooLong(long));
     }
-    let target = bad_target(file, place, &ends);
-    if target != 0 {
+    if let Some(target) = bad_target(file, place, &ends) {
         return Err(Refusal::BadTarget(target));
     }
     write_chains(rows, file, order, place, &ends);

@@ -3,48 +3,38 @@ ghost use Rattle.std.specs.Prelude.{◌≡◌, List, ℕ, ◌≤◌};
 ghost use Rattle.file_format.specs.Fields.{record_count};
 ghost use Rattle.file_format.specs.Rules.{bad_record};
 ghost use Rattle.file_format.specs.Structured.{Fielded};
+ghost use Rattle.file_format.specs.Named.{named};
 ghost use Rattle.file_format.specs.Linkage.{chain_too_long};
 ghost use Rattle.file_format.specs.Targets.{unreachable_target, bad_target};
 ghost use Rattle.file_chains.specs.Ordered.{Ordered};
 ghost use Rattle.file_chains.specs.Reach.{reached};
 
-use file_format::fields::{wide_word, word_at};
+use file_format::fields::word_at;
 
-// The 65th record of the first lane of the file that has one, or 0.
-pub fn too_long(s: &[u8], order: &[u16], ends: &[usize; 4]) -> usize
+// The 65th record of the first lane of the file that has one.
+pub fn too_long(s: &[u8], order: &[u16], ends: &[usize; 4]) -> Option<usize>
     requires { (place : List ℕ) × Ordered s.now order.now place ends.now }
-    ensures { result ≡ chain_too_long s.now }
+    ensures { result ≡ named (chain_too_long s.now) }
 {
     let mut from = 0;
-    let mut t = 0;
-    while t < 4 {
-        let end = ends[t];
+    for &end in ends {
         if from + 64 < end {
-            return wide_word(order[from + 64]);
+            return Some(usize::from(order[from + 64]));
         }
         from = end;
-        t += 1;
     }
-    0
+    None
 }
 
 // Whether place z comes after place j in the lane of place j, the first that does not end before j.
 fn reaches(ends: &[usize; 4], j: usize, z: usize) -> bool
     ensures { result ≡ reached ends.now j z }
 {
-    if z <= j {
-        return false;
-    }
-    if j <= ends[0] {
-        return z <= ends[0];
-    }
-    if j <= ends[1] {
-        return z <= ends[1];
-    }
-    if j <= ends[2] {
-        return z <= ends[2];
-    }
-    z <= ends[3]
+    j < z
+        && ends
+            .iter()
+            .find(|&&end| j <= end)
+            .is_some_and(|&end| z <= end)
 }
 
 // The target of record i is neither zero nor later in its lane.
@@ -54,25 +44,21 @@ fn strays(s: &[u8], place: &[u16], ends: &[usize; 4], i: usize) -> bool
     ensures { result ≡ unreachable_target s.now i }
 {
     let x = word_at(s, 4 + 12 * i + 8);
-    if x == 0 {
-        return false;
-    }
-    !reaches(ends, wide_word(place[i]), wide_word(place[x]))
+    x != 0 && !reaches(ends, usize::from(place[i]), usize::from(place[x]))
 }
 
-// The lowest SKIP whose target is neither zero nor later in its lane, or 0.
-pub fn bad_target(s: &[u8], place: &[u16], ends: &[usize; 4]) -> usize
+// The lowest SKIP whose target is neither zero nor later in its lane.
+pub fn bad_target(s: &[u8], place: &[u16], ends: &[usize; 4]) -> Option<usize>
     requires fielded { Fielded s.now }
     requires s_value { (chain_too_long s.now ≡ 0) × ((order : List ℕ) × Ordered s.now order place.now ends.now) }
-    ensures { result ≡ bad_target s.now }
+    ensures { result ≡ named (bad_target s.now) }
 {
-    let e = word_at(s, 6) + 1;
-    let mut i = 1;
-    while i < e {
+    let n = word_at(s, 6);
+    // a `for`: with `find` the proof did not close, since it learns too little of the calls that returned `false`
+    for i in 1..n + 1 {
         if strays(s, place, ends, i) {
-            return i;
+            return Some(i);
         }
-        i += 1;
     }
-    0
+    None
 }

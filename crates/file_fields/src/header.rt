@@ -3,7 +3,7 @@ ghost use Rattle.std.specs.Prelude.{◌≡◌, not, ◌+◌, ◌*◌, ◌<◌, �
 ghost use Rattle.file_format.specs.Fields.{record_count};
 ghost use Rattle.file_format.specs.Rules.{head_rule, header_rule};
 
-use file_format::fields::{both, byte_at, head_of, word_at};
+use file_format::fields::{byte_at, head_of, word_at};
 
 // The length of the file is not that of its records.
 pub fn bad_length(s: &[u8]) -> bool
@@ -17,47 +17,36 @@ fn mask_rule(mask: usize, ls: usize) -> bool
     requires { mask < 65536 }
     ensures { result ≡ ltb mask (2 ^ ls) }
 {
-    if ls < 16 { mask < 1 << ls } else { true }
+    ls >= 16 || mask < 1 << ls
 }
 
 // The head of lane t is at most the record count, and zero from lane T up.
+#[tactic(auto, unfolding(file_format::specs::Rules::head_rule))]
 fn head_rule(s: &[u8], t: usize) -> bool
     requires { t < 4 }
     ensures { result ≡ head_rule s.now t }
 {
-    let h = head_of(s, t);
-    if t < byte_at(s, 0) {
-        h <= word_at(s, 6)
-    } else {
-        h <= 0
-    }
+    let most = if t < byte_at(s, 0) { word_at(s, 6) } else { 0 };
+    head_of(s, t) <= most
 }
 
 // The rule of the header.
+#[tactic(auto, unfolding(file_format::specs::Rules::header_rule))]
 pub fn header_rule(s: &[u8]) -> bool
     ensures { result ≡ header_rule s.now }
 {
     let ts = byte_at(s, 0);
     let ls = byte_at(s, 1);
-    let heads = both(
-        head_rule(s, 0),
-        both(
-            head_rule(s, 1),
-            both(head_rule(s, 2), both(head_rule(s, 3), true)),
-        ),
-    );
-    let counts = both(
-        byte_at(s, 3) == 0,
-        both(
-            mask_rule(word_at(s, 4), ls),
-            both(word_at(s, 6) <= 256, heads),
-        ),
-    );
-    both(
-        1 <= ts,
-        both(
-            ts <= 4,
-            both(1 <= ls, both(ls <= 16, both(byte_at(s, 2) <= 4, counts))),
-        ),
-    )
+    1 <= ts
+        && ts <= 4
+        && 1 <= ls
+        && ls <= 16
+        && byte_at(s, 2) <= 4
+        && byte_at(s, 3) == 0
+        && mask_rule(word_at(s, 4), ls)
+        && word_at(s, 6) <= 256
+        && head_rule(s, 0)
+        && head_rule(s, 1)
+        && head_rule(s, 2)
+        && head_rule(s, 3)
 }

@@ -1,5 +1,5 @@
 // The fields of a kernel file, read from its bytes. Past the end of the file every byte reads as 0.
-ghost use Rattle.std.specs.Prelude.{◌≡◌, false, cond, ◌+◌, ◌<◌, ◌≤◌, ◌^◌, length};
+ghost use Rattle.std.specs.Prelude.{◌≡◌, ◌+◌, ◌<◌, ◌≤◌, ◌^◌, length};
 ghost use Rattle.file_format.specs.Fields.{byte, word, quad, head, next};
 
 pub fn wide(x: u8) -> usize
@@ -18,7 +18,7 @@ pub fn wide_word(x: u16) -> usize
 pub fn byte_at(s: &[u8], i: usize) -> usize
     ensures { (result ≡ byte s.now i) × (result < 256) }
 {
-    if i < s.len() { wide(s[i]) } else { 0 }
+    usize::from(s.get(i).copied().unwrap_or(0))
 }
 
 // The 16-bit field at i, both bytes of which the file has.
@@ -26,7 +26,7 @@ pub fn whole_word(s: &[u8], i: usize) -> usize
     requires { i + 2 ≤ length s.now }
     ensures { (result ≡ word s.now i) × (result < 65536) }
 {
-    wide(s[i]) + 256 * wide(s[i + 1])
+    usize::from(s[i]) + 256 * usize::from(s[i + 1])
 }
 
 // The 32-bit field at i, all bytes of which the file has.
@@ -63,11 +63,4 @@ pub fn next_of(s: &[u8], i: usize) -> usize
     ensures { (result ≡ next s.now i) × (result < 65536) }
 {
     word_at(s, 4 + 12 * i + 10)
-}
-
-// Both tests hold.
-pub fn both(a: bool, b: bool) -> bool
-    ensures { result ≡ cond a b false }
-{
-    if a { b } else { false }
 }

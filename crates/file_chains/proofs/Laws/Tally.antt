@@ -113,6 +113,10 @@ padded_at [] n i = getD-replicate-all {A = ℕ} (λ x. x ≡ 0) n 0 0 refl refl 
 padded_at (x ∷ place) n zero = refl
 padded_at (x ∷ place) n (suc i) = padded_at place n i
 
+not_not : (b : Bool) → not (not b) ≡ b
+not_not true = refl
+not_not false = refl
+
 -- the flag of a record is up exactly where the record has a place
 module _ (place : List ℕ) (i : ℕ) (below : i < 257) where
   met_at : get_or (met place) i false ≡ given (get_or place i 0)
@@ -120,6 +124,9 @@ module _ (place : List ℕ) (i : ℕ) (below : i < 257) where
   met_at =
       get_or-map given (padded place) i 0
       ∙ ap given (get_or-take 257 (place ++ replicate 257 0) i 0 below ∙ padded_at place 257 i)
+
+  pub unmet : not (get_or (met place) i false) ≡ eqb (get_or place i 0) 0
+  unmet = ap not met_at ∙ not_not (eqb (get_or place i 0) 0)
 
   pub met_up : (get_or place i 0 ≡ 0 → ⊥) → get_or (met place) i false ≡ true
   met_up h = met_at ∙ ap not (ne_eqb (get_or place i 0) 0 h)

@@ -1,7 +1,9 @@
 -- `file_chains::link::link` meets its contract. At each lane the rest of the walk gives the whole answer.
-use mathlib.Core.Path.{refl, ◌∙◌, ap}
+use mathlib.Core.Path.{refl, sym, ◌∙◌, ap}
 use native.Mathlib.Omega.{arith}
+use Rattle.std.proofs.lemmas.Result.{err_from_is_err_and}
 use Rattle.file_format.specs.Search.{lowest}
+use Rattle.file_format.proofs.Laws.Named.{is_named, none_named}
 use Rattle.file_format.proofs.Laws.Rules.{few_records, head_range}
 use Rattle.file_format.proofs.Laws.Linkage.{linkage_found}
 use Rattle.file_chains.proofs.Laws.Walks.{lane_as}
@@ -16,45 +18,44 @@ loop-t-init c = (
   refl,
 )
 
-pub walk-lane-requires : goal.walk-lane-requires
-walk-lane-requires c = (
+pub walk-requires : goal.walk-requires
+walk-requires c = (
   omega (arith, c.head_of.ensures.0, head_range _ c.requires.fields.header _ c.loop-t-test.true),
   c.loop-t.invariant.0.few,
   c.requires.fields.records,
   c.loop-t.invariant.0.filling,
 )
 
-pub returns-then-lane-ne0 : goal.returns-then-lane-ne0
-returns-then-lane-ne0 c =
-    let found = linkage_found _ _ _ 4 c.loop-t-test.true
-    (lane_as c.head_of.ensures.0 c.walk-lane.ensures).flags c.if-lane-ne0.true c.loop-t.invariant.0.answer in
-    record { bad = found; order = λ e. absurd (c.if-lane-ne0.true (found ∙ e)) }
+pub returns-in_err-k : goal.returns-in_err-k
+returns-in_err-k c =
+    let p = err_from_is_err_and c.from_residual.result c.from_residual.ensures.1 in
+    let twice = c.in_err-k.ensures in
+    rw (p.1, p.2) (
+      twice.0,
+      linkage_found _ _ _ 4 c.loop-t-test.true (lane_as c.head_of.ensures.0 twice.1.1).flags twice.0
+          c.loop-t.invariant.0.answer,
+    )
 
 pub loop-t-preserved : goal.loop-t-preserved
 loop-t-preserved c = (
-  linking_on c.loop-t.invariant.0 c.loop-t-test.true (lane_as c.head_of.ensures.0 c.walk-lane.ensures)
-      c.if-lane-ne0.false,
-  c.order-1.given ∙ c.loop-t.invariant.1,
-  c.place-1.given ∙ c.loop-t.invariant.2,
+  linking_on c.loop-t.invariant.0 c.loop-t-test.true (lane_as c.head_of.ensures.0 c.in_ok-k.ensures) refl,
+  omega arith,
+  omega arith,
 )
 
 pub returns-then-k-n : goal.returns-then-k-n
 returns-then-k-n c =
-    record {
-      bad = linking_full c.loop-t.invariant.0 c.loop-t-test.false (c.if-k-n.true ∙ c.word_at-n.ensures.0);
-      order = λ e. linked c.loop-t.invariant.0 c.loop-t-test.false e;
-    }
+    let fine = sym (linking_full c.loop-t.invariant.0 (omega arith) (c.if-k-n.true ∙ c.word_at-n.ensures.0)) in
+    (fine, linked c.loop-t.invariant.0 (omega arith) fine)
 
-pub left_over-bad-requires : goal.left_over-bad-requires
-left_over-bad-requires c = (
-  omega (arith, c.word_at-n.ensures.0, c.loop-t.invariant.0.few),
-  omega (arith, c.word_at-n.ensures.0, c.loop-t.invariant.0.filling.place_room),
-)
+pub returns-in-Some : goal.returns-in-Some
+returns-in-Some c =
+    let it = is_named _ c.in-Some.ensures in
+    (it.1, it.0 ∙ ap (lowest _ 1) c.word_at-n.ensures.0 ∙ linking_end c.loop-t.invariant.0 (omega arith))
 
-pub returns : goal.returns
-returns c =
-    record {
-      bad = c.left_over-bad.ensures ∙ ap (lowest _ 1) c.word_at-n.ensures.0 ∙ linking_end c.loop-t.invariant.0
-          c.loop-t-test.false;
-      order = λ e. linked c.loop-t.invariant.0 c.loop-t-test.false e;
-    }
+pub returns-in-None : goal.returns-in-None
+returns-in-None c =
+    let fine =
+    sym (ap (lowest _ 1) c.word_at-n.ensures.0 ∙ linking_end c.loop-t.invariant.0 (omega arith))
+    ∙ none_named _ c.in-None.ensures in
+    (fine, linked c.loop-t.invariant.0 (omega arith) fine)

@@ -9,8 +9,10 @@ loop-r-init c =
     walking_start _ _ _ _ _ c.requires.0 c.requires.1 c.requires.2 c.requires.3
 
 pub returns-then-place-r-ne0 : goal.returns-then-place-r-ne0
-returns-then-place-r-ne0 c =
-    walking_twice c.loop-r.invariant c.loop-r-test.true c.if-place-r-ne0.true
+returns-then-place-r-ne0 c = (
+  c.loop-r-test.true,
+  (c.loop-r.n, walking_twice c.loop-r.invariant c.loop-r-test.true c.if-place-r-ne0.true),
+)
 
 pub offset_bounds-order-n : goal.offset_bounds-order-n
 offset_bounds-order-n c =
