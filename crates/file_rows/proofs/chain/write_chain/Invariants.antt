@@ -7,5 +7,7 @@ use Rattle.sheet_rows.specs.Lanes.{op_rows}
 use Rattle.file_rows.proofs.chain.write_chain.Given as goal
 
 abbrev pub invariant-loop-p : goal.invariant-loop-p
-invariant-loop-p l = Puts l.initial.out (16 + 8 * l.begin) (op_rows (take l.p (ops_of l.s (take l.n (drop l.begin l.order))))) l.out
+invariant-loop-p l =
+    Puts l.initial.out (16 + 8 * l.begin)
+    (op_rows (take l.p (ops_of l.s (take l.n (drop l.begin l.order))))) l.out
     (16 + 8 * l.begin + 8 * l.p)
