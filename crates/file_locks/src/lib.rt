@@ -77,9 +77,9 @@ fn after_row(w: u8, bit: u8) -> u8
 fn lead(led: &mut [u8], q: u8, w: u8)
     ensures { led.new ≡ set led.old q (bit_or (get_or led.old q 0) w) }
 {
-    let i = q as usize;
+    let i = usize::from(q);
     if i < led.len() {
-        led[i] = led[i] | w;
+        led[i] |= w;
     }
 }
 
@@ -150,7 +150,7 @@ fn find_positions(rows: &[u8], n: usize) -> Result<Option<usize>, usize>
 }
 
 // The record at position x, counted from 1, of the lane of n records that begins at `from` of the order; for the end,
-// beyond the last, the last; 0 for position 0.
+// beyond the last, the last; 0 for position 0, as the specification has it.
 fn record_at(order: &[u16], from: usize, n: usize, x: usize) -> usize
     requires { from + n ≤ length order.now }
     ensures { result ≡ record_at (take n (drop from order.now)) x }
