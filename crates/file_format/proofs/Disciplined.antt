@@ -132,7 +132,7 @@ below_at h b len e l has = go l has (ltb-true l b)
 -- where no LOCK descends, each finds the locks of its held set below its own
 module _ (rs : List ℕ) (ops : List Op) (len : length rs ≡ length ops)
     (nonzero : (p : ℕ) → p < length rs → 1 ≤ get_or rs p 0) (fine : lane_descent rs ops ≡ 0) where
-  undescended : descent_position ops ≡ 0
+  pub undescended : descent_position ops ≡ 0
   unfolding descent_position lowest
   undescended = named_none descent_position refl rs ops len nonzero fine
 

@@ -60,14 +60,6 @@ suspect_at w code bit = differ w || meets (barred w code) (cond (eqb code 5) (16
 abbrev pub descends_at : ℕ → ℕ → ℕ → Bool
 descends_at w code bit = eqb code 5 && leb bit (w % 16)
 
--- the position `at` of such an operation; 0 for another
-abbrev pub descent_here : ℕ → ℕ → ℕ → ℕ → ℕ
-descent_here w code bit at = cond (descends_at w code bit) at 0
-
--- the first of two that is not 0
-abbrev pub first : ℕ → ℕ → ℕ
-first a b = cond (eqb a 0) b a
-
 -- the ways after an operation that takes or frees the lock of `bit`: its two bits change places
 abbrev pub after_row : ℕ → ℕ → ℕ
 after_row w bit = bit_xor w (17 * bit)

@@ -16,20 +16,10 @@ ghost use Rattle.file_chains.specs.Ordered.{Ordered};
 ghost use Rattle.file_verdict.specs.Verdict.{lock_refusal};
 ghost use Rattle.sheet_format.specs.declared.Level.TheVariants.{Level0};
 ghost use Rattle.sheet_format.specs.Bytes.{over, sheet_bytes};
-ghost use Rattle.file_locks.specs.Sets.{lock_bit, barred, wrong_at, suspect_at, descent_here, after_row, first};
-ghost use Rattle.file_locks.specs.Lanes.{LaneIn, Clean, PositionsOf, RecordsOf};
+ghost use Rattle.file_locks.specs.Sets.{lock_bit, barred, wrong_at, suspect_at, after_row};
+ghost use Rattle.file_locks.specs.Lanes.{descent_here, LaneIn, Clean, PositionsOf, RecordsOf};
 
-use file_format::fields::wide_word;
 use file_verdict::refusal::Refusal;
-use sheet_rows::number::least;
-
-// What is found in a lane, a position counted from 1 or a record, or 0: where the held-set rule is first broken, and
-// where a LOCK first takes a lock that is not above all that are held.
-#[derive(Clone, Copy)]
-struct Found {
-    fault: usize,
-    descent: usize,
-}
 
 // The set of the lock that the operation of this code and operand takes or frees; no lock for other codes. The test is
 // made into a number: a jump on the kind of an operation could not be predicted.
@@ -63,19 +53,16 @@ fn suspect_at(w: u8, code: u8, bit: u8) -> bool
     ((w & (w >> 4)) | (barred(w, code) & named)) != 0
 }
 
-// The position `at` of an operation that takes a lock, where the ways w to it hold one that is not below; else 0. As
-// numbers, a set has a lock of number b or more exactly when it is at least 2^b.
-fn descent_here(w: u8, code: u8, bit: u8, at: usize) -> usize
+// The position `at` of an operation that takes a lock, where the ways w to it hold one that is not below. As numbers,
+// a set has a lock of number b or more exactly when it is at least 2^b.
+fn descent_here(w: u8, code: u8, bit: u8, at: usize) -> Option<usize>
     ensures { result ≡ descent_here w code bit at }
 {
-    if (code == 5) & (w % 16 >= bit) { at } else { 0 }
-}
-
-// The first of two that is not 0.
-fn first(a: usize, b: usize) -> usize
-    ensures { result ≡ first a b }
-{
-    if a == 0 { b } else { a }
+    if (code == 5) & (w % 16 >= bit) {
+        Some(at)
+    } else {
+        None
+    }
 }
 
 // The ways w after an operation that takes or frees the lock of `bit`: its two bits change places.
@@ -90,9 +77,9 @@ fn after_row(w: u8, bit: u8) -> u8
 fn lead(led: &mut [u8], q: u8, w: u8)
     ensures { led.new ≡ set led.old q (bit_or (get_or led.old q 0) w) }
 {
-    let i = q as usize;
+    let i = usize::from(q);
     if i < led.len() {
-        led[i] = led[i] | w;
+        led[i] |= w;
     }
 }
 
@@ -104,8 +91,7 @@ fn suspicious(rows: &[u8], n: usize) -> bool
 {
     let mut led = [0u8; 65];
     let mut w = 0xF0u8;
-    let mut p = 0;
-    while p < n {
+    for p in 0..n {
         let code = rows[8 * p];
         let bit = lock_bit(code, rows[8 * p + 2]);
         let here = w | led[p];
@@ -116,7 +102,6 @@ fn suspicious(rows: &[u8], n: usize) -> bool
         if code == 7 {
             lead(&mut led, rows[8 * p + 4], w);
         }
-        p += 1;
     }
     (w | led[n]) % 16 != 0
 }
@@ -133,80 +118,65 @@ fn suspicious_lane(rows: &[u8], from: usize, end: usize) -> bool
     suspicious(&rows[16 + 8 * from..], end - from)
 }
 
-// The positions in a lane of n rows. The way to the first row holds no lock; w are the ways that come from the row
-// before, led[q] those by which SKIPs lead to position q.
-fn find_positions(rows: &[u8], n: usize) -> Found
+// What is found in a lane of n rows, by positions counted from 1: the error is where the held-set rule is first broken;
+// else a LOCK that is the first to take a lock that is not above all that are held. The way to the first row holds no
+// lock; w are the ways that come from the row before, led[q] those by which SKIPs lead to position q.
+fn find_positions(rows: &[u8], n: usize) -> Result<Option<usize>, usize>
     requires { (n ≤ 64) × (8 * n ≤ length rows.now) }
     ensures { (ops : List Op) → LaneIn rows.now n ops → PositionsOf ops result }
 {
     let mut led = [0u8; 65];
     let mut w = 0xF0u8;
-    let mut descent = 0;
-    let mut p = 0;
-    while p < n {
+    let mut descent = None;
+    for p in 0..n {
         let code = rows[8 * p];
         let bit = lock_bit(code, rows[8 * p + 2]);
         let here = w | led[p];
         let place = p + 1;
         if wrong_at(here, code, bit) {
-            return Found {
-                fault: place,
-                descent: 0,
-            };
+            return Err(place);
         }
-        descent = first(descent, descent_here(here, code, bit, place));
+        let found = descent_here(here, code, bit, place);
+        descent = descent.or(found);
         w = after_row(here, bit);
         if code == 7 {
             lead(&mut led, rows[8 * p + 4], w);
         }
-        p = place;
     }
     if (w | led[n]) % 16 != 0 {
-        let end = n + 1;
-        return Found {
-            fault: end,
-            descent: 0,
-        };
+        return Err(n + 1);
     }
-    Found {
-        fault: 0,
-        descent: descent,
-    }
+    Ok(descent)
 }
 
 // The record at position x, counted from 1, of the lane of n records that begins at `from` of the order; for the end,
-// beyond the last, the last; 0 for position 0.
+// beyond the last, the last; 0 for position 0, as the specification has it.
 fn record_at(order: &[u16], from: usize, n: usize, x: usize) -> usize
     requires { from + n ≤ length order.now }
     ensures { result ≡ record_at (take n (drop from order.now)) x }
 {
-    let i = least(x, n);
+    let i = x.min(n);
     if i == 0 {
         return 0;
     }
-    wide_word(order[from + i - 1])
+    usize::from(order[from + i - 1])
 }
 
-// The records in the lane from `from` to `end` of the order.
-fn find_records(rows: &[u8], order: &[u16], from: usize, end: usize) -> Found
+// The same by records, in the lane from `from` to `end` of the order.
+fn find_records(rows: &[u8], order: &[u16], from: usize, end: usize) -> Result<Option<usize>, usize>
     requires { (from ≤ end) × (end ≤ 256) × (end - from ≤ 64) × (16 + 8 * end ≤ length rows.now)
         × (end ≤ length order.now) }
     ensures { (ops : List Op) → LaneIn (drop (16 + 8 * from) rows.now) (end - from) ops
         → RecordsOf (take (end - from) (drop from order.now)) ops result }
 {
     if end <= from {
-        return Found {
-            fault: 0,
-            descent: 0,
-        };
+        return Ok(None);
     }
     let n = end - from;
-    let found = find_positions(&rows[16 + 8 * from..], n);
-    let fault = record_at(order, from, n, found.fault);
-    let descent = record_at(order, from, n, found.descent);
-    Found {
-        fault: fault,
-        descent: descent,
+    match find_positions(&rows[16 + 8 * from..], n) {
+        Err(fault) => Err(record_at(order, from, n, fault)),
+        Ok(Some(descent)) => Ok(Some(record_at(order, from, n, descent))),
+        Ok(None) => Ok(None),
     }
 }
 
@@ -220,23 +190,18 @@ fn find_refusal(s: &[u8], rows: &[u8], order: &[u16], ends: &[usize; 4]) -> Resu
     ensures { result ≡ lock_refusal (program_of s.now) }
 {
     let mut from = 0;
-    let mut descent = 0;
-    let mut t = 0;
-    while t < 4 {
-        let end = ends[t];
-        let found = find_records(rows, order, from, end);
-        let fault = found.fault;
-        if fault != 0 {
-            return Err(Refusal::LockFault(fault));
+    let mut descent = None;
+    for end in ends {
+        match find_records(rows, order, from, *end) {
+            Err(fault) => return Err(Refusal::LockFault(fault)),
+            Ok(found) => descent = descent.or(found),
         }
-        descent = first(descent, found.descent);
-        from = end;
-        t += 1;
+        from = *end;
     }
-    if descent != 0 {
-        return Err(Refusal::LockOrder(descent));
+    match descent {
+        Some(record) => Err(Refusal::LockOrder(record)),
+        None => Ok(()),
     }
-    Ok(())
 }
 
 // The same, in one pass where nothing is wrong, and in none where the header counts no locks.
@@ -251,14 +216,11 @@ pub fn lock_refusal(s: &[u8], rows: &[u8], order: &[u16], ends: &[usize; 4]) -> 
         return Ok(());
     }
     let mut from = 0;
-    let mut t = 0;
-    while t < 4 {
-        let end = ends[t];
-        if suspicious_lane(rows, from, end) {
+    for end in ends {
+        if suspicious_lane(rows, from, *end) {
             return find_refusal(s, rows, order, ends);
         }
-        from = end;
-        t += 1;
+        from = *end;
     }
     Ok(())
 }

@@ -8,7 +8,7 @@ ghost use Rattle.sheet_format.specs.Put.{Puts};
 ghost use Rattle.sheet_rows.specs.Lanes.{op_rows};
 ghost use Rattle.file_rows.specs.Records.{record_row, RecordIn, LaneIn};
 
-use file_format::fields::{whole_word, wide_word};
+use file_format::fields::whole_word;
 use sheet_rows::put::copy_eight;
 
 // The position in a lane of n records, the first at `begin` in the order, to which target x leads.
@@ -19,7 +19,7 @@ fn landing(place: &[u16], begin: usize, n: usize, x: usize) -> usize
     if x == 0 {
         n
     } else {
-        wide_word(place[x]) - 1 - begin
+        usize::from(place[x]) - 1 - begin
     }
 }
 
@@ -54,10 +54,8 @@ pub(crate) fn write_chain(
         (16 + 8 * end) }
 {
     let n = end - begin;
-    let mut p = 0;
-    while p < n {
+    for p in 0..n {
         let j = begin + p;
-        put_record(out, 16 + 8 * j, s, wide_word(order[j]), place, begin, n);
-        p += 1;
+        put_record(out, 16 + 8 * j, s, usize::from(order[j]), place, begin, n);
     }
 }

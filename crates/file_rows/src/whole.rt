@@ -22,12 +22,9 @@ fn write_lanes(out: &mut [u8], s: &[u8], order: &[u16], place: &[u16], ends: &[u
     ensures { out.new ≡ sets out.old 16 (in_turn (chain_at s.now) 4) }
 {
     let mut begin = 0;
-    let mut t = 0;
-    while t < 4 {
-        let end = ends[t];
-        write_chain(out, s, order, place, begin, end);
-        begin = end;
-        t += 1;
+    for end in ends {
+        write_chain(out, s, order, place, begin, *end);
+        begin = *end;
     }
 }
 
@@ -40,10 +37,7 @@ pub fn write_chains(out: &mut [u8], s: &[u8], order: &[u16], place: &[u16], ends
 {
     let mask = word_at(s, 4) as u16;
     put_first(out, byte_at(s, 0), byte_at(s, 1), byte_at(s, 2), 0, mask);
-    let a = ends[0];
-    let b = ends[1];
-    let c = ends[2];
-    let d = ends[3];
+    let [a, b, c, d] = *ends;
     put_counts(out, a, b - a, c - b, d - c);
     write_lanes(out, s, order, place, ends);
 }

@@ -1,5 +1,5 @@
-// Numbers as bytes, the smaller of two numbers, and whether eight bytes fit.
-ghost use Rattle.std.specs.Prelude.{◌≡◌, min, ◌+◌, ◌%◌, leb};
+// Numbers as bytes, and whether eight bytes fit.
+ghost use Rattle.std.specs.Prelude.{◌≡◌, ◌+◌, ◌%◌, leb};
 
 // The lowest byte of a number.
 pub fn low(n: usize) -> u8
@@ -15,16 +15,9 @@ pub fn wide(x: u32) -> usize
     x as usize
 }
 
-// The smaller of two numbers.
-pub fn least(a: usize, b: usize) -> usize
-    ensures { result ≡ min a b }
-{
-    if a < b { a } else { b }
-}
-
 // Eight bytes from `at` on fit.
 pub fn fits(len: usize, at: usize) -> bool
     ensures { result ≡ leb (at + 8) len }
 {
-    if len < 8 { false } else { at <= len - 8 }
+    8 <= len && at <= len - 8
 }

@@ -64,7 +64,7 @@ pub fn put_first(out: &mut [u8], t: u8, ls: u8, ks: u8, level: u8, mask: u16)
 {
     if 8 <= out.len() {
         let next = put_four(out, 0, t, ls, ks, level);
-        put_words(out, next, mask as usize, 0);
+        put_words(out, next, usize::from(mask), 0);
     }
 }
 

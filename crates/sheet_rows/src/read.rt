@@ -6,7 +6,7 @@ ghost use Rattle.sheet_rows.specs.Rows.{row_in};
 use crate::number::fits;
 
 // The fields of an instruction: its code, a, b, and the constant or the target's position.
-#[derive(Clone, Copy)]
+#[derive(Clone, Copy, PartialEq, Eq)]
 pub struct Row {
     pub code: u8,
     pub a: u8,
@@ -17,13 +17,10 @@ pub struct Row {
 pub fn byte_at(s: &[u8], i: usize) -> u8
     ensures { result ≡ byte s.now i }
 {
-    if i < s.len() { s[i] } else { 0 }
-}
-
-fn wide(x: u8) -> u32
-    ensures { (result ≡ x) × (result < 256) }
-{
-    x as u32
+    match s.get(i) {
+        Some(x) => *x,
+        None => 0,
+    }
 }
 
 // The 16-bit field at i.
@@ -31,7 +28,7 @@ pub fn word_at(s: &[u8], i: usize) -> u32
     ensures { (result ≡ word s.now i) × (result < 65536) }
 {
     if i < s.len() {
-        wide(byte_at(s, i)) + 256 * wide(byte_at(s, i + 1))
+        u32::from(byte_at(s, i)) + 256 * u32::from(byte_at(s, i + 1))
     } else {
         0
     }
@@ -53,8 +50,8 @@ pub fn whole_row(s: &[u8], at: usize) -> Row
     requires { at + 8 ≤ length s.now }
     ensures { result ≡ row_in (drop at s.now) }
 {
-    let lower = wide(s[at + 4]) + 256 * wide(s[at + 5]);
-    let upper = wide(s[at + 6]) + 256 * wide(s[at + 7]);
+    let lower = u32::from(s[at + 4]) + 256 * u32::from(s[at + 5]);
+    let upper = u32::from(s[at + 6]) + 256 * u32::from(s[at + 7]);
     Row {
         code: s[at],
         a: s[at + 1],
@@ -70,19 +67,18 @@ pub fn row_at(s: &[u8], at: usize) -> Row
     if fits(s.len(), at) {
         return whole_row(s, at);
     }
-    if at < s.len() {
-        Row {
-            code: s[at],
+    match s.get(at) {
+        Some(code) => Row {
+            code: *code,
             a: byte_at(s, at + 1),
             b: byte_at(s, at + 2),
             word: quad_at(s, at + 4),
-        }
-    } else {
-        Row {
+        },
+        None => Row {
             code: 0,
             a: 0,
             b: 0,
             word: 0,
-        }
+        },
     }
 }

@@ -21,7 +21,7 @@ use Rattle.sheet_rows.specs.Rows.{row_in}
 use Rattle.sheet_rows.specs.Lanes.{fields_of}
 use Rattle.sheet_rows.proofs.Laws.Lanes.{held_fields}
 use Rattle.file_locks.specs.Sets.{jump_or, no_jump, locks_in, meets, ways, lock_bit, barred, descends_at}
-use Rattle.file_locks.specs.Lanes.{Named, LaneIn, Clean, RecordsOf}
+use Rattle.file_locks.specs.Lanes.{Named, LaneIn}
 use Rattle.file_locks.proofs.Laws.Locks.{other_wrong, other_next}
 use Rattle.file_locks.proofs.Laws.Locks.{lock_wrong, lock_descends, lock_next, unlock_wrong, unlock_next}
 
@@ -110,13 +110,12 @@ record_is order from (suc i) h =
     let place : from + suc i - 1 ≡ from + i = omega arith in
     ap (λ k. get_or order k 0) place ∙ sym (get_or-drop from order i 0)
 
--- in a lane that keeps both rules no record is named
-pub clean_records : (rs : List ℕ) (ops : List Op) → Clean ops → RecordsOf rs ops (record { fault = 0; descent = 0 })
+-- position 0 names no record
+pub record_none : (rs : List ℕ) (x : ℕ) → x ≡ 0 → record_at rs x ≡ 0
 unfolding record_at
-clean_records rs ops clean =
-    let place : 0 ≡ min 0 (length rs) = omega arith in
-    let first : 0 ≡ get_or (0 ∷ rs) (min 0 (length rs)) 0 = ap (λ i. get_or (0 ∷ rs) i 0) place in
-    (rw clean.0 first, λ z. rw clean.1 first)
+record_none rs x e =
+    let place : min x (length rs) ≡ 0 = omega arith in
+    ap (λ i. get_or (0 ∷ rs) i 0) place
 
 -- the place x cut to the n records of a lane that begins there
 pub record_cut : (order : List ℕ) (from n x : ℕ) {i : ℕ} → from + n ≤ length order → i ≡ min x n

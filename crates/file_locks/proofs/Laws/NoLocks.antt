@@ -24,7 +24,7 @@ use Rattle.file_format.proofs.Laws.Rules.{head_range}
 use Rattle.file_format.proofs.Laws.Search.{found_nowhere, named_nowhere}
 use Rattle.file_format.proofs.Laws.Stored.{ops_from_length}
 use Rattle.file_locks.specs.Lanes.{Clean}
-use Rattle.file_locks.proofs.Laws.Held.{clean_records}
+use Rattle.file_locks.proofs.Laws.Held.{record_none}
 use Rattle.file_locks.proofs.Laws.Order.{fault, descent, fault_first, descent_first}
 
 -- an operation that names no lock
@@ -131,9 +131,9 @@ module _ (s : List ℕ) (st : Structured s) (z : locks s ≡ 0) where
   pub no_fault : lock_fault (program_of s) ≡ 0
   no_fault =
       sym (fault_first s)
-      ∙ named_nowhere (fault s) 0 4 (λ t l. sym (clean_records _ _ (lane_clean t l)).0)
+      ∙ named_nowhere (fault s) 0 4 (λ t l. record_none _ _ (lane_clean t l).0)
 
   pub no_descent : lock_order (program_of s) ≡ 0
   no_descent =
       sym (descent_first s)
-      ∙ named_nowhere (descent s) 0 4 (λ t l. sym ((clean_records _ _ (lane_clean t l)).1 (lane_clean t l).0))
+      ∙ named_nowhere (descent s) 0 4 (λ t l. record_none _ _ (lane_clean t l).1)

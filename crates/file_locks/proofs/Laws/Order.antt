@@ -3,20 +3,21 @@ use Prim.Native.Nat.{ℕ, zero, suc, ◌+◌, ◌-◌, ◌*◌, ◌≤◌, ◌<�
 use mathlib.Core.Path.{◌≡◌, refl, sym, ap, subst, ◌∙◌}
 use mathlib.Core.List.{List, []}
 use mathlib.Core.Option.{some}
+use Rattle.std.specs.Prelude.{Option, Some, None, Result, Ok, Err}
 use native.Mathlib.Omega.{arith}
 use lib.ListN.{length, get_or, take, drop, length-drop, length-append}
 use Rattle.file_format.specs.declared.accepted.Op.{Op}
 use Rattle.file_format.specs.declared.accepted.Op.TheVariants.{Set, Add, Load, Store, Lock, Unlock, Skip}
 use Rattle.file_format.specs.Fields.{locations, locks, record_count, head}
 use Rattle.file_format.specs.Accepted.{records_at, ops_at, program_of}
-use Rattle.file_format.specs.Held.{lane_fault, lock_fault}
-use Rattle.file_format.specs.Rising.{lane_descent, lock_order}
+use Rattle.file_format.specs.Held.{fault_position, record_at, lane_fault, lock_fault}
+use Rattle.file_format.specs.Rising.{descent_position, lane_descent, lock_order}
 use Rattle.file_format.specs.Lawful.{Bounded}
 use Rattle.file_format.specs.Search.{first_of}
 use Rattle.file_format.specs.Structured.{Structured}
 use Rattle.file_format.specs.Stored.{no_op}
 use Rattle.file_format.proofs.Bounded.{chain_range, lane_bounded}
-use Rattle.file_format.proofs.Disciplined.{unbroken}
+use Rattle.file_format.proofs.Disciplined.{unbroken, undescended}
 use Rattle.file_format.proofs.Laws.Lanes.{lane_records as own_lane, lane_ops}
 use Rattle.file_format.proofs.Laws.Rules.{few_locks, few_records, head_range}
 use Rattle.file_format.proofs.Laws.Stored.{ops_from_length}
@@ -27,8 +28,8 @@ use Rattle.sheet_format.specs.Bytes.{over, sheet_bytes}
 use Rattle.sheet_rows.specs.Lanes.{fields_of}
 use Rattle.file_rows.proofs.Laws.Holds.{many, before, many_small, lane_holds}
 use Rattle.file_locks.specs.Sets.{no_jump, jump_or}
-use Rattle.file_locks.specs.declared.Found.{Found}
-use Rattle.file_locks.specs.Lanes.{Named, LaneIn, RecordsOf}
+use Rattle.file_locks.specs.Lanes.{Named, LaneIn, Told, Finds, RecordsOf}
+use Rattle.file_locks.proofs.Laws.Held.{record_none}
 
 -- the fault of lane t, and its first descent
 abbrev pub fault : List ℕ → ℕ → ℕ
@@ -38,10 +39,25 @@ abbrev pub descent : List ℕ → ℕ → ℕ
 descent s t = lane_descent (get_or (program_of s).records t []) (get_or (program_of s).lanes t [])
 
 -- f is what is found in the lane from `from` to `end` of the order
-abbrev pub FoundIn : List ℕ → List ℕ → ℕ → ℕ → Found → Type 0
+abbrev pub FoundIn : List ℕ → List ℕ → ℕ → ℕ → Result (Option ℕ) ℕ → Type 0
 FoundIn rows order from end f =
     (ops : List Op) → LaneIn (drop (16 + 8 * from) rows) (end - from) ops
     → RecordsOf (take (end - from) (drop from order)) ops f
+
+-- among records none of which is 0, the record at a position is 0 where the position is
+told_by : (f : ℕ → ℕ) (x : ℕ) → (f x ≡ 0 → x ≡ 0) → (x ≡ 0 → f x ≡ 0) → (o : Option ℕ) → Told f x o
+    → Told (λ y. y) (f x) o
+told_by f x back on None told = on told
+told_by f x back on (Some y) told = (told.0, λ z. told.1 (back z))
+
+finds_by : (rs : List ℕ) (ops : List Op) → length rs ≡ length ops → ((p : ℕ) → p < length rs → 1 ≤ get_or rs p 0)
+    → (r : Result (Option ℕ) ℕ) → RecordsOf rs ops r → Finds (λ y. y) (lane_fault rs ops) (lane_descent rs ops) r
+finds_by rs ops len nonzero (Ok o) is = (
+  record_none rs (fault_position ops) is.0,
+  told_by (record_at rs) (descent_position ops) (undescended rs ops len nonzero)
+      (record_none rs (descent_position ops)) o is.1,
+)
+finds_by rs ops len nonzero (Err y) is = (is.0, λ z. is.1 (unbroken rs ops len nonzero z))
 
 -- a bounded SKIP goes on, at most to the end, and a bounded LOCK or UNLOCK names one of the four locks
 leads : (ls ks n p : ℕ) (o : Op) → n ≤ 64 → ks ≤ 4 → p < n → Bounded ls ks n p o
@@ -119,9 +135,9 @@ module _ (s order place ends : List ℕ) (st : Structured s) (ordered : Ordered 
           (chain_range s st.fields.records 64 (head s t) p (head_range s st.fields.header t below) l).0
 
       -- what is found in lane t of the order is the fault of lane t, and where it has none, its first descent
-      pub found_is : {from : ℕ} {f : Found} → from ≡ begin_of ends t → FoundIn rows order from (end t) f
-          → (f.fault ≡ fault s t) × (fault s t ≡ 0 → f.descent ≡ descent s t)
-      found_is {from} {f} ef found =
+      pub found_is : {from : ℕ} (f : Result (Option ℕ) ℕ) → from ≡ begin_of ends t
+          → FoundIn rows order from (end t) f → Finds (λ y. y) (fault s t) (descent s t) f
+      found_is {from} f ef found =
           let begin = begin_is t below in
           let count = count_is t below in
           let lane : LaneIn (drop (16 + 8 * begin_of ends t) rows) (count_of ends t) (ops_at s (head s t)) =
@@ -129,10 +145,8 @@ module _ (s order place ends : List ℕ) (st : Structured s) (ordered : Ordered 
           let is = subst (λ rs. RecordsOf rs (ops_at s (head s t)) f) (own_records t below)
           (subst (λ x. FoundIn rows order x (end t) f) ef found (ops_at s (head s t)) lane) in
           let len = ops_from_length s 0 (records_at s (head s t)) in
-          rw (own_lane s st.fields.header t below, lane_ops s st.fields.header t below) (
-            is.0,
-            λ z. is.1 (unbroken (records_at s (head s t)) (ops_at s (head s t)) (sym len) nonzero z),
-          )
+          rw (own_lane s st.fields.header t below, lane_ops s st.fields.header t below)
+          (finds_by (records_at s (head s t)) (ops_at s (head s t)) (sym len) nonzero f is)
 
 pub fault_first : (s : List ℕ) → first_of (fault s) 0 4 ≡ lock_fault (program_of s)
 unfolding lock_fault

@@ -1,9 +1,11 @@
 -- Laws of the pass over a lane's rows: what it knows before row p, and how it goes on from there.
 use Prim.Native.Nat.{ℕ, ◌+◌, ◌-◌, ◌*◌, ◌%◌, ◌≤◌, ◌<◌}
 use mathlib.Core.Path.{◌≡◌, refl, sym, ap, ap₂, ◌∙◌}
-use mathlib.Core.Bool.{Bool, true, false, not, cond}
+use mathlib.Core.Bool.{Bool, true, false, not}
 use mathlib.Core.List.{List, [], ◌∷◌}
 use mathlib.Core.Option.{some}
+use Rattle.std.specs.Prelude.{Option}
+use Rattle.std.specs.Option.{option_or}
 use native.Mathlib.Omega.{arith}
 use borrow.Author.Tests.{eq-eqb, ne_eqb}
 use lib.Bits.{bit_or, bit_xor, or_lt, xor_lt}
@@ -19,8 +21,8 @@ use Rattle.file_format.specs.Stored.{no_op}
 use Rattle.file_format.proofs.Laws.Search.{search_start, search_on, search_found, search_none}
 use Rattle.sheet_rows.specs.Lanes.{fields_of}
 use Rattle.file_locks.specs.Sets.{locks_in, meets, ways, differ, lock_bit, barred, wrong_at, suspect_at, descends_at}
-use Rattle.file_locks.specs.Sets.{after_row, first}
-use Rattle.file_locks.specs.Lanes.{LaneIn, Clean}
+use Rattle.file_locks.specs.Sets.{after_row}
+use Rattle.file_locks.specs.Lanes.{descent_here, LaneIn, Clean}
 use Rattle.file_locks.proofs.Laws.Locks.{agree_same, after_ways, ways_small, bit_small, skip_after, unsuspected}
 use Rattle.file_locks.proofs.Laws.Held.{row_code, row_b_lem, row_target_lem, jump_by, row_wrong, row_descends, row_next}
 use Rattle.file_locks.proofs.Laws.Held.{held_on}
@@ -135,11 +137,11 @@ module _ {rows : List ℕ} {n : ℕ} {ops : List Op} (lane : LaneIn rows n ops) 
               (sym (row_descends at.h at.few o (lane.named p inside))
               ∙ sym (λ i. descends_at (joined i) (row_code lane p below i) (names i)))
 
-          -- what was found of descents with d found before, and x at the row
-          pub pass_sought : (d : ℕ) {x y : ℕ}
-              → x ≡ cond (descends_at (bit_or w (get_or led p 0)) (get_or rows (8 * p) 0) bit) (p + 1) 0
-              → y ≡ first d x → Sought ops n p d → Sought ops n (p + 1) y
-          pass_sought d ex ey s = sought_on ops n p d below descended (ey ∙ ap (first d) ex) s
+          -- what was found of descents with o found before, and x at the row
+          pub pass_sought : (o : Option ℕ) {x y : Option ℕ}
+              → x ≡ descent_here (bit_or w (get_or led p 0)) (get_or rows (8 * p) 0) bit (p + 1)
+              → y ≡ option_or o x → Sought ops n p o → Sought ops n (p + 1) y
+          pass_sought o ex ey s = sought_on ops n p o below descended (ey ∙ ap (option_or o) ex) s
 
           -- the ways v after the row
           module _ {v : ℕ} (ev : v ≡ after_row (bit_or w (get_or led p 0)) bit) where

@@ -7,13 +7,11 @@ use Rattle.file_format.specs.Held.{lock_fault}
 use Rattle.file_format.specs.Rising.{lock_order}
 use Rattle.file_format.specs.Search.{first_of}
 use Rattle.file_chains.specs.Ordered.{begin_of}
-use Rattle.file_locks.specs.Sets.{first}
+use Rattle.file_locks.proofs.Laws.Descents.{Ahead}
 use Rattle.file_locks.proofs.Laws.Order.{fault, descent}
 use Rattle.file_locks.proofs.find_refusal.Given as goal
 
-abbrev pub invariant-loop-t : goal.invariant-loop-t
-invariant-loop-t l = (l.from ≡ begin_of l.ends l.t) × (first_of (fault l.s) l.t (4 - l.t) ≡ lock_fault (program_of l.s))
-    × (first l.descent (first_of (descent l.s) l.t (4 - l.t)) ≡ lock_order (program_of l.s))
-
-abbrev pub decreases-loop-t : goal.decreases-loop-t
-decreases-loop-t l = 4 - l.t
+abbrev pub invariant-loop-end : goal.invariant-loop-end
+invariant-loop-end l = (l.from ≡ begin_of l.ends l.end-index)
+    × (first_of (fault l.s) l.end-index (4 - l.end-index) ≡ lock_fault (program_of l.s))
+    × Ahead l.descent (first_of (descent l.s) l.end-index (4 - l.end-index)) (lock_order (program_of l.s))

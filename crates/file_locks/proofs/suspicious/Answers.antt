@@ -6,6 +6,7 @@ use mathlib.Core.List.{List}
 use mathlib.Core.Path.{◌≡◌, refl, sym, ap, ◌∙◌}
 use native.Mathlib.Omega.{arith}
 use borrow.Author.Tests.{eqb-true, not-false}
+use Rattle.std.specs.Prelude.{None}
 use Rattle.file_format.specs.declared.accepted.Op.{Op}
 use Rattle.file_locks.specs.Lanes.{LaneIn}
 use Rattle.file_locks.proofs.Laws.Locks.{bit_small}
@@ -24,21 +25,20 @@ Lane r ops = LaneIn r.args.rows.now r.args.n ops
 
 -- behind a row that is not suspect, with what SKIPs have led where
 on : (r : Row) (ops : List Op) → Lane r ops → {led : List ℕ} → LedTo ops (r.loop-p.p + 1) led
-    → Passed ops r.args.n (r.loop-p.p + 1) r.after_row-w.result led × Sought ops r.args.n (r.loop-p.p + 1) 0
+    → Passed ops r.args.n (r.loop-p.p + 1) r.after_row-w.result led × Sought ops r.args.n (r.loop-p.p + 1) None
 on r ops lane to =
     let l = r.loop-p in
-    let was = l.invariant.2 ops lane in
+    let was = l.invariant.1 ops lane in
     let clear = pass_clear lane r.requires.0 l.p l.w l.led was.0 r.loop-p-test.true
     r.lock_bit-bit.ensures (sym r.suspect_at.ensures ∙ r.if-suspect_at.false) in (
       pass_on lane r.requires.0 l.p l.w l.led was.0 r.loop-p-test.true r.lock_bit-bit.ensures refl
           clear.0 r.after_row-w.ensures to,
       pass_sought lane r.requires.0 l.p l.w l.led was.0 r.loop-p-test.true r.lock_bit-bit.ensures
-          refl clear.0 0 {x = 0} (rw clear.1 refl) refl was.1,
+          refl clear.0 None {x = None} (rw clear.1 refl) refl was.1,
     )
 
 pub loop-p-init : goal.loop-p-init
 loop-p-init c = (
-  omega arith,
   refl,
   λ ops lane. (pass_start lane c.requires.0, sought_start ops _ lane.held.count),
 )
@@ -66,7 +66,7 @@ after_row-w-requires c =
 
 pub slice_bounds-lead-end : goal.slice_bounds-lead-end
 slice_bounds-lead-end c =
-    sym c.loop-p.invariant.1
+    sym c.loop-p.invariant.0
 
 pub loop-p-preserved : goal.loop-p-preserved
 loop-p-preserved c =
@@ -76,26 +76,26 @@ loop-p-preserved c =
     : (length c.if-code-eq7.led ≡ 65) × ((ops : List Op) → Lane r ops → LedTo ops (l.p + 1) c.if-code-eq7.led) =
     elim c.if-code-eq7.branch [
       | then-code-eq7 w ↦ (
-        ap length (w.led-is ∙ w.lead.ensures) ∙ length-set l.led _ _ ∙ l.invariant.1,
+        ap length (w.led-is ∙ w.lead.ensures) ∙ length-set l.led _ _ ∙ l.invariant.0,
         λ ops lane.
-            let was = (l.invariant.2 ops lane).0 in
+            let was = (l.invariant.1 ops lane).0 in
             let clear = pass_clear lane c.requires.0 l.p l.w l.led was c.loop-p-test.true
             c.lock_bit-bit.ensures (sym c.suspect_at.ensures ∙ c.if-suspect_at.false) in
             lead_skip lane c.requires.0 l.p l.w l.led was c.loop-p-test.true c.lock_bit-bit.ensures refl
             clear.0 c.after_row-w.ensures w.if-code-eq7.true (w.led-is ∙ w.lead.ensures),
       )
       | else-code-eq7 w ↦ (
-        ap length w.led-is ∙ l.invariant.1,
-        λ ops lane. lead_none lane c.requires.0 l.p l.w l.led (l.invariant.2 ops lane).0
+        ap length w.led-is ∙ l.invariant.0,
+        λ ops lane. lead_none lane c.requires.0 l.p l.w l.led (l.invariant.1 ops lane).0
             c.loop-p-test.true w.if-code-eq7.false w.led-is,
       )
     ] in
-    (omega arith, led-is.0, λ ops lane. on r ops lane (led-is.1 ops lane))
+    (led-is.0, λ ops lane. on r ops lane (led-is.1 ops lane))
 
 pub returns : goal.returns
 returns c =
     λ e ops lane. (
-      sym (end_none lane c.requires.0 c.loop-p.p c.loop-p.w c.loop-p.led (c.loop-p.invariant.2 ops lane).0
-          c.loop-p-test.false c.loop-p.invariant.0 (eqb-true _ _ (not-false _ e))),
-      sym (sought_end ops _ c.loop-p.p 0 c.loop-p-test.false (c.loop-p.invariant.2 ops lane).1),
+      sym (end_none lane c.requires.0 c.loop-p.p c.loop-p.w c.loop-p.led (c.loop-p.invariant.1 ops lane).0
+          c.loop-p-test.false (omega arith) (eqb-true _ _ (not-false _ e))),
+      sought_end ops _ c.loop-p.p None c.loop-p-test.false (c.loop-p.invariant.1 ops lane).1,
     )

@@ -1,8 +1,8 @@
 -- `file_locks::suspicious` meets its contract. No fault and no descent lies before p.
-use Prim.Native.Nat.{◌≤◌, ◌-◌}
 use lib.ListN.{length}
 use mathlib.Core.List.{List}
 use mathlib.Core.Path.{◌≡◌}
+use Rattle.std.specs.Prelude.{None}
 use Rattle.file_format.specs.declared.accepted.Op.{Op}
 use Rattle.file_locks.specs.Lanes.{LaneIn}
 use Rattle.file_locks.proofs.Laws.Descents.{Sought}
@@ -10,8 +10,5 @@ use Rattle.file_locks.proofs.Laws.Pass.{Passed}
 use Rattle.file_locks.proofs.suspicious.Given as goal
 
 abbrev pub invariant-loop-p : goal.invariant-loop-p
-invariant-loop-p l = (l.p ≤ l.n) × (length l.led ≡ 65)
-    × ((ops : List Op) → LaneIn l.rows l.n ops → Passed ops l.n l.p l.w l.led × Sought ops l.n l.p 0)
-
-abbrev pub decreases-loop-p : goal.decreases-loop-p
-decreases-loop-p l = l.n - l.p
+invariant-loop-p l = (length l.led ≡ 65)
+    × ((ops : List Op) → LaneIn l.rows l.n ops → Passed ops l.n l.p l.w l.led × Sought ops l.n l.p None)

@@ -3,7 +3,7 @@ use Prim.Native.Nat.{ℕ, zero, suc, ◌+◌, ◌*◌, ◌<◌, ◌≤◌}
 use mathlib.Core.Path.{◌≡◌, refl, sym, ap, ap₂, ◌∙◌}
 use mathlib.Core.List.{List, [], ◌∷◌}
 use native.Mathlib.Omega.{arith}
-use lib.ListN.{length, get_or, drop, length-take, get_or-eq_default}
+use lib.ListN.{get_or, drop, length-take, get_or-eq_default}
 use lib.Seq.{drop-drop, get_or-take}
 use Rattle.laws.proofs.Numbers.{below_four}
 use Rattle.file_format.specs.Fields.{word}

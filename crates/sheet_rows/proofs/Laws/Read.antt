@@ -1,31 +1,17 @@
--- Laws of a sheet's fields: past the end they are 0, and a row's fields are those of the bytes from its front on.
+-- Laws of a sheet's fields, which are 0 past the end, and of its rows.
 use Prim.Native.Nat.{ℕ, zero, suc, ◌+◌, ◌*◌, ◌≤◌, ◌<◌}
-use mathlib.Core.Path.{◌≡◌, refl, sym, ap, ◌∙◌}
-use mathlib.Core.List.{List, [], ◌∷◌, ◌++◌}
+use mathlib.Core.Path.{◌≡◌, refl, ap, ◌∙◌}
+use mathlib.Core.List.{List}
 use mathlib.Core.Option.{some}
 use native.Mathlib.Omega.{arith}
-use lib.ListN.{length, get_elem?, take, drop, get_or-eq_default}
+use lib.ListN.{length, get_elem?, drop, get_or-eq_default}
 use lib.Seq.{drop-drop}
-use Rattle.laws.proofs.Parts.{get_d_behind}
 use Rattle.file_format.specs.Fields.{byte, word, quad}
 use Rattle.sheet_format.specs.Read.{read_instr, read_rows}
-use Rattle.sheet_rows.specs.declared.read.Row.{Row}
-use Rattle.sheet_rows.specs.Rows.{row_in}
 
 pub word_past : (s : List ℕ) (i : ℕ) → length s ≤ i → word s i ≡ 0
 word_past s i h =
     omega (arith, get_or-eq_default s 0 {n = i} h, get_or-eq_default s 0 {n = i + 1} (omega arith))
-
-pub quad_past : (s : List ℕ) (i : ℕ) → length s ≤ i → quad s i ≡ 0
-quad_past s i h = omega (arith, word_past s i h, word_past s (i + 2) (omega arith))
-
-quad_at : (s : List ℕ) (k : ℕ) → quad s (k + 4) ≡ quad (drop k s) 4
-quad_at s k =
-    let e4 = get_d_behind s k 4 (k + 4) refl in
-    let e5 = get_d_behind s k 5 (k + 4 + 1) (omega arith) in
-    let e6 = get_d_behind s k 6 (k + 4 + 2) (omega arith) in
-    let e7 = get_d_behind s k 7 (k + 4 + 2 + 1) (omega arith) in
-    omega (arith, e4, e5, e6, e7)
 
 -- the 32-bit field behind four bytes, from its own four
 pub quad_of : (s : List ℕ) (k : ℕ) {a b c d : ℕ} → a ≡ byte s (k + 4) → b ≡ byte s (k + 5) → c ≡ byte s (k + 6)
@@ -35,16 +21,6 @@ quad_of s k ea eb ec ed =
     let e6 : byte s (k + 6) ≡ byte s (k + 4 + 2) = ap (byte s) (omega arith) in
     let e7 : byte s (k + 7) ≡ byte s (k + 4 + 2 + 1) = ap (byte s) (omega arith) in
     omega (arith, ea, eb, ec, ed, e5, e6, e7)
-
--- the row whose bytes begin at k
-pub row_is : (s : List ℕ) (k : ℕ) {o a b c : ℕ} → o ≡ byte s k → a ≡ byte s (k + 1) → b ≡ byte s (k + 2)
-    → c ≡ quad s (k + 4) → ◌≡◌ {A = Row} (record { code = o; a = a; b = b; word = c }) (row_in (drop k s))
-row_is s k eo ea eb ec =
-    let p = eo ∙ get_d_behind s k 0 k (omega arith) in
-    let q = ea ∙ get_d_behind s k 1 (k + 1) refl in
-    let r = eb ∙ get_d_behind s k 2 (k + 2) refl in
-    let w = ec ∙ quad_at s k in
-    λ i. record { code = p i; a = q i; b = r i; word = w i }
 
 -- ## n rows
 
@@ -65,17 +41,3 @@ row_of (suc n) s (suc p) h =
 pub row_from : (n first : ℕ) (s : List ℕ) (p : ℕ) → p < n
     → get_elem? (read_rows n (drop first s)) p ≡ some (read_instr (drop (first + 8 * p) s))
 row_from n first s p h = row_of n (drop first s) p h ∙ ap (λ x. some (read_instr x)) (drop-drop (8 * p) first s)
-
--- one row more
-pub rows_on : (n : ℕ) (s : List ℕ) → read_rows (suc n) s ≡ read_rows n s ++ read_instr (drop (8 * n) s) ∷ []
-rows_on zero s = refl
-rows_on (suc n) s =
-    let e : 8 * suc n ≡ 8 + 8 * n = omega arith in
-    let same : drop (8 * n) (drop 8 s) ≡ drop (8 * suc n) s = drop-drop (8 * n) 8 s ∙ ap (λ k. drop k s) (sym e) in
-    ap (λ x. read_instr s ∷ x) (rows_on n (drop 8 s))
-    ∙ ap (λ x. read_instr s ∷ read_rows n (drop 8 s) ++ read_instr x ∷ []) same
-
-pub rows_take : (q n : ℕ) (s : List ℕ) → q ≤ n → take q (read_rows n s) ≡ read_rows q s
-rows_take zero n s h = refl
-rows_take (suc q) zero s h = absurd (omega arith)
-rows_take (suc q) (suc n) s h = ap (λ x. read_instr s ∷ x) (rows_take q n (drop 8 s) (omega arith))

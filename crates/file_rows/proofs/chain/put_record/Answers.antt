@@ -1,11 +1,7 @@
 -- `file_rows::chain::put_record` meets its contract: of a SKIP the fifth byte is written anew.
-use Prim.Native.Nat.{◌+◌, ◌≤◌, ◌<◌}
-use mathlib.Core.Path.{◌≡◌, sym, ap, subst, ◌∙◌}
-use native.Mathlib.Omega.{arith}
-use lib.ListN.{length, get_or}
+use mathlib.Core.Path.{ap, ◌∙◌}
 use Rattle.file_chains.specs.Ordered.{landing_in}
-use Rattle.file_rows.proofs.Laws.Row.{record_skip, record_other}
-use borrow.Author.Rules.{rules}
+use Rattle.file_rows.proofs.Laws.Row.{record_skip}
 use Rattle.file_rows.proofs.chain.put_record.Goals as goal
 
 pub returns-then-s-from-eq7 : goal.returns-then-s-from-eq7

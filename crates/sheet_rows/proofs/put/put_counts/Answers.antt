@@ -2,7 +2,6 @@
 use native.Mathlib.Omega.{arith}
 use Rattle.sheet_format.proofs.Laws.Put.{puts_on}
 use Rattle.sheet_rows.proofs.Laws.Put.{laid_whole, laid_short}
-use borrow.Author.Rules.{rules}
 use Rattle.sheet_rows.proofs.put.put_counts.Goals as goal
 
 pub returns-then-out-ge16 : goal.returns-then-out-ge16
