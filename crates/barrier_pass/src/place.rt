@@ -12,10 +12,11 @@ ghost use Rattle.barrier_placement.specs.declared.steps.Step.{Step};
 ghost use Rattle.barrier_placement.specs.Place.{stands_at, raises as raisesFor};
 ghost use Rattle.barrier_placement.specs.Placed.{bit, bit_of, due_in};
 ghost use Rattle.sheet_rows.specs.Lanes.{fields_of, Holds};
-ghost use Rattle.barrier_pass.specs.Known.{known_of, known_table};
-ghost use Rattle.barrier_pass.specs.Plan.{plan_set, plan_number, Widths};
+ghost use Rattle.barrier_pass.specs.Known.{known_of};
+ghost use Rattle.barrier_pass.specs.Plan.{plan_set, plan_number};
 
 use crate::steps::{known_of, landing_of};
+use crate::table::Tables;
 use sheet_rows::read::whole_row;
 
 // Times this, a set of barriers stands in the place of each class.
@@ -29,8 +30,7 @@ fn stands_at(x: u32, due: u16) -> u16
     ensures { ((s : Step) (b : Barrier) → x ≡ known_of s → bit result (bit_of b) ≡ stands_at s (due_in due b))
         × (result < 16) }
 {
-    let wide = due as u32;
-    ((wide >> (x % 32)) % 16) as u16
+    ((u32::from(due) >> (x % 32)) % 16) as u16
 }
 
 // What a step of which x is known calls for.
@@ -56,30 +56,22 @@ fn plan_set(code: u8, stood: u16) -> u32
     requires { stood < 16 }
     ensures { ((o : Op) → code ≡ (fields_of o).code → result ≡ plan_set o stood) × (result < 32) }
 {
-    (stood as u32) + 16 * ((code == LOCK) as u32)
+    u32::from(stood) + 16 * u32::from(code == LOCK)
 }
 
 // Writes position p of the plan, which begins at `at`; where the next position begins.
-fn plan_step(widths: &[u32; 32], plan: &mut [u32], p: usize, at: u32, set: u32) -> u32
-    requires { Widths widths.now × (p < length plan.old) × (at ≤ 6308000 * p) × (p < 64) × (set < 32) }
+fn plan_step(tables: &Tables, plan: &mut [u32], p: usize, at: u32, set: u32) -> u32
+    requires { (p < length plan.old) × (at ≤ 6308000 * p) × (p < 64) × (set < 32) }
     ensures plan { plan.new ≡ update plan.old p (at + set) }
-    ensures next { (result ≡ at + get_or widths.now set 0) × (result ≤ 6308000 * (p + 1)) }
+    ensures next { (result ≡ at + get_or tables.now.widths set 0) × (result ≤ 6308000 * (p + 1)) }
 {
     plan[p] = at + set;
-    at + widths[set as usize]
+    at + tables.widths[set as usize]
 }
 
 // Writes the plan of the lane whose n rows are given; the number that it has of the lane's end.
 // A SKIP brings what is due to its target; a jump back brings nothing to the positions ahead.
-pub fn place_lane(
-    known: &[u32; 16],
-    widths: &[u32; 32],
-    rows: &[u8],
-    n: usize,
-    mask: u16,
-    plan: &mut [u32],
-) -> u32
-    requires tables { (known.now ≡ known_table) × Widths widths.now }
+pub fn place_lane(tables: &Tables, rows: &[u8], n: usize, mask: u16, plan: &mut [u32]) -> u32
     requires room { (n ≤ 64) × (8 * n ≤ length rows.now) × (n < length plan.old) }
     ensures end { result ≡ get_or plan.new n 0 }
     ensures numbers { (ops : List Op) → Holds rows.now n ops → (p : ℕ) → p ≤ n
@@ -89,20 +81,17 @@ pub fn place_lane(
     let mut due = 0u16;
     let mut brought = [0u16; 65];
     let mut at = 0u32;
-    let mut p = 0;
-    while p < n {
+    for p in 0..n {
         let row = whole_row(rows, 8 * p);
-        let x = known_of(known, row.code, row.b, mask);
+        let x = known_of(tables, row.code, row.b, mask);
         let here = due | brought[p];
         let stood = stands_at(x, here);
-        at = plan_step(widths, plan, p, at, plan_set(row.code, stood));
+        at = plan_step(tables, plan, p, at, plan_set(row.code, stood));
         due = after(stood, here, raises(x));
         let t = landing_of(row.code, row.word);
         if p < t {
-            let old = brought[t];
-            brought[t] = due | old;
+            brought[t] = due | brought[t];
         }
-        p += 1;
     }
     plan[n] = at;
     at

@@ -5,7 +5,9 @@ ghost use Rattle.file_format.specs.declared.accepted.Op.{Op};
 ghost use Rattle.barrier_placement.specs.Placed.{landing as landingOf};
 ghost use Rattle.barrier_placement.specs.Steps.{step_of};
 ghost use Rattle.sheet_rows.specs.Lanes.{fields_of};
-ghost use Rattle.barrier_pass.specs.Known.{known_of, known_table};
+ghost use Rattle.barrier_pass.specs.Known.{known_of};
+
+use crate::table::Tables;
 
 // Bit x of the mask. Both tests are made: a jump on the location's kind could not be predicted.
 fn is_volatile(mask: u16, x: u8) -> bool
@@ -15,18 +17,17 @@ fn is_volatile(mask: u16, x: u8) -> bool
 }
 
 // What the table has of the operation with this code and this operand b.
-pub(crate) fn known_of(known: &[u32; 16], code: u8, b: u8, mask: u16) -> u32
-    requires { known.now ≡ known_table }
+pub(crate) fn known_of(tables: &Tables, code: u8, b: u8, mask: u16) -> u32
     ensures { ((o : Op) → code ≡ (fields_of o).code → b ≡ (fields_of o).b → result
         ≡ known_of (step_of (is_volatile mask) o))
         × (result < 2 ^ 21) }
 {
-    let i = code % 8 + 8 * (is_volatile(mask, b) as u8);
-    known[i as usize]
+    let i = code % 8 + 8 * u8::from(is_volatile(mask, b));
+    tables.known[usize::from(i)]
 }
 
 // Where the operation with this code and this last field lands: at a SKIP's target, else at 0, to which nothing goes
-// forward.
+// forward: 0 and not None, so that one test, of the landing against the position, does for both.
 pub(crate) fn landing_of(code: u8, t: u32) -> usize
     ensures { ((o : Op) (vol : ℕ → Bool) → code ≡ (fields_of o).code → t ≡ (fields_of o).word → result
         ≡ landingOf (step_of vol o))

@@ -8,6 +8,25 @@ ghost use Rattle.barrier_pass.specs.Plan.{Widths};
 
 use barrier_placement::cookbook::{Class, cell};
 
+// Both tables, made once for all the lanes of a sheet: `known` by an operation's code and the kind of its location,
+// `widths` by a plan's set.
+#[derive(Drop)]
+pub struct Tables {
+    pub(crate) known: [u32; 16],
+    pub(crate) widths: [u32; 32],
+    ghost by_code: { known ≡ known_table },
+    ghost by_set: { Widths widths },
+}
+
+impl Tables {
+    pub fn new() -> Self {
+        Tables {
+            known: known_table(),
+            widths: width_table(),
+        }
+    }
+}
+
 // The barrier that an access of class c calls for before one of class d, as a set; the codes go from 11 up.
 fn cell_set(c: Class, d: Class) -> u32
     ensures { (result ≡ set_of (cell_of c d)) × (result ≤ 8) }
@@ -27,7 +46,7 @@ fn row(c: Class) -> u32
 }
 
 // By operation code, at a plain location and then at a volatile one.
-pub fn known_table() -> [u32; 16]
+fn known_table() -> [u32; 16]
     ensures { result ≡ known_table }
 {
     let none = 16;
@@ -42,7 +61,7 @@ pub fn known_table() -> [u32; 16]
 
 // By a plan's set of barriers: 32 times the instructions that an operation makes behind it at level 1, 8,192 times
 // those at level 2 and 2,097,152 times those at level 3.
-pub fn width_table() -> [u32; 32]
+fn width_table() -> [u32; 32]
     ensures { Widths result }
 {
     [

@@ -3,7 +3,7 @@ ghost use Rattle.std.specs.Prelude.{◌≡◌};
 ghost use Rattle.barrier_placement.specs.Cookbook.{cell as cell_of, cell_code, number_of};
 
 // Plain load, plain store, volatile load or LOCK, volatile store or UNLOCK.
-#[derive(Clone, Copy)]
+#[derive(Clone, Copy, PartialEq, Eq, Debug)]
 pub enum Class {
     PL,
     PS,
@@ -12,7 +12,7 @@ pub enum Class {
 }
 
 // First letter: the kind of the earlier access, load or store; second letter: that of the later one.
-#[derive(Clone, Copy)]
+#[derive(Clone, Copy, PartialEq, Eq, Debug)]
 pub enum Barrier {
     LL,
     LS,

@@ -2,7 +2,7 @@
 use crate::cookbook::Class;
 
 // An operation of a chain. A Skip holds its target's position in the chain; the end is the chain's length.
-#[derive(Clone, Copy)]
+#[derive(Clone, Copy, PartialEq, Eq, Debug)]
 pub enum Step {
     Access(Class),
     Skip(u16),

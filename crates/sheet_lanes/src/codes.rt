@@ -1,9 +1,32 @@
 // The codes of SS and SL at each level: a byte for each set of SS, SL and bit 4 of a plan, 0 where neither stands.
-// They are looked up before the lanes are written: a jump by the level at each row is slower.
+ghost use Rattle.std.specs.Prelude.{◌≡◌};
 ghost use Rattle.sheet_format.specs.declared.Level.TheVariants.{Level1, Level2, Level3};
 ghost use Rattle.sheet_lanes.specs.Put.{CodesOf};
 
 use sheet_format::Level;
+
+// What writes lanes at a level. The level's codes are looked up before the lanes are written: a jump by the level at
+// each row is slower.
+#[derive(Clone, Copy)]
+pub(crate) struct Encoder {
+    pub(crate) level: Level,
+    pub(crate) codes: u64,
+    ghost codes_of: { CodesOf level codes },
+}
+
+impl Encoder {
+    pub(crate) fn new(level: Level) -> Self
+        ensures { result.level ≡ level }
+    {
+        Encoder {
+            level,
+            codes: codes_of(level),
+        }
+    }
+}
+
+// A function for each level's codes, not an arm of one match: each is refused by its own edits of must-fail, several
+// at once.
 
 // SS and SL, also where the operation drains.
 fn first_codes() -> u64
@@ -26,7 +49,7 @@ fn third_codes() -> u64
     0x0d00_0d00_0d0e_0d00
 }
 
-pub(crate) fn codes_of(level: Level) -> u64
+fn codes_of(level: Level) -> u64
     ensures { CodesOf level result }
 {
     match level {

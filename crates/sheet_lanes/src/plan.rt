@@ -1,18 +1,15 @@
 // The plans of the lanes, before any of them is written.
 ghost use Rattle.std.specs.Prelude.{◌≡◌, ℕ, ◌+◌, ◌*◌, ◌≤◌, ◌<◌, length, get_or, drop};
-ghost use Rattle.barrier_pass.specs.Known.{known_table};
-ghost use Rattle.barrier_pass.specs.Plan.{Widths};
 ghost use Rattle.sheet_rows.specs.Rows.{parts_in};
 ghost use Rattle.sheet_lanes.specs.Rows.{Short, PlanFor, plan_from, PlansTo};
 
 use barrier_pass::place::place_lane;
-use barrier_pass::table::{known_table, width_table};
+use barrier_pass::table::Tables;
 use sheet_rows::parts::Parts;
 
 // Writes the plan of the lane of n rows that begin at byte `first`, from `place` of `plan` on; the number of its end.
 fn plan_at(
-    known: &[u32; 16],
-    widths: &[u32; 32],
+    tables: &Tables,
     rows: &[u8],
     first: usize,
     n: usize,
@@ -20,13 +17,12 @@ fn plan_at(
     plan: &mut [u32],
     place: usize,
 ) -> u32
-    requires tables { (known.now ≡ known_table) × Widths widths.now }
     requires room { (n ≤ 64) × (first + 8 * n ≤ length rows.now) × (place + n < length plan.old) }
     ensures lane { PlanFor (drop first rows.now) n mask (drop place plan.new) }
     ensures end { result ≡ get_or (drop place plan.new) n 0 }
     ensures before { (i : ℕ) → i < place → get_or plan.new i 0 ≡ get_or plan.old i 0 }
 {
-    place_lane(known, widths, &rows[first..], n, mask, &mut plan[place..])
+    place_lane(tables, &rows[first..], n, mask, &mut plan[place..])
 }
 
 // The plans of the four lanes one behind the other, each with one number more than the lane has rows; the number that
@@ -35,17 +31,14 @@ pub fn plan_lanes(rows: &[u8], parts: Parts, mask: u16, plan: &mut [u32]) -> [u3
     requires { Short rows.now × (parts ≡ parts_in rows.now) × (plan_from rows.now 4 ≤ length plan.old) }
     ensures { PlansTo rows.now mask plan.new result 4 }
 {
-    let known = known_table();
-    let widths = width_table();
+    let tables = Tables::new();
     let from = parts.from;
     let count = parts.count;
     let mut ends = [0u32; 4];
     let mut place = 0;
-    let mut t = 0;
-    while t < 4 {
-        ends[t] = plan_at(&known, &widths, rows, from[t], count[t], mask, plan, place);
-        place = place + count[t] + 1;
-        t += 1;
+    for t in 0..4 {
+        ends[t] = plan_at(&tables, rows, from[t], count[t], mask, plan, place);
+        place += count[t] + 1;
     }
     ends
 }

@@ -5,16 +5,12 @@ ghost use Rattle.barrier_pass.specs.Plan.{begin_in};
 ghost use Rattle.sheet_lanes.specs.Put.{beginning};
 
 use sheet_format::Level;
-use sheet_rows::number::wide;
 
 // Level 3: its bits in a plan's number stand eight above those of level 2.
 fn is_third(level: Level) -> bool
     ensures { result ≡ eqb (level_number level) 3 }
 {
-    match level {
-        Level::Level3 => true,
-        Level::Level0 | Level::Level1 | Level::Level2 => false,
-    }
+    matches!(level, Level::Level3)
 }
 
 // Where position p begins at a level, of its number in the plan. Levels 2 and 3 in one: of four arms the compiler makes
@@ -24,8 +20,9 @@ pub fn begin_in(level: Level, x: u32, p: usize) -> usize
 {
     match level {
         Level::Level0 => p,
-        Level::Level1 => wide((x >> 5) % 256),
-        Level::Level2 | Level::Level3 => wide((x >> (13 + 8 * (is_third(level) as u32))) % 256),
+        Level::Level1 => ((x >> 5) % 256) as usize,
+        Level::Level2 | Level::Level3 => ((x >> (13 + 8 * u32::from(is_third(level))))
+            % 256) as usize,
     }
 }
 
@@ -33,7 +30,7 @@ pub fn begin_in(level: Level, x: u32, p: usize) -> usize
 fn number_at(plan: &[u32], p: usize) -> u32
     ensures { result ≡ get_or plan.now p 0 }
 {
-    if p < plan.len() { plan[p] } else { 0 }
+    plan.get(p).copied().unwrap_or(0)
 }
 
 // Where operation p begins at a level, that is, its first barrier.

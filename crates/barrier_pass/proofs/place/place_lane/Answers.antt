@@ -26,40 +26,36 @@ use Rattle.barrier_pass.proofs.place.place_lane.Goals as goal
 use Rattle.barrier_pass.proofs.place.place_lane.Goals.{then-p-t, else-p-t}
 
 pub loop-p-init : goal.loop-p-init
-loop-p-init c = (
-  omega arith,
-  refl,
-  refl,
-  omega arith,
-  λ j h. refl,
-  λ ops h. placing_none (is_volatile c.args.mask) ops c.args.plan.now,
-)
+loop-p-init c = record {
+  sized = refl;
+  early = omega arith;
+  rest = λ j h. refl;
+  placing = λ ops h. placing_none (is_volatile c.args.mask) ops c.args.plan.now;
+}
 
 pub plan_step-at-requires : goal.plan_step-at-requires
 plan_step-at-requires c = (
-  c.requires.tables.1,
-  omega (arith, c.requires.room.2, c.loop-p.invariant.2),
-  c.loop-p.invariant.3,
+  omega (arith, c.requires.room.2, c.loop-p.auto.plan),
+  c.loop-p.invariant.early,
   omega (arith, c.requires.room.0),
   c.plan_set.ensures.1,
 )
 
 pub loop-p-preserved : goal.loop-p-preserved
 loop-p-preserved c =
-    let room : c.loop-p.p < length c.loop-p.plan = omega (arith, c.requires.room.2, c.loop-p.invariant.2) in
-    let vol = is_volatile c.args.mask in (
-      omega arith,
-      elim c.if-p-t.branch [
-        | then-p-t w ↦ rw w.brought-is (simp length-set c.loop-p.invariant.1)
-        | else-p-t w ↦ rw w.brought-is c.loop-p.invariant.1
-      ],
-      rw c.plan_step-at.ensures.plan (simp length-set c.loop-p.invariant.2),
-      c.plan_step-at.ensures.next.1,
-      λ j h.
+    let room : c.loop-p.p < length c.loop-p.plan = omega (arith, c.requires.room.2, c.loop-p.auto.plan) in
+    let vol = is_volatile c.args.mask in record {
+      sized =
+          elim c.if-p-t.branch [
+            | then-p-t w ↦ rw w.brought-is (simp length-set c.loop-p.invariant.sized)
+            | else-p-t w ↦ rw w.brought-is c.loop-p.invariant.sized
+          ];
+      early = c.plan_step-at.ensures.next.1;
+      rest = λ j h.
           ap (λ q. get_or q j 0) c.plan_step-at.ensures.plan
           ∙ get_or-set_other c.loop-p.plan c.loop-p.p j (c.loop-p.at + c.plan_set.result) 0 (λ e. omega arith)
-          ∙ c.loop-p.invariant.4 j h,
-      λ ops h.
+          ∙ c.loop-p.invariant.rest j h;
+      placing = λ ops h.
           let o = get_or ops c.loop-p.p no_op in
           let t = steps vol ops in
           let below : c.loop-p.p < c.args.n = omega arith in
@@ -70,12 +66,12 @@ loop-p-preserved c =
           let lands : c.landing_of-t.result ≡ landing (at t c.loop-p.p) =
           c.landing_of-t.ensures.0 o vol (ap (λ (r : Row). r.code) row) (ap (λ (r : Row). r.word) row)
           ∙ ap landing (step_is vol h c.loop-p.p below) in
-          let placing = c.loop-p.invariant.5 ops h in
+          let placing = c.loop-p.invariant.placing ops h in
           let turned : (b : Barrier) → bit c.stands_at-stood.result (bit_of b) ≡ stands t b c.loop-p.p =
           λ b. c.stands_at-stood.ensures.0 (at t c.loop-p.p) b known
           ∙ stands_here t b (placing.reached b) (omega (arith, c.requires.room.0)) refl in
           rw (c.plan_step-at.ensures.plan, c.plan_step-at.ensures.next.0)
-          (placing_on vol ops placing room c.stands_at-stood.result c.requires.tables.1
+          (placing_on vol ops placing room c.stands_at-stood.result c.args.tables.now.by_set
           (omega (arith, h.count)) c.stands_at-stood.ensures.1 turned
           (λ b. turn t b (placing.reached b) (omega (arith, c.requires.room.0)) refl c.raises.result
           (turned b)
@@ -84,21 +80,21 @@ loop-p-preserved c =
           lands
           (elim c.if-p-t.branch
           [ then-p-t w ↦ inl (w.if-p-t.true, w.brought-is) | else-p-t w ↦ inr (w.if-p-t.false, w.brought-is) ]))
-          c.plan_set.result (c.plan_set.ensures.0 o (ap (λ (r : Row). r.code) row))),
-    )
+          c.plan_set.result (c.plan_set.ensures.0 o (ap (λ (r : Row). r.code) row)));
+    }
 
 pub returns : goal.returns
 returns c =
     let last : c.loop-p.p ≡ c.args.n = omega arith in
-    let room : c.args.n < length c.loop-p.plan = omega (arith, c.requires.room.2, c.loop-p.invariant.2) in record {
+    let room : c.args.n < length c.loop-p.plan = omega (arith, c.requires.room.2, c.loop-p.auto.plan) in record {
       end = sym (get_or-set_same c.loop-p.plan c.args.n c.loop-p.at 0 room);
       numbers = λ ops h p le.
           let placing : Placing (is_volatile c.args.mask) ops c.loop-p.due c.loop-p.brought c.loop-p.plan c.loop-p.at
           c.args.n =
           subst (λ q. Placing (is_volatile c.args.mask) ops c.loop-p.due c.loop-p.brought c.loop-p.plan c.loop-p.at q)
           last
-          (c.loop-p.invariant.5 ops h) in
+          (c.loop-p.invariant.placing ops h) in
           placing_end (is_volatile c.args.mask) ops placing room h.count p le;
       rest = λ p past. get_or-set_other c.loop-p.plan c.args.n p c.loop-p.at 0 (λ e. omega arith)
-          ∙ c.loop-p.invariant.4 p past;
+          ∙ c.loop-p.invariant.rest p past;
     }

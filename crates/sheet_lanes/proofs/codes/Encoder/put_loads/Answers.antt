@@ -1,4 +1,4 @@
--- `sheet_lanes::steps::put_loads` meets its contract.
+-- `sheet_lanes::codes::Encoder::put_loads` meets its contract.
 use Prim.Native.Nat.{◌+◌, ◌/◌, ◌%◌}
 use mathlib.Core.Path.{sym, ap, ◌∙◌}
 use mathlib.Core.Bool.{not}
@@ -7,7 +7,7 @@ use Rattle.sheet_format.specs.declared.Level.{Level}
 use Rattle.sheet_lanes.specs.Put.{load_rows}
 use Rattle.sheet_lanes.proofs.Laws.Begins.{begins_none, begins_row, begins_as}
 use Rattle.sheet_lanes.proofs.Laws.Put.{loads_rows}
-use Rattle.sheet_lanes.proofs.steps.put_loads.Goals as goal
+use Rattle.sheet_lanes.proofs.codes.Encoder.put_loads.Goals as goal
 
 pub returns-in-Level1 : goal.returns-in-Level1
 returns-in-Level1 c =
