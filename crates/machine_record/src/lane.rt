@@ -36,39 +36,34 @@ fn write_place(out: &mut [u8], at: usize, pending: bool, cell: u32, value: u32, 
     store_row(out, at, 0, 0, 0, 0)
 }
 
-// The 64 places, of which the first `len` have an entry, with the marks behind them.
+// The 64 places of a lane, of which the first `len` have an entry, with the marks behind them.
 fn write_entries(
     out: &mut [u8],
     at: usize,
-    cells: [u32; 64],
-    values: [u32; 64],
-    len: usize,
-    marks: u64,
+    lane: &Lane,
 ) -> usize
     requires room { at + 512 ≤ length out.old }
-    requires small { SmallCells cells len }
-    ensures { Puts out.old at (entries_bytes 64 marks (take len (entries_of cells values)))
-        out.new result }
+    requires small { SmallCells lane.now.cells lane.now.len }
+    ensures { Puts out.old at
+        (entries_bytes 64 (lane_in lane.now).control.marks (lane_in lane.now).pending) out.new result }
 {
+    let len = lane.len as usize;
+    let marks = lane.marks();
     let mut next = at;
-    let mut i = 0;
-    while i < 64 {
-        next = write_place(out, next, i < len, cells[i], values[i], mark_at(marks, i));
-        i += 1;
+    for i in 0..64 {
+        let mark = mark_at(marks, i);
+        next = write_place(out, next, i < len, lane.cells[i], lane.values[i], mark);
     }
     next
 }
 
 // The 548 bytes of a lane.
-pub fn write_lane(out: &mut [u8], start: usize, lane: Lane) -> usize
+pub fn write_lane(out: &mut [u8], start: usize, lane: &Lane) -> usize
     requires room { start + 548 ≤ length out.old }
-    requires small { SmallCells lane.cells lane.len }
-    ensures { Puts out.old start (state_lane (lane_in lane)) out.new result }
+    requires small { SmallCells lane.now.cells lane.now.len }
+    ensures { Puts out.old start (state_lane (lane_in lane.now)) out.new result }
 {
-    let registers = lane.registers;
-    let cells = lane.cells;
-    let values = lane.values;
     let mut next = put_words(out, start, lane.at as usize, lane.count());
-    next = put_table(out, next, &registers, 8);
-    write_entries(out, next, cells, values, lane.len as usize, lane.marks())
+    next = put_table(out, next, &lane.registers, 8);
+    write_entries(out, next, lane)
 }
