@@ -6,12 +6,12 @@ use Rattle.sheet_format.specs.Put.{in_turn}
 use Rattle.sheet_format.proofs.Laws.Put.{puts_as, puts_length}
 use Rattle.machine_spec.specs.Marks.{mark_at}
 use Rattle.machine_lane.specs.Lanes.{lane_in}
-use Rattle.machine_record.specs.Lanes.{place_bytes, entries_bytes}
+use Rattle.machine_record.specs.Lanes.{entry_in, place_bytes, entries_bytes}
 use Rattle.machine_record.proofs.LaneSizes.{place_length}
-use Rattle.machine_record.proofs.Laws.Entries.{place_is}
+use Rattle.machine_record.proofs.Laws.Entries.{place_there, place_free}
 use Rattle.sheet_format.proofs.Laws.Turn.{turn_none, turn_on_lem, turn_end}
-use borrow.Author.Tests.{ltb-true}
 use Rattle.machine_record.proofs.lane.write_entries.Goals as goal
+use Rattle.machine_record.proofs.lane.write_entries.Goals.{then-i-len, else-i-len}
 
 pub loop-i-init : goal.loop-i-init
 loop-i-init c = turn_none _
@@ -24,16 +24,24 @@ write_place-next-requires c =
     (λ k. place_length (mark_at l.control.marks k) (get_elem? l.pending k)) c.loop-i.invariant in
     record {
       room = omega (arith, end, puts_length c.loop-i.invariant);
-      small = λ e. c.requires.small c.loop-i.i (ltb-true _ _ e);
+      small = elim c.if-i-len.branch [
+        | then-i-len w ↦ rw w.entry-is (c.requires.small c.loop-i.i (omega arith))
+        | else-i-len w ↦ rw w.entry-is tt
+      ];
     }
 
 pub loop-i-preserved : goal.loop-i-preserved
 loop-i-preserved c =
     let lane = c.args.lane.now in
     let l = lane_in lane in
-    let mark = c.mark_at-mark.ensures ∙ ap (λ k. mark_at k c.loop-i.i) c.marks-marks.ensures in
-    let place = ap₂ place_bytes mark
-    (place_is lane.cells lane.values lane.len c.loop-i.i (omega arith) (omega arith) (omega arith)) in
+    let mark = c.mark_at.ensures ∙ ap (λ k. mark_at k c.loop-i.i) c.marks-marks.ensures in
+    let entry : entry_in c.if-i-len.entry ≡ get_elem? l.pending c.loop-i.i = elim c.if-i-len.branch [
+      | then-i-len w ↦ ap entry_in w.entry-is
+          ∙ place_there lane.cells lane.values lane.len c.loop-i.i (omega arith) (omega arith) (omega arith) (omega arith)
+      | else-i-len w ↦ ap entry_in w.entry-is
+          ∙ place_free lane.cells lane.values lane.len c.loop-i.i (omega arith) (omega arith) (omega arith)
+    ] in
+    let place = ap₂ place_bytes mark entry in
     turn_on_lem (λ k. place_bytes (mark_at l.control.marks k) (get_elem? l.pending k)) c.loop-i.i c.loop-i.invariant
     (puts_as place c.write_place-next.ensures)
 
