@@ -9,10 +9,8 @@ pub fn flags_of(mask: u32) -> [bool; 16]
     ensures { (16 ≡ length result) × (flags result ≡ is_volatile mask) }
 {
     let mut flags = [false; 16];
-    let mut x = 0;
-    while x < 16 {
-        flags[x] = (mask >> x) % 2 == 1;
-        x += 1;
+    for (x, flag) in flags.iter_mut().enumerate() {
+        *flag = (mask >> x) % 2 == 1;
     }
     flags
 }

@@ -1,6 +1,13 @@
 // The SS marks of a pending list, as the bits of a number: bit i is set where a mark stands directly behind entry i.
-ghost use Rattle.std.specs.Prelude.{◌≡◌, ◌≤◌, ◌<◌};
+ghost use Rattle.std.specs.Prelude.{◌≡◌, ◌+◌, ◌*◌, ◌^◌, ◌≤◌, ◌<◌};
 ghost use Rattle.machine_spec.specs.Marks.{mark_at, no_mark, after_ss, after_commit};
+
+// All 64 marks, from their low and their high half.
+pub fn whole(low: u32, high: u32) -> u64
+    ensures { result ≡ low + 2 ^ 32 * high }
+{
+    u64::from(low) + 4294967296 * u64::from(high)
+}
 
 // Whether a mark stands directly behind entry i.
 pub fn mark_at(marks: u64, i: usize) -> bool

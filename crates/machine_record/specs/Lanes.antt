@@ -1,5 +1,6 @@
 -- A lane of the state record: 548 bytes, as docs/FORMATS.md lays them out.
 use Rattle.std.specs.Prelude.{ℕ, Bool, cond, List, ◌∷◌, ◌++◌, length, get_or, replicate}
+use Rattle.std.specs.Prelude.{Option as Pending, Some, None}
 use Rattle.std.proofs.Math.Option.{Option, none, some}
 use Rattle.std.proofs.Math.ListN.{get_elem?}
 use Rattle.sheet_format.specs.Bytes.{word_bytes, quad_bytes}
@@ -7,6 +8,7 @@ use Rattle.sheet_format.specs.Put.{in_turn}
 use Rattle.machine_spec.specs.Entries.{Entry, write, release}
 use Rattle.machine_spec.specs.Marks.{mark_at}
 use Rattle.machine_spec.specs.State.{Lane}
+use Rattle.machine_lane.specs.Lanes.{entry_of}
 
 abbrev pub flag : Bool → ℕ
 flag b = cond b 1 0
@@ -15,6 +17,11 @@ flag b = cond b 1 0
 abbrev pub entry_bytes : Bool → Entry → List ℕ
 entry_bytes m (write x v) = 1 ∷ x ∷ flag m ∷ 0 ∷ quad_bytes v
 entry_bytes m (release l) = 2 ∷ l ∷ flag m ∷ 0 ∷ quad_bytes 0
+
+-- the entry of a cell and a value, where there is one
+abbrev pub entry_in : Pending (ℕ × ℕ) → Option Entry
+entry_in None = none
+entry_in (Some e) = some (entry_of e.0 e.1)
 
 -- a place for an entry: zero where there is none
 abbrev pub place_bytes : Bool → Option Entry → List ℕ

@@ -11,14 +11,14 @@ use sheet_rows::put::put_quad;
 pub fn flag(b: bool) -> u8
     ensures { result ≡ flag b }
 {
-    if b { 1 } else { 0 }
+    u8::from(b)
 }
 
 // Word i of a row; 0 past its end.
 pub fn word_at(words: &[u32], i: usize) -> usize
     ensures { result ≡ get_or words.now i 0 }
 {
-    if i < words.len() { wide(words[i]) } else { 0 }
+    wide(words.get(i).copied().unwrap_or(0))
 }
 
 // The first n words of a row, each in 32 bits; 0 past its end.
@@ -28,10 +28,8 @@ pub fn put_table(out: &mut [u8], at: usize, words: &[u32], n: usize) -> usize
         (in_turn (λ i. quad_bytes (get_or words.now i 0)) n) out.new result }
 {
     let mut next = at;
-    let mut i = 0;
-    while i < n {
+    for i in 0..n {
         next = put_quad(out, next, word_at(words, i));
-        i += 1;
     }
     next
 }

@@ -17,6 +17,17 @@ use machine_state::state::{COUNTS, LANES, SHARED, State};
 use sheet_rows::number::wide;
 use sheet_rows::put::{put_four, put_quad};
 
+// A lane of zeros.
+const NONE: Lane = Lane {
+    at: 0,
+    registers: [0; 8],
+    cells: [0; 64],
+    values: [0; 64],
+    len: 0,
+    low: 0,
+    high: 0,
+};
+
 // A number of 64 bits.
 fn put_double(out: &mut [u8], at: usize, n: usize) -> usize
     requires { at + 8 ≤ length out.old }
@@ -42,10 +53,8 @@ fn put_memory(out: &mut [u8], at: usize, state: &State) -> usize
         (in_turn (λ i. quad_bytes (get_or (state_in state.now).memory i 0)) 16) out.new result }
 {
     let mut next = at;
-    let mut x = 0u8;
-    while x < 16 {
+    for x in 0..16 {
         next = put_quad(out, next, wide(memory_at(state, x)));
-        x += 1;
     }
     next
 }
@@ -79,18 +88,9 @@ fn write_lane_at(out: &mut [u8], start: usize, t: usize, state: &State) -> usize
         (state_lane (lane_at (state_in state.now) t)) out.new result }
 {
     if t < wide(state[SHARED][COUNTS][LANES]) {
-        return write_lane(out, start, take(state, t));
+        return write_lane(out, start, &take(state, t));
     }
-    let none = Lane {
-        at: 0,
-        registers: [0; 8],
-        cells: [0; 64],
-        values: [0; 64],
-        len: 0,
-        low: 0,
-        high: 0,
-    };
-    write_lane(out, start, none)
+    write_lane(out, start, &NONE)
 }
 
 // The record at the front of `out`; what lies behind it stays.
@@ -102,9 +102,7 @@ pub fn write_state(out: &mut [u8], finished: bool, done: usize, waited: usize, s
         out.old }
 {
     let mut next = write_head(out, finished, done, waited, state);
-    let mut t = 0;
-    while t < 4 {
+    for t in 0..4 {
         next = write_lane_at(out, next, t, state);
-        t += 1;
     }
 }

@@ -9,6 +9,7 @@ use crate::state::{
     CELLS, HEAD, HIGHMARKS, LENGTH, MARKS, POSITION, State, VALUES, put_word, word_at,
 };
 use machine_lane::lane::Lane;
+use machine_lane::marks::whole;
 
 // The position of lane t.
 pub fn position(state: &State, t: usize) -> u32
@@ -31,7 +32,7 @@ pub fn register(state: &State, t: usize, a: u8) -> u32
     requires { Lies state.now t }
     ensures { result ≡ get_or (lane_of state.now t).regs a 0 }
 {
-    let i = a as usize;
+    let i = usize::from(a);
     if i < 8 { word_at(state, t, HEAD, i) } else { 0 }
 }
 
@@ -40,8 +41,7 @@ pub fn count(state: &State, t: usize) -> usize
     requires { Lies state.now t }
     ensures { (result ≡ length (lane_of state.now t).pending) × (result ≤ 64) }
 {
-    let n = word_at(state, t, HEAD, LENGTH) as usize;
-    if n < 64 { n } else { 64 }
+    (word_at(state, t, HEAD, LENGTH) as usize).min(64)
 }
 
 // The marks in the pending list of lane t.
@@ -49,25 +49,19 @@ pub fn marks(state: &State, t: usize) -> u64
     requires { t < 4 }
     ensures { result ≡ (lane_of state.now t).control.marks }
 {
-    let low = word_at(state, t, HEAD, MARKS) as u64;
-    let high = word_at(state, t, HEAD, HIGHMARKS) as u64;
-    low + 4294967296 * high
+    whole(
+        word_at(state, t, HEAD, MARKS),
+        word_at(state, t, HEAD, HIGHMARKS),
+    )
 }
 
 fn registers(state: &State, t: usize) -> [u32; 8]
     requires { t < 4 }
     ensures { result ≡ firsts 8 (word_at state.now t HEAD) }
 {
-    [
-        state[t][HEAD][0],
-        state[t][HEAD][1],
-        state[t][HEAD][2],
-        state[t][HEAD][3],
-        state[t][HEAD][4],
-        state[t][HEAD][5],
-        state[t][HEAD][6],
-        state[t][HEAD][7],
-    ]
+    let mut r = [0; 8];
+    r.copy_from_slice(&state[t][HEAD][..8]);
+    r
 }
 
 // Lane t as a whole.
@@ -75,14 +69,11 @@ pub fn take(state: &State, t: usize) -> Lane
     requires { Lies state.now t }
     ensures { result ≡ stored_in (get_or state.now t []) }
 {
-    let r = registers(state, t);
-    let c = state[t][CELLS];
-    let v = state[t][VALUES];
     Lane {
         at: word_at(state, t, HEAD, POSITION),
-        registers: r,
-        cells: c,
-        values: v,
+        registers: registers(state, t),
+        cells: state[t][CELLS],
+        values: state[t][VALUES],
         len: word_at(state, t, HEAD, LENGTH),
         low: word_at(state, t, HEAD, MARKS),
         high: word_at(state, t, HEAD, HIGHMARKS),
@@ -113,7 +104,7 @@ fn set_register(t: usize, a: u8, value: u32, state: &mut State)
     ensures { Became state.old t (with_register (lane_of state.old t) a value)
         state.new }
 {
-    let i = a as usize;
+    let i = usize::from(a);
     if i < 8 {
         put_word(t, HEAD, i, value, state);
     }
@@ -130,33 +121,29 @@ pub fn write_register(t: usize, a: u8, value: u32, next: u32, state: &mut State)
 }
 
 // The lane's newest entry becomes the newest of lane t, which has one fewer.
-fn put_newest(lane: Lane, t: usize, state: &mut State)
-    requires { Lies state.old t × (lane.len ≡ suc (stored_in (get_or state.old t [])).len) × (lane.len ≤ 64) }
+fn put_newest(lane: &Lane, t: usize, state: &mut State)
+    requires { Lies state.old t × (lane.now.len ≡ suc (stored_in (get_or state.old t [])).len) × (lane.now.len ≤ 64) }
     ensures { Became state.old t
         (with_pending (lane_of state.old t)
         (append_entry (lane_of state.old t).pending
-        (some (entry_of (get_or lane.cells (stored_in (get_or state.old t [])).len 0)
-        (get_or lane.values (stored_in (get_or state.old t [])).len 0)))))
+        (some (entry_of (get_or lane.now.cells (stored_in (get_or state.old t [])).len 0)
+        (get_or lane.now.values (stored_in (get_or state.old t [])).len 0)))))
         state.new }
 {
     let n = lane.len as usize - 1;
-    let c = lane.cells;
-    let v = lane.values;
-    put_word(t, CELLS, n, c[n], state);
-    put_word(t, VALUES, n, v[n], state);
+    put_word(t, CELLS, n, lane.cells[n], state);
+    put_word(t, VALUES, n, lane.values[n], state);
     put_word(t, HEAD, LENGTH, lane.len, state);
 }
 
 // The lane's pending list becomes that of lane t.
-pub fn put_list(lane: Lane, t: usize, state: &mut State)
+pub fn put_list(lane: &Lane, t: usize, state: &mut State)
     requires { Lies state.old t }
     ensures { Became state.old t
-        (with_pending (lane_of state.old t) (lane_in lane).pending) state.new }
+        (with_pending (lane_of state.old t) (lane_in lane.now).pending) state.new }
 {
-    let c = lane.cells;
-    state[t][CELLS] = c;
-    let v = lane.values;
-    state[t][VALUES] = v;
+    state[t][CELLS] = lane.cells;
+    state[t][VALUES] = lane.values;
     put_word(t, HEAD, LENGTH, lane.len, state);
 }
 
@@ -168,6 +155,8 @@ pub fn issue(t: usize, cell: u32, value: u32, next: u32, state: &mut State)
         (append_entry (lane_of state.old t).pending (some (entry_of cell value)))) next)
         state.new }
 {
-    put_newest(take(state, t).append(cell, value), t, state);
+    let mut lane = take(state, t);
+    lane.append(cell, value);
+    put_newest(&lane, t, state);
     go(t, next, state);
 }

@@ -25,25 +25,14 @@ pub fn may_commit(
         (lane_of state.now t).control.marks (take index (lane_of state.now t).pending)
         (get_or (lane_of state.now t).pending index no_entry) }
 {
+    let cell = word_at(state, t, CELLS, index);
     match machine {
-        Machine::Source => {
-            let cell = word_at(state, t, CELLS, index);
-            if is_sync(volatile, cell) {
-                index == 0
-            } else {
-                !has_older(state, t, index, cell)
-            }
+        Machine::Source if is_sync(volatile, cell) => index == 0,
+        Machine::Source => !has_older(state, t, index, cell),
+        Machine::Target(Model::Tso) => index == 0,
+        Machine::Target(Model::Pso) => {
+            no_mark(index, marks(state, t)) && !has_older(state, t, index, cell)
         }
-        Machine::Target(model) => match model {
-            Model::Tso => index == 0,
-            Model::Pso => {
-                if no_mark(index, marks(state, t)) {
-                    !has_older(state, t, index, word_at(state, t, CELLS, index))
-                } else {
-                    false
-                }
-            }
-        },
     }
 }
 
@@ -54,18 +43,8 @@ pub fn sees(machine: Machine, volatile: &[bool], state: &State, t: usize, x: u32
         (lane_of state.now t).pending x m }
 {
     match machine {
-        Machine::Source => {
-            if is_volatile(volatile, x) {
-                m
-            } else {
-                let found = take(state, t).newest(x, m);
-                found.value
-            }
-        }
-        Machine::Target(_) => {
-            let found = take(state, t).newest(x, m);
-            found.value
-        }
+        Machine::Source if is_volatile(volatile, x) => m,
+        _ => take(state, t).newest(x, m),
     }
 }
 
@@ -76,13 +55,7 @@ pub fn may_load(machine: Machine, volatile: &[bool], state: &State, t: usize, x:
         (lane_of state.now t).pending x }
 {
     match machine {
-        Machine::Source => {
-            if is_volatile(volatile, x) {
-                !has_sync(volatile, state, t)
-            } else {
-                true
-            }
-        }
+        Machine::Source => !(is_volatile(volatile, x) && has_sync(volatile, state, t)),
         Machine::Target(_) => true,
     }
 }
@@ -104,14 +77,9 @@ pub fn may_pass(machine: Machine, barrier: Barrier, state: &State, t: usize) -> 
     requires { Lies state.now t }
     ensures { result ≡ may_pass machine barrier (lane_of state.now t).pending }
 {
-    match machine {
-        Machine::Source => true,
-        Machine::Target(_) => match barrier {
-            Barrier::LL => true,
-            Barrier::LS => true,
-            Barrier::SS => true,
-            Barrier::SL => count(state, t) == 0,
-        },
+    match (machine, barrier) {
+        (Machine::Target(_), Barrier::SL) => count(state, t) == 0,
+        _ => true,
     }
 }
 
@@ -119,16 +87,8 @@ pub fn may_pass(machine: Machine, barrier: Barrier, state: &State, t: usize) -> 
 pub fn leaves_mark(machine: Machine, barrier: Barrier) -> bool
     ensures { result ≡ leaves_mark machine barrier }
 {
-    match machine {
-        Machine::Source => false,
-        Machine::Target(model) => match model {
-            Model::Tso => false,
-            Model::Pso => match barrier {
-                Barrier::LL => false,
-                Barrier::LS => false,
-                Barrier::SS => true,
-                Barrier::SL => false,
-            },
-        },
-    }
+    matches!(
+        (machine, barrier),
+        (Machine::Target(Model::Pso), Barrier::SS)
+    )
 }

@@ -14,12 +14,10 @@ pub fn has_sync(volatile: &[bool], state: &State, t: usize) -> bool
     ensures { result ≡ any_sync (flags volatile.now) (lane_of state.now t).pending }
 {
     let n = count(state, t);
-    let mut i = 0;
-    while i < n {
+    for i in 0..n {
         if is_sync(volatile, word_at(state, t, CELLS, i)) {
             return true;
         }
-        i += 1;
     }
     false
 }
@@ -29,12 +27,10 @@ pub fn has_older(state: &State, t: usize, n: usize, cell: u32) -> bool
     requires { Lies state.now t × (n ≤ length (lane_of state.now t).pending) }
     ensures { (v : ℕ) → result ≡ any_same (entry_of cell v) (take n (lane_of state.now t).pending) }
 {
-    let mut i = 0;
-    while i < n {
+    for i in 0..n {
         if word_at(state, t, CELLS, i) == cell {
             return true;
         }
-        i += 1;
     }
     false
 }

@@ -9,13 +9,12 @@ fn shared_at(state: &State, j: usize, k: usize, i: u8) -> u32
     requires { Sized state.now × (j < 3) × (k < 64) }
     ensures { result ≡ get_or (take (count_of state.now k) (row_at state.now 4 j)) i 0 }
 {
-    let n = i as usize;
-    if n < 64 {
-        if (i as u32) < word_at(state, SHARED, COUNTS, k) {
-            return word_at(state, SHARED, j, n);
-        }
+    let n = usize::from(i);
+    if n < 64 && u32::from(i) < word_at(state, SHARED, COUNTS, k) {
+        word_at(state, SHARED, j, n)
+    } else {
+        0
     }
-    0
 }
 
 // Word i of shared row j becomes a value; past the row's end nothing does.
@@ -28,6 +27,9 @@ fn set_shared(j: usize, i: u32, value: u32, state: &mut State)
         put_word(SHARED, j, n, value, state);
     }
 }
+
+// Memory and the lock words have functions of their own: each has a part of the state in its contract, and no more code
+// than a call.
 
 // The value of location x; 0 past the last one.
 pub fn memory_at(state: &State, x: u8) -> u32

@@ -25,10 +25,11 @@ pub(crate) fn load(
     ensures { Carried machine (flags volatile.now) (op (Load a x)) t
         state.old result state.new }
 {
-    if !may_load(machine, volatile, state, t, x as u32) {
+    let cell = u32::from(x);
+    if !may_load(machine, volatile, state, t, cell) {
         return Moved::Waited;
     }
-    let value = sees(machine, volatile, state, t, x as u32, memory_at(state, x));
+    let value = sees(machine, volatile, state, t, cell, memory_at(state, x));
     let next = next_position(state, t);
     write_register(t, a, value, next, state);
     Moved::Done
@@ -42,6 +43,6 @@ pub(crate) fn store(a: u8, x: u8, t: usize, state: &mut State) -> Moved
 {
     let value = register(state, t, a);
     let next = next_position(state, t);
-    issue(t, x as u32, value, next, state);
+    issue(t, u32::from(x), value, next, state);
     Moved::Done
 }

@@ -58,13 +58,14 @@ pub fn commit(
         return Moved::Waited;
     }
     // the list is taken before anything is written
-    let rest = take(state, t).commit(index);
+    let mut rest = take(state, t);
+    rest.commit(index);
     settle(
         word_at(state, t, CELLS, index),
         word_at(state, t, VALUES, index),
         state,
     );
-    put_list(rest, t, state);
+    put_list(&rest, t, state);
     shift_marks(t, state);
     Moved::Done
 }

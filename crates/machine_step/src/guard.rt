@@ -18,14 +18,11 @@ pub(crate) fn lock(machine: Machine, volatile: &[bool], l: u8, t: usize, state: 
     ensures { Carried machine (flags volatile.now) (op (Lock l)) t
         state.old result state.new }
 {
-    if lock_at(state, l) != 0 {
-        return Moved::Waited;
-    }
-    if !may_lock(machine, volatile, state, t) {
+    if lock_at(state, l) != 0 || !may_lock(machine, volatile, state, t) {
         return Moved::Waited;
     }
     let next = next_position(state, t);
-    set_lock(l as u32, t as u32 + 1, state);
+    set_lock(u32::from(l), t as u32 + 1, state);
     go(t, next, state);
     Moved::Done
 }
@@ -40,6 +37,6 @@ pub(crate) fn unlock(l: u8, t: usize, state: &mut State) -> Moved
         return Moved::ReleaseNotHeld;
     }
     let next = next_position(state, t);
-    issue(t, 16 + l as u32, 0, next, state);
+    issue(t, 16 + u32::from(l), 0, next, state);
     Moved::Done
 }

@@ -44,11 +44,11 @@ pub(crate) fn skip(a: u8, target: u32, t: usize, state: &mut State) -> Moved
     ensures { (m : Machine) (f : ℕ → Bool)
         → Carried m f (op (Skip a target)) t state.old result state.new }
 {
-    if register(state, t, a) == 0 {
-        go(t, target, state);
-        return Moved::Done;
-    }
-    let next = next_position(state, t);
+    let next = if register(state, t, a) == 0 {
+        target
+    } else {
+        next_position(state, t)
+    };
     go(t, next, state);
     Moved::Done
 }

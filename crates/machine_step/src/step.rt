@@ -58,6 +58,6 @@ pub fn move_lane(
     if choice == 0 {
         return carry_next(machine, volatile, sheet, first, count, t, state);
     }
-    let index = choice as usize - 1;
+    let index = usize::from(choice) - 1;
     commit(machine, volatile, index, t, state)
 }

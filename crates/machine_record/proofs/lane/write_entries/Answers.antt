@@ -1,54 +1,54 @@
 -- `machine_record::lane::write_entries` meets its contract. What is written is the places passed.
-use mathlib.Core.Path.{◌≡◌, ap, ap₂}
+use mathlib.Core.Path.{◌≡◌, ap, ap₂, ◌∙◌}
 use native.Mathlib.Omega.{arith}
-use lib.ListN.{length, get_elem?, take}
+use lib.ListN.{get_elem?}
 use Rattle.sheet_format.specs.Put.{in_turn}
 use Rattle.sheet_format.proofs.Laws.Put.{puts_as, puts_length}
 use Rattle.machine_spec.specs.Marks.{mark_at}
-use Rattle.machine_lane.specs.Lanes.{entries_of}
-use Rattle.machine_record.specs.Lanes.{place_bytes, entries_bytes}
+use Rattle.machine_lane.specs.Lanes.{lane_in}
+use Rattle.machine_record.specs.Lanes.{entry_in, place_bytes, entries_bytes}
 use Rattle.machine_record.proofs.LaneSizes.{place_length}
-use Rattle.machine_record.proofs.Laws.Entries.{place_is}
+use Rattle.machine_record.proofs.Laws.Entries.{place_there, place_free}
 use Rattle.sheet_format.proofs.Laws.Turn.{turn_none, turn_on_lem, turn_end}
-use borrow.Author.Tests.{ltb-true}
 use Rattle.machine_record.proofs.lane.write_entries.Goals as goal
+use Rattle.machine_record.proofs.lane.write_entries.Goals.{then-i-len, else-i-len}
 
 pub loop-i-init : goal.loop-i-init
-loop-i-init c = (omega arith, turn_none _)
-
-pub mark_at-requires : goal.mark_at-requires
-mark_at-requires c = omega (arith, c.loop-i-test.true)
+loop-i-init c = turn_none _
 
 pub write_place-next-requires : goal.write_place-next-requires
 write_place-next-requires c =
-    let es = take c.args.len (entries_of c.args.cells c.args.values) in
+    let l = lane_in c.args.lane.now in
     let end =
-    turn_end (λ k. place_bytes (mark_at c.args.marks k) (get_elem? es k)) 8 c.loop-i.i
-    (λ k. place_length (mark_at c.args.marks k) (get_elem? es k)) c.loop-i.invariant.1 in
+    turn_end (λ k. place_bytes (mark_at l.control.marks k) (get_elem? l.pending k)) 8 c.loop-i.i
+    (λ k. place_length (mark_at l.control.marks k) (get_elem? l.pending k)) c.loop-i.invariant in
     record {
-      room = omega (arith, end, puts_length c.loop-i.invariant.1, c.loop-i-test.true);
-      small =
-          λ e. c.requires.small c.loop-i.i (ltb-true _ _ e);
+      room = omega (arith, end, puts_length c.loop-i.invariant);
+      small = elim c.if-i-len.branch [
+        | then-i-len w ↦ rw w.entry-is (c.requires.small c.loop-i.i (omega arith))
+        | else-i-len w ↦ rw w.entry-is tt
+      ];
     }
-
-pub loop-i-smaller : goal.loop-i-smaller
-loop-i-smaller c = omega (arith, c.loop-i-test.true)
 
 pub loop-i-preserved : goal.loop-i-preserved
 loop-i-preserved c =
-    let es = take c.args.len (entries_of c.args.cells c.args.values) in
-    let full : length c.args.cells ≡ 64 = omega arith in
-    let whole : length c.args.values ≡ 64 = omega arith in
-    let place = ap₂ place_bytes c.mark_at.ensures
-    (place_is c.args.cells c.args.values c.args.len c.loop-i.i full whole c.loop-i-test.true) in (
-      omega (arith, c.loop-i-test.true),
-      turn_on_lem (λ k. place_bytes (mark_at c.args.marks k) (get_elem? es k)) c.loop-i.i c.loop-i.invariant.1
-          (puts_as place c.write_place-next.ensures),
-    )
+    let lane = c.args.lane.now in
+    let l = lane_in lane in
+    let mark = c.mark_at.ensures ∙ ap (λ k. mark_at k c.loop-i.i) c.marks-marks.ensures in
+    let entry : entry_in c.if-i-len.entry ≡ get_elem? l.pending c.loop-i.i = elim c.if-i-len.branch [
+      | then-i-len w ↦ ap entry_in w.entry-is
+          ∙ place_there lane.cells lane.values lane.len c.loop-i.i (omega arith) (omega arith) (omega arith) (omega arith)
+      | else-i-len w ↦ ap entry_in w.entry-is
+          ∙ place_free lane.cells lane.values lane.len c.loop-i.i (omega arith) (omega arith) (omega arith)
+    ] in
+    let place = ap₂ place_bytes mark entry in
+    turn_on_lem (λ k. place_bytes (mark_at l.control.marks k) (get_elem? l.pending k)) c.loop-i.i c.loop-i.invariant
+    (puts_as place c.write_place-next.ensures)
 
 pub returns : goal.returns
 unfolding entries_bytes
 returns c =
-    let es = take c.args.len (entries_of c.args.cells c.args.values) in
-    let last : c.loop-i.i ≡ 64 = omega (arith, c.loop-i-test.false) in
-    puts_as (ap (in_turn (λ k. place_bytes (mark_at c.args.marks k) (get_elem? es k))) last) c.loop-i.invariant.1
+    let l = lane_in c.args.lane.now in
+    let last : c.loop-i.i ≡ 64 = omega arith in
+    puts_as (ap (in_turn (λ k. place_bytes (mark_at l.control.marks k) (get_elem? l.pending k))) last)
+    c.loop-i.invariant

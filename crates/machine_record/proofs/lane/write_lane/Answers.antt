@@ -4,8 +4,7 @@ use mathlib.Core.List.{◌++◌}
 use native.Mathlib.Omega.{arith}
 use Rattle.sheet_format.specs.Bytes.{word_bytes}
 use Rattle.sheet_format.proofs.Laws.Put.{puts_on, puts_as, puts_length}
-use Rattle.machine_lane.specs.Lanes.{lane_in}
-use Rattle.machine_record.specs.Lanes.{entries_bytes, state_lane}
+use Rattle.machine_record.specs.Lanes.{state_lane}
 use Rattle.sheet_format.specs.Put.{in_turn}
 use Rattle.machine_record.proofs.lane.write_lane.Goals as goal
 
@@ -27,8 +26,6 @@ write_entries-requires c =
 pub returns : goal.returns
 unfolding state_lane
 returns c =
-    let head = puts_as (ap (λ n. word_bytes c.args.lane.at ++ word_bytes n) c.count.ensures.0)
+    let head = puts_as (ap (λ n. word_bytes c.args.lane.now.at ++ word_bytes n) c.count.ensures.0)
     c.put_words-next.ensures in
-    puts_on (puts_on head c.put_table-next.ensures)
-    (puts_as (ap (λ ks. entries_bytes 64 ks (lane_in c.args.lane).pending) c.marks.ensures)
-    c.write_entries.ensures)
+    puts_on (puts_on head c.put_table-next.ensures) c.write_entries.ensures

@@ -19,13 +19,13 @@ write_head-next-requires c = record {
 }
 
 pub loop-t-init : goal.loop-t-init
-loop-t-init c = (omega arith, turn_none _)
+loop-t-init c = turn_none _
 
 pub write_lane_at-next-requires : goal.write_lane_at-next-requires
 write_lane_at-next-requires c =
     let room = lane_room c.args.finished c.args.done c.args.waited (state_in c.args.state.now) c.loop-t.t
     c.loop-t-test.true c.requires.room
-    c.write_head-next.ensures c.loop-t.invariant.1 in
+    c.write_head-next.ensures c.loop-t.invariant in
     record {
       room = room;
       lane = record { lane = c.loop-t-test.true; sized = c.requires.sized };
@@ -33,15 +33,10 @@ write_lane_at-next-requires c =
           c.requires.small.entries;
     }
 
-pub loop-t-smaller : goal.loop-t-smaller
-loop-t-smaller c = omega (arith, c.loop-t-test.true)
-
 pub loop-t-preserved : goal.loop-t-preserved
-loop-t-preserved c = (
-  omega (arith, c.loop-t-test.true),
-  turn_on_lem (λ k. state_lane (lane_at (state_in c.args.state.now) k)) c.loop-t.t c.loop-t.invariant.1
-      c.write_lane_at-next.ensures,
-)
+loop-t-preserved c =
+    turn_on_lem (λ k. state_lane (lane_at (state_in c.args.state.now) k)) c.loop-t.t c.loop-t.invariant
+    c.write_lane_at-next.ensures
 
 pub returns : goal.returns
 returns c =
@@ -49,4 +44,4 @@ returns c =
     let last : c.loop-t.t ≡ 4 = omega (arith, c.loop-t-test.false) in
     record_put c.args.finished c.args.done c.args.waited state c.requires.room
     c.write_head-next.ensures
-    (puts_as (ap (in_turn (λ k. state_lane (lane_at state k))) last) c.loop-t.invariant.1)
+    (puts_as (ap (in_turn (λ k. state_lane (lane_at state k))) last) c.loop-t.invariant)

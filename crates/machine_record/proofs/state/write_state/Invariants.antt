@@ -1,5 +1,4 @@
 -- `machine_record::state::write_state` meets its contract. Behind the head are the lanes passed.
-use Prim.Native.Nat.{◌≤◌, ◌-◌}
 use Rattle.sheet_format.specs.Put.{Puts, in_turn}
 use Rattle.machine_spec.specs.State.{lane_at}
 use Rattle.machine_state.specs.States.{state_in}
@@ -7,8 +6,5 @@ use Rattle.machine_record.specs.Lanes.{state_lane}
 use Rattle.machine_record.proofs.state.write_state.Given as goal
 
 abbrev pub invariant-loop-t : goal.invariant-loop-t
-invariant-loop-t l = (l.t ≤ 4) × Puts l.initial.out l.initial.next
+invariant-loop-t l = Puts l.initial.out l.initial.next
     (in_turn (λ k. state_lane (lane_at (state_in l.state) k)) l.t) l.out l.next
-
-abbrev pub decreases-loop-t : goal.decreases-loop-t
-decreases-loop-t l = 4 - l.t

@@ -1,7 +1,7 @@
 -- `machine_state::held::put_list` meets its contract.
 use mathlib.Core.List.{[]}
 use lib.ListN.{get_or, set}
-use Rattle.machine_lane.proofs.Laws.Lanes.{cells_length, values_length}
+use native.Mathlib.Omega.{arith}
 use Rattle.machine_state.specs.States.{CELLS, VALUES}
 use Rattle.machine_state.proofs.Laws.States.{again, came}
 use Rattle.machine_state.proofs.Laws.Writes.{list_set}
@@ -10,7 +10,7 @@ use Rattle.machine_state.proofs.held.put_list.Goals as goal
 pub returns : goal.returns
 returns c =
     came c.put_word.ensures
-    (list_set c.args.state.now c.args.t c.requires _ c.args.lane.cells c.args.lane.values c.args.lane.len
-    (cells_length c.args.lane _ c.well_formed.0) (values_length c.args.lane _ c.well_formed.0)
-    (again c.args.state.now c.args.t c.requires (set (get_or c.args.state.now c.args.t []) CELLS c.args.lane.cells)
-    (λ b. set b VALUES c.args.lane.values)))
+    (list_set c.args.state.now c.args.t c.requires _ c.args.lane.now.cells c.args.lane.now.values c.args.lane.now.len
+    (omega arith) (omega arith)
+    (again c.args.state.now c.args.t c.requires (set (get_or c.args.state.now c.args.t []) CELLS c.args.lane.now.cells)
+    (λ b. set b VALUES c.args.lane.now.values)))

@@ -13,7 +13,7 @@ use borrow.Author.Rules.{rules}
 use Rattle.machine_state.proofs.search.has_older.Goals as goal
 
 pub loop-i-init : goal.loop-i-init
-loop-i-init c = (omega arith, λ v. refl)
+loop-i-init c = λ v. refl
 
 pub word_at-requires : goal.word_at-requires
 word_at-requires c =
@@ -31,21 +31,19 @@ returns-then-word_at-cell c =
     c.requires.1
     (eq-eqb _ _ c.if-word_at-cell.true) in
     let e = entry_of c.args.cell v in
-    sym (found (same_target e) (any_same e) refl (λ x r. refl) es c.loop-i.i inside test) ∙ c.loop-i.invariant.1 v
+    sym (found (same_target e) (any_same e) refl (λ x r. refl) es c.loop-i.i inside test) ∙ c.loop-i.invariant v
 
 pub loop-i-preserved : goal.loop-i-preserved
 loop-i-preserved c =
     let es = take c.args.n (lane_of c.args.state.now c.args.t).pending in
     let low : c.loop-i.i < c.args.n = c.loop-i-test.true in
     let inside : c.loop-i.i < length es =
-    omega (arith, length-take c.args.n (lane_of c.args.state.now c.args.t).pending, c.requires.1) in (
-      omega arith,
-      λ v. let test = same_at c.args.state.now c.args.t c.loop-i.i _ c.word_at.ensures c.args.cell v c.args.n _ low
-          c.requires.1
-          (ne_eqb _ _ c.if-word_at-cell.false) in
-          let e = entry_of c.args.cell v in
-          sym (next (same_target e) (any_same e) refl (λ x r. refl) es c.loop-i.i inside test) ∙ c.loop-i.invariant.1 v,
-    )
+    omega (arith, length-take c.args.n (lane_of c.args.state.now c.args.t).pending, c.requires.1) in
+    λ v. let test = same_at c.args.state.now c.args.t c.loop-i.i _ c.word_at.ensures c.args.cell v c.args.n _ low
+    c.requires.1
+    (ne_eqb _ _ c.if-word_at-cell.false) in
+    let e = entry_of c.args.cell v in
+    sym (next (same_target e) (any_same e) refl (λ x r. refl) es c.loop-i.i inside test) ∙ c.loop-i.invariant v
 
 pub returns : goal.returns
 returns c =
@@ -53,4 +51,4 @@ returns c =
     let end : length es ≤ c.loop-i.i =
     omega (arith, length-take c.args.n (lane_of c.args.state.now c.args.t).pending) in
     λ v. let e = entry_of c.args.cell v in
-    sym (past (same_target e) (any_same e) refl (λ x r. refl) es c.loop-i.i end) ∙ c.loop-i.invariant.1 v
+    sym (past (same_target e) (any_same e) refl (λ x r. refl) es c.loop-i.i end) ∙ c.loop-i.invariant v

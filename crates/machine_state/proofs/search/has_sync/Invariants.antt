@@ -1,5 +1,4 @@
 -- `machine_state::search::has_sync` meets its contract.
-use Prim.Native.Nat.{◌≤◌, ◌-◌}
 use mathlib.Core.Path.{◌≡◌}
 use lib.ListN.{drop}
 use Rattle.machine_spec.specs.Entries.{any_sync}
@@ -8,8 +7,5 @@ use Rattle.machine_state.specs.States.{lane_of}
 use Rattle.machine_state.proofs.search.has_sync.Given as goal
 
 abbrev pub invariant-loop-i : goal.invariant-loop-i
-invariant-loop-i l = (l.i ≤ l.n) × (any_sync (flags l.volatile) (drop l.i (lane_of l.state l.t).pending)
-    ≡ any_sync (flags l.volatile) (lane_of l.state l.t).pending)
-
-abbrev pub decreases-loop-i : goal.decreases-loop-i
-decreases-loop-i l = l.n - l.i
+invariant-loop-i l = any_sync (flags l.volatile) (drop l.i (lane_of l.state l.t).pending)
+    ≡ any_sync (flags l.volatile) (lane_of l.state l.t).pending

@@ -15,4 +15,4 @@ pub returns : goal.returns
 returns c =
     let prog = read_rows c.args.count (drop c.args.first c.args.sheet.now) in
     made_commit c.args.machine (flags c.args.volatile.now) prog _ c.args.t c.args.choice c.if-choice-eq0.false
-    c.commit.ensures
+    (rw c.from-index.ensures at c.commit.ensures)

@@ -1,20 +1,15 @@
 -- `machine_lane::lane::Lane::commit` meets its contract.
-use mathlib.Core.Path.{◌≡◌, refl, ap, ◌∙◌}
-use Prim.Native.Nat.{suc, ◌≤◌, ◌<◌, ◌-◌}
-use native.Mathlib.Numerals.{add-one}
-use native.Mathlib.Omega.{arith}
-use lib.ListN.{length, take, length-set}
-use Rattle.laws.proofs.Parts.{take_length_take}
+use mathlib.Core.Path.{◌≡◌}
+use mathlib.Core.List.{[]}
+use lib.ListN.{length}
 use Rattle.machine_spec.specs.Entries.{without}
-use Rattle.machine_lane.specs.Lanes.{entries_of}
-use Rattle.machine_lane.proofs.Laws.Entries.{entries_length, moved_down, shifted}
-use Rattle.machine_lane.proofs.Laws.Lanes.{cells_length, values_length, lane_eq}
-use borrow.Author.Rules.{rules}
+use Rattle.machine_lane.specs.Lanes.{entries_of, lane_in, with_pending}
 use Rattle.machine_lane.proofs.lane.Lane.commit.Given as goal
 
 abbrev pub invariant-loop-i : goal.invariant-loop-i
-invariant-loop-i l = (length l.c ≡ 64) × (length l.v ≡ 64) × (l.index ≤ l.i) × (l.i ≤ l.last) × (l.last < 64)
-    × (without l.i (entries_of l.c l.v) ≡ without l.index (entries_of l.self.cells l.self.values))
-
-abbrev pub decreases-loop-i : goal.decreases-loop-i
-decreases-loop-i l = l.last - l.i
+invariant-loop-i l = record {
+  cells : length l.self.cells ≡ 64;
+  values : length l.self.values ≡ 64;
+  rest : with_pending (lane_in l.self) [] ≡ with_pending (lane_in l.fn.self) [];
+  moved : without l.i (entries_of l.self.cells l.self.values) ≡ without l.index (entries_of l.fn.self.cells l.fn.self.values);
+}

@@ -1,51 +1,39 @@
 -- `machine_lane::lane::Lane::newest` meets its contract.
 use mathlib.Core.Path.{◌≡◌, refl, ap, sym, ◌∙◌}
-use Prim.Native.Nat.{suc, ◌≤◌, ◌-◌}
+use Prim.Native.Nat.{suc, ◌-◌}
 use native.Mathlib.Omega.{arith}
 use borrow.Author.Tests.{eq-eqb, ne_eqb}
 use lib.ListN.{take}
 use Rattle.laws.proofs.Parts.{take_length_take}
 use Rattle.machine_spec.specs.Entries.{newest}
 use Rattle.machine_lane.specs.Lanes.{entries_of}
-use Rattle.machine_lane.proofs.Laws.Lanes.{cells_length, values_length}
 use Rattle.machine_lane.proofs.Laws.Searches.{newest_on}
-use borrow.Author.Rules.{rules}
 use Rattle.machine_lane.proofs.lane.Lane.newest.Goals as goal
 
 pub loop-i-init : goal.loop-i-init
 loop-i-init c =
-    let es = entries_of c.args.self.cells c.args.self.values in (
-      omega arith,
-      ap (newest c.args.cell c.args.otherwise)
-          (ap (λ n. take n es) c.count-i.ensures.0 ∙ take_length_take c.args.self.len es),
-    )
+    let es = entries_of c.args.self.now.cells c.args.self.now.values in
+    ap (newest c.args.cell c.args.otherwise)
+    (ap (λ n. take n es) c.count-i.ensures.0 ∙ take_length_take c.args.self.now.len es)
 
-pub returns-then-c-i : goal.returns-then-c-i
-returns-then-c-i c =
-    let es = entries_of c.args.self.cells c.args.self.values in
+pub returns-then-self-i : goal.returns-then-self-i
+returns-then-self-i c =
+    let l = c.args.self.now in
     let j = c.loop-i.i - 1 in
-    let on : c.loop-i.i ≡ suc j = omega arith in (
-      refl,
-      sym (sym c.loop-i.invariant.1 ∙ ap (λ n. newest c.args.cell c.args.otherwise (take n es)) on
-          ∙ newest_on c.args.self.cells c.args.self.values (cells_length c.args.self _ c.well_formed.0)
-          (values_length c.args.self _ c.well_formed.0) c.args.cell c.args.otherwise j (omega arith)
-          (omega arith)
-          ∙ rw (eq-eqb _ _ c.if-c-i.true) refl),
-    )
+    let on : c.loop-i.i ≡ suc j = omega arith in
+    sym (rw on at (sym c.loop-i.invariant)
+    ∙ newest_on l.cells l.values (omega arith) (omega arith) c.args.cell c.args.otherwise j (omega arith) (omega arith)
+    ∙ rw (eq-eqb _ _ c.if-self-i.true) refl)
 
 pub loop-i-preserved : goal.loop-i-preserved
 loop-i-preserved c =
-    let es = entries_of c.args.self.cells c.args.self.values in
+    let l = c.args.self.now in
     let j = c.loop-i.i - 1 in
-    let on : c.loop-i.i ≡ suc j = omega arith in (
-      omega arith,
-      sym (ap (λ n. newest c.args.cell c.args.otherwise (take n es)) on
-          ∙ newest_on c.args.self.cells c.args.self.values (cells_length c.args.self _ c.well_formed.0)
-          (values_length c.args.self _ c.well_formed.0) c.args.cell c.args.otherwise j (omega arith) (omega arith)
-          ∙ rw (ne_eqb _ _ c.if-c-i.false) refl) ∙ c.loop-i.invariant.1,
-    )
+    let on : c.loop-i.i ≡ suc j = omega arith in
+    sym (newest_on l.cells l.values (omega arith) (omega arith) c.args.cell c.args.otherwise j (omega arith) (omega arith)
+    ∙ rw (ne_eqb _ _ c.if-self-i.false) refl) ∙ rw on at c.loop-i.invariant
 
 pub returns : goal.returns
 returns c =
     let at_end : c.loop-i.i ≡ 0 = omega arith in
-    (refl, rw at_end at c.loop-i.invariant.1)
+    rw at_end at c.loop-i.invariant
