@@ -24,8 +24,7 @@ use Rattle.machine_state.specs.declared.state.Moved.TheVariants.{Waited, Done, R
 use Rattle.machine_state.specs.Ready.{Movable}
 use Rattle.machine_state.specs.States.{Blocks, state_in}
 use Rattle.machine_step.specs.Turns.{turns, Took}
-use Rattle.machine_run.specs.declared.run.Ended.TheVariants.{Ran}
-use Rattle.machine_run.specs.Runs.{RunnableBy, Ends, course}
+use Rattle.machine_run.specs.Runs.{RunnableBy, Ran, Ends, course}
 use Rattle.machine_run.proofs.Laws.Runs.{Counted, lane_moves, inside, run_refused, run_counted}
 use Rattle.machine_start.proofs.Answered.{not_refused}
 use Rattle.machine_start.proofs.Reached.{runs_by}
