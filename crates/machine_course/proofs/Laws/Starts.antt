@@ -15,13 +15,6 @@ use Rattle.machine_state.specs.States.{Blocks}
 use Rattle.machine_start.proofs.Laws.Start.{zeroed, zeroed_sized, zeroed_state}
 use Rattle.machine_course.specs.Stands.{Started, RefusedStart}
 
--- the numbers of lanes, locations and locks are written
-abbrev word_set : Blocks → ℕ → ℕ → Blocks
-word_set s i x = set s 4 (set (get_or s 4 []) 2 (set (get_or (get_or s 4 []) 2 []) i x))
-
-abbrev pub set_words : Blocks → ℕ → ℕ → ℕ → Blocks
-set_words s n ls ks = word_set (word_set (word_set s 0 n) 1 ls) 2 ks
-
 pub started_as : {e : Blocks} (n ls ks : ℕ) → e ≡ zeroed n ls ks → Started n ls ks e
 started_as n ls ks q =
     subst (Started n ls ks) (sym q)
@@ -30,17 +23,6 @@ started_as n ls ks q =
 pub started_by : {e : Blocks} {n ls ks p q r : ℕ} → n ≡ p → ls ≡ q → ks ≡ r → Started n ls ks e → Started p q r e
 started_by {e} {n} {ls} {ks} {p} {q} {r} a b c st =
     subst (λ y. Started y q r e) a (subst (λ y. Started n y r e) b (subst (λ y. Started n ls y e) c st))
-
--- the first five blocks of five
-pub all_blocks : (s : Blocks) (b : List (List ℕ)) → length s ≡ 5
-    → set (set (set (set (set s 0 b) 1 b) 2 b) 3 b) 4 b ≡ b ∷ b ∷ b ∷ b ∷ b ∷ []
-all_blocks [] b h = absurd (omega arith)
-all_blocks (x ∷ []) b h = absurd (omega arith)
-all_blocks (x ∷ y ∷ []) b h = absurd (omega arith)
-all_blocks (x ∷ y ∷ z ∷ []) b h = absurd (omega arith)
-all_blocks (x ∷ y ∷ z ∷ u ∷ []) b h = absurd (omega arith)
-all_blocks (x ∷ y ∷ z ∷ u ∷ v ∷ []) b h = refl
-all_blocks (x ∷ y ∷ z ∷ u ∷ v ∷ w ∷ s) b h = absurd (omega arith)
 
 -- ## a file that is refused for another reason than its header has a valid one
 
