@@ -35,23 +35,23 @@ pub struct Ran {
     pub end: End,
 }
 
-// The first words of memory.
+// The first words of memory. One function of both, generic in the size, is no plainer than two of three lines: it needs
+// a bound on the size, and one on the row.
 fn memory_of(state: &State) -> [u32; 16]
     ensures { result ≡ firsts 16 (word_at state.now SHARED MEMORY) }
 {
-    let w = state[SHARED][MEMORY];
-    [
-        w[0], w[1], w[2], w[3], w[4], w[5], w[6], w[7], w[8], w[9], w[10], w[11], w[12], w[13],
-        w[14], w[15],
-    ]
+    let mut memory = [0; 16];
+    memory.copy_from_slice(&state[SHARED][MEMORY][..16]);
+    memory
 }
 
 // The first of the lock words.
 fn locks_of(state: &State) -> [u32; 4]
     ensures { result ≡ firsts 4 (word_at state.now SHARED LOCKWORDS) }
 {
-    let w = state[SHARED][LOCKWORDS];
-    [w[0], w[1], w[2], w[3]]
+    let mut locks = [0; 4];
+    locks.copy_from_slice(&state[SHARED][LOCKWORDS][..4]);
+    locks
 }
 
 fn end_of(state: &State) -> End

@@ -10,6 +10,12 @@ pub struct Extent {
     pub locks: u32,
 }
 
+pub const NO_EXTENT: Extent = Extent {
+    lanes: 0,
+    locations: 0,
+    locks: 0,
+};
+
 // A header begins with the three numbers, a byte each.
 pub fn extent_of(header: &[u8]) -> Extent
     ensures lanes { result.lanes ≡ get_or header.now 0 0 }
