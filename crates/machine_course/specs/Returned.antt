@@ -15,9 +15,9 @@ use Rattle.machine_course.specs.declared.finish.Ran.{Ran}
 abbrev pub end_state : End → State
 end_state e =
     record {
-      lanes = take e.lanecount (map lane_in e.lanes);
-      memory = take e.locations e.memory;
-      locks = take e.lockwords e.locks;
+      lanes = take e.extent.lanes (map lane_in e.lanes);
+      memory = take e.extent.locations e.memory;
+      locks = take e.extent.locks e.locks;
     }
 
 -- a state that `End` has room for, and that can be written

@@ -23,9 +23,9 @@ answer_by m s mvs = run_by m s (verdict s) mvs
 pub record Prepared (m : Machine) (k : Program) (rows : List ℕ) (x : Course) (h : Blocks) : Type 0 where
   pub machine : x.machine ≡ m
   pub volatile : flags x.volatile ≡ volatile_in k
-  pub lanes : x.lanecount ≡ length k.lanes
-  pub locations : x.locations ≡ k.locations
-  pub locks : x.lockwords ≡ k.locks
+  pub lanes : x.extent.lanes ≡ length k.lanes
+  pub locations : x.extent.locations ≡ k.locations
+  pub locks : x.extent.locks ≡ k.locks
   pub held : count_of h 0 ≡ length k.lanes
   pub first : x.first ≡ (parts_in rows).from
   pub programs : (t : ℕ) → t < length k.lanes
@@ -68,9 +68,7 @@ counting x number done waited = record {
   volatile = x.volatile;
   first = x.first;
   count = x.count;
-  lanecount = x.lanecount;
-  locations = x.locations;
-  lockwords = x.lockwords;
+  extent = x.extent;
   number = number;
   rec = x.rec;
   done = done;
@@ -91,9 +89,7 @@ blocked m n r = record {
   volatile = replicate 16 false;
   first = replicate 4 0;
   count = replicate 4 0;
-  lanecount = 0;
-  locations = 0;
-  lockwords = 0;
+  extent = record { lanes = 0; locations = 0; locks = 0 };
   number = n;
   rec = r;
   done = 0;
@@ -106,9 +102,9 @@ pub record Sets (m : Machine) (mask : ℕ) (rows : List ℕ) (x : Course) : Type
   pub volatile : flags x.volatile ≡ is_volatile mask
   pub first : x.first ≡ (parts_in rows).from
   pub count : x.count ≡ (parts_in rows).count
-  pub lanes : x.lanecount ≡ get_or rows 0 0
-  pub locations : x.locations ≡ get_or rows 1 0
-  pub locks : x.lockwords ≡ get_or rows 2 0
+  pub lanes : x.extent.lanes ≡ get_or rows 0 0
+  pub locations : x.extent.locations ≡ get_or rows 1 0
+  pub locks : x.extent.locks ≡ get_or rows 2 0
   pub zeros : (x.number ≡ 0) × (x.rec ≡ 0) × (x.done ≡ 0) × (x.waited ≡ 0)
 
 -- ## the start

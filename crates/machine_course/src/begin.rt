@@ -6,10 +6,11 @@ ghost use Rattle.machine_course.specs.Stands.{Started, RefusedStart, Stands};
 use crate::course::{Course, Rows, blocked, underway};
 use crate::start::start;
 use machine_spec::Machine;
+use machine_start::extent::{NO_EXTENT, extent_of};
 use machine_start::program::program_of;
 use machine_state::state::State;
 use sheet_format::WriteResult;
-use sheet_rows::read::{byte_at, word_at};
+use sheet_rows::read::word_at;
 
 // A refused file's start is that of its header where this is valid.
 fn start_refused(file: &[u8], number: usize, state: &mut State)
@@ -17,12 +18,9 @@ fn start_refused(file: &[u8], number: usize, state: &mut State)
     ensures { RefusedStart file.now number state.new }
 {
     if number < 3 {
-        start(0, 0, 0, state);
+        start(NO_EXTENT, state);
     } else {
-        let lanes = byte_at(file, 0) as u32;
-        let locations = byte_at(file, 1) as u32;
-        let locks = byte_at(file, 2) as u32;
-        start(lanes, locations, locks, state);
+        start(extent_of(file), state);
     }
 }
 
@@ -33,10 +31,7 @@ fn start_rows(rows: &[u8], state: &mut State)
         (get_or rows.now 2 0)
         state.new }
 {
-    let lanes = byte_at(rows, 0) as u32;
-    let locations = byte_at(rows, 1) as u32;
-    let locks = byte_at(rows, 2) as u32;
-    start(lanes, locations, locks, state);
+    start(extent_of(rows), state);
 }
 
 // The program goes to `rows`, the start to `state`.

@@ -5,12 +5,12 @@ ghost use Rattle.machine_course.specs.Stands.{blocked, Sets};
 
 use machine_lane::flags::flags_of;
 use machine_spec::Machine;
+use machine_start::extent::{Extent, NO_EXTENT, extent_of};
 use machine_state::state::State;
 use sheet_rows::parts::parts_of;
-use sheet_rows::read::byte_at;
 
 // The machine and its program: the volatile locations, where the rows of each lane begin and how many they are, and
-// the numbers of lanes, locations and locks. Number 0 is a run that is under way, else it is that of a refusal, with
+// its numbers of lanes, locations and locks. Number 0 is a run that is under way, else it is that of a refusal, with
 // its record; then the moves done and waited.
 #[derive(Clone, Copy)]
 pub struct Course {
@@ -18,9 +18,7 @@ pub struct Course {
     pub volatile: [bool; 16],
     pub first: [usize; 4],
     pub count: [usize; 4],
-    pub lanecount: u32,
-    pub locations: u32,
-    pub lockwords: u32,
+    pub extent: Extent,
     pub number: usize,
     pub rec: usize,
     pub done: usize,
@@ -51,9 +49,7 @@ pub(crate) fn blocked(machine: Machine, number: usize, rec: usize) -> Course
         volatile: [false; 16],
         first: [0; 4],
         count: [0; 4],
-        lanecount: 0,
-        locations: 0,
-        lockwords: 0,
+        extent: NO_EXTENT,
         number,
         rec,
         done: 0,
@@ -66,21 +62,17 @@ pub(crate) fn underway(machine: Machine, mask: u32, rows: &[u8]) -> Course
     requires { mask < 65536 }
     ensures { Sets machine mask rows.now result }
 {
+    // The borrow checker does not cover an array that a field gets from a call or a field straight.
     let parts = parts_of(rows);
     let first = parts.from;
     let count = parts.count;
     let volatile = flags_of(mask);
-    let lanecount = byte_at(rows, 0) as u32;
-    let locations = byte_at(rows, 1) as u32;
-    let lockwords = byte_at(rows, 2) as u32;
     Course {
         machine,
         volatile,
         first,
         count,
-        lanecount,
-        locations,
-        lockwords,
+        extent: extent_of(rows),
         number: 0,
         rec: 0,
         done: 0,

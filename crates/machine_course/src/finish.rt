@@ -9,17 +9,16 @@ ghost use Rattle.machine_state.specs.States.{SHARED, MEMORY, LOCKWORDS, firsts, 
 use crate::course::Course;
 use machine_lane::lane::Lane;
 use machine_run::judge::finished;
+use machine_start::extent::Extent;
 use machine_state::held::take;
 use machine_state::state::{
     COUNTS, LANES, LOCATIONS, LOCKS, LOCKWORDS, MEMORY, SHARED, State, word_at,
 };
 
-// The end state: the first `lanecount` lanes, `locations` of memory and `lockwords` of the locks.
+// The end state: so many lanes, words of memory and lock words as its extent says, which are the first of those here.
 #[derive(Clone, Copy)]
 pub struct End {
-    pub lanecount: u32,
-    pub locations: u32,
-    pub lockwords: u32,
+    pub extent: Extent,
     pub lanes: [Lane; 4],
     pub memory: [u32; 16],
     pub locks: [u32; 4],
@@ -36,23 +35,23 @@ pub struct Ran {
     pub end: End,
 }
 
-// The first words of memory.
+// The first words of memory. One function of both, generic in the size, is no plainer than two of three lines: it needs
+// a bound on the size, and one on the row.
 fn memory_of(state: &State) -> [u32; 16]
     ensures { result ≡ firsts 16 (word_at state.now SHARED MEMORY) }
 {
-    let w = state[SHARED][MEMORY];
-    [
-        w[0], w[1], w[2], w[3], w[4], w[5], w[6], w[7], w[8], w[9], w[10], w[11], w[12], w[13],
-        w[14], w[15],
-    ]
+    let mut memory = [0; 16];
+    memory.copy_from_slice(&state[SHARED][MEMORY][..16]);
+    memory
 }
 
 // The first of the lock words.
 fn locks_of(state: &State) -> [u32; 4]
     ensures { result ≡ firsts 4 (word_at state.now SHARED LOCKWORDS) }
 {
-    let w = state[SHARED][LOCKWORDS];
-    [w[0], w[1], w[2], w[3]]
+    let mut locks = [0; 4];
+    locks.copy_from_slice(&state[SHARED][LOCKWORDS][..4]);
+    locks
 }
 
 fn end_of(state: &State) -> End
@@ -67,9 +66,11 @@ fn end_of(state: &State) -> End
     let memory = memory_of(state);
     let locks = locks_of(state);
     End {
-        lanecount: word_at(state, SHARED, COUNTS, LANES),
-        locations: word_at(state, SHARED, COUNTS, LOCATIONS),
-        lockwords: word_at(state, SHARED, COUNTS, LOCKS),
+        extent: Extent {
+            lanes: word_at(state, SHARED, COUNTS, LANES),
+            locations: word_at(state, SHARED, COUNTS, LOCATIONS),
+            locks: word_at(state, SHARED, COUNTS, LOCKS),
+        },
         lanes,
         memory,
         locks,
@@ -86,8 +87,7 @@ pub(crate) fn answer_finished(x: Course, state: &State) -> bool
     if x.number != 0 {
         return false;
     }
-    let count = x.count;
-    finished(state, &count)
+    finished(state, &x.count)
 }
 
 pub fn finish(x: Course, state: &State) -> Ran

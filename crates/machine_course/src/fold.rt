@@ -17,8 +17,8 @@ fn count(mut x: Course, moved: Moved) -> Course
     ensures { result ≡ counted x moved }
 {
     match moved {
-        Moved::Waited => x.waited = x.waited + 1,
-        Moved::Done => x.done = x.done + 1,
+        Moved::Waited => x.waited += 1,
+        Moved::Done => x.done += 1,
         Moved::ReleaseNotHeld => (),
     }
     x
@@ -45,17 +45,20 @@ pub fn fold_move(rows: &Rows, lane: u8, choice: u8, x: Course, state: &mut State
     if x.number != 0 {
         return x;
     }
-    let machine = x.machine;
-    if !legal_move(lane, choice, wide(x.lanecount), limit_of(machine)) {
-        start(x.lanecount, x.locations, x.lockwords, state);
+    if !legal_move(lane, choice, wide(x.extent.lanes), limit_of(x.machine)) {
+        start(x.extent, state);
         return stop(x);
     }
     let t = lane as usize;
-    let volatile = x.volatile;
-    let first = x.first;
-    let rows_of = x.count;
     let moved = move_lane(
-        machine, &volatile, rows, first[t], rows_of[t], t, choice, state,
+        x.machine,
+        &x.volatile,
+        rows,
+        x.first[t],
+        x.count[t],
+        t,
+        choice,
+        state,
     );
     count(x, moved)
 }

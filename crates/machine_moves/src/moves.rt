@@ -16,11 +16,8 @@ pub fn run_moves(rows: &Rows, ms: &[Move], mut x: Course, state: &mut State) -> 
     ensures { (s : List ℕ) (m : Machine) → Stands s m [] rows.now x state.old
         → Stands s m (moves_of ms.now) rows.now result state.new }
 {
-    let mut i = 0;
-    while i < ms.len() {
-        let m = ms[i];
+    for m in ms {
         x = fold_move(rows, m.lane, m.choice, x, state);
-        i += 1;
     }
     x
 }

@@ -2,4 +2,5 @@
 -- Laws by subject.
 pub mod Runs
 pub mod Legal
+pub mod Below
 pub mod Finished

@@ -1,5 +1,6 @@
 -- Runs of the code over the bytes of a schedule: which it can run, and what its answer says of the outcome.
-use Rattle.std.specs.Prelude.{ℕ, ◌+◌, ◌*◌, ◌≤◌, ◌<◌, ◌≡◌, Bool, List, [], length, get_or, take, drop}
+use Rattle.std.specs.Prelude.{ℕ, ◌+◌, ◌*◌, ◌≤◌, ◌<◌, ◌≡◌, Bool, List, [], length, get_or, take, drop, Ok, Err}
+use Rattle.std.specs.declared.result.Result.{Result}
 use Rattle.std.proofs.Math.Option.{some}
 use Rattle.std.proofs.Math.ListN.{get_elem?}
 use Rattle.sheet_format.specs.Layout.{Instr, rank}
@@ -7,8 +8,8 @@ use Rattle.sheet_format.specs.Read.{read_rows}
 use Rattle.machine_spec.specs.Schedule.{Move}
 use Rattle.machine_spec.specs.State.{Loaded, Run, Outcome, ran, refused, lane_at, run, begin}
 use Rattle.machine_spec.specs.declared.Machine.{Machine}
-use Rattle.machine_run.specs.declared.run.Ended.{Ended}
-use Rattle.machine_run.specs.declared.run.Ended.TheVariants.{Ran, Refused}
+use Rattle.machine_run.specs.declared.run.Tally.{Tally}
+use Rattle.machine_run.specs.declared.run.Unheld.{Unheld}
 use Rattle.machine_state.specs.Ready.{LaneReady}
 use Rattle.machine_state.specs.States.{Blocks, count_of, state_in, Sized}
 
@@ -38,10 +39,20 @@ pub record Runnable (m : Machine) (vol : ℕ → Bool) (sheet first count : List
 abbrev pub course : Blocks → List Loaded → ℕ → ℕ → Outcome
 course s row d w = ran (record { state = state_in s; row = row; done = d; waited = w })
 
+-- what a run is answered with: the moves done and waited, or the UNLOCK that was refused
+abbrev pub Ended : Type 0
+Ended = Result Tally Unheld
+
+abbrev pub Ran : ℕ → ℕ → Ended
+Ran d w = Ok (record { done = d; waited = w })
+
+abbrev pub Refused : ℕ → ℕ → Ended
+Refused t p = Err (record { lane = t; position = p })
+
 -- the outcome that an answer stands for, with the store s and a row of loaded values
 abbrev pub outcome_by : List (List Instr) → Blocks → List Loaded → Ended → Outcome
-outcome_by prog s row (Ran d w) = course s row d w
-outcome_by prog s row (Refused t p) = refused t (rank (get_or prog t []) p)
+outcome_by prog s row (Ok n) = course s row n.done n.waited
+outcome_by prog s row (Err u) = refused u.lane (rank (get_or prog u.lane []) u.position)
 
 -- the moves took store s to store e and were answered with q; the code does not keep the row of loaded values
 pub record Ends (m : Machine) (vol : ℕ → Bool) (mvs : List Move) (prog : List (List Instr)) (s : Blocks) (q : Ended)

@@ -25,24 +25,20 @@ pub fn limit_of(machine: Machine) -> u8
 {
     match machine {
         Machine::Source => 64,
-        Machine::Target(model) => match model {
-            Model::Tso => 1,
-            Model::Pso => 64,
-        },
+        Machine::Target(Model::Tso) => 1,
+        Machine::Target(Model::Pso) => 64,
     }
 }
 
-// Whether each move names a lane below n and a choice up to the limit. A move is two bytes, lane first. With no early
-// return the loop is compiled to work on many moves at once.
+// Whether each move names a lane below n and a choice up to the limit. A move is two bytes, lane first. The loop has no
+// early return, as `chunks_exact(2)` with `all` would, so that it is compiled to work on many moves at once.
 pub fn legal_moves(moves: &[u8], n: usize, limit: u8) -> bool
     ensures { result ≡ legal n limit (moves_in moves.now) }
 {
     let pairs = moves.len() / 2;
     let mut legal = true;
-    let mut k = 0;
-    while k < pairs {
-        legal = legal & legal_move(moves[2 * k], moves[2 * k + 1], n, limit);
-        k += 1;
+    for k in 0..pairs {
+        legal &= legal_move(moves[2 * k], moves[2 * k + 1], n, limit);
     }
     legal
 }
@@ -54,14 +50,7 @@ pub fn ended(state: &State, count: &[usize; 4]) -> bool
         → result ≡ ended prog (state_in state.now) }
 {
     let n = wide(state[SHARED][COUNTS][LANES]);
-    let mut t = 0;
-    while t < n {
-        if wide(position(state, t)) < count[t] {
-            return false;
-        }
-        t += 1;
-    }
-    true
+    (0..n).all(|t| wide(position(state, t)) >= count[t])
 }
 
 // Whether nothing is pending in any lane.
@@ -70,14 +59,7 @@ pub fn drained(state: &State) -> bool
     ensures { result ≡ drained (state_in state.now) }
 {
     let n = wide(state[SHARED][COUNTS][LANES]);
-    let mut t = 0;
-    while t < n {
-        if pending_count(state, t) != 0 {
-            return false;
-        }
-        t += 1;
-    }
-    true
+    (0..n).all(|t| pending_count(state, t) == 0)
 }
 
 // Whether a run is finished: each lane stands at its end, and nothing is pending.
@@ -86,5 +68,5 @@ pub fn finished(state: &State, count: &[usize; 4]) -> bool
     ensures { (prog : List (List Instr)) → Counts (count_of state.now 0) count.now prog
         → result ≡ finished prog (state_in state.now) }
 {
-    ended(state, count) & drained(state)
+    ended(state, count) && drained(state)
 }

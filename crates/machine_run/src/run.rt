@@ -11,11 +11,18 @@ use machine_state::held::position;
 use machine_state::state::{Moved, State};
 use machine_step::step::move_lane;
 
-// The counts of moves done and waited, or the lane and the position of an UNLOCK that was refused.
+// The moves that were done and those that waited.
 #[derive(Clone, Copy)]
-pub enum Ended {
-    Ran(usize, usize),
-    Refused(usize, u32),
+pub struct Tally {
+    pub done: usize,
+    pub waited: usize,
+}
+
+// The lane and the position of an UNLOCK that was refused.
+#[derive(Clone, Copy)]
+pub struct Unheld {
+    pub lane: usize,
+    pub position: u32,
 }
 
 // A move is two bytes, a lane and a choice. The program of lane t is count[t] rows of the sheet from the byte first[t].
@@ -27,7 +34,7 @@ pub fn run_bytes(
     count: &[usize; 4],
     moves: &[u8],
     state: &mut State,
-) -> Ended
+) -> Result<Tally, Unheld>
     requires { Sized state.old
         × Runnable machine (flags volatile.now) sheet.now first.now count.now (moves_in moves.now)
         state.old }
@@ -38,9 +45,8 @@ pub fn run_bytes(
         state.old result state.new }
 {
     let n = moves.len() / 2;
-    let mut k = 0;
     let mut done = 0;
-    while k < n {
+    for k in 0..n {
         let t = moves[2 * k] as usize;
         let choice = moves[2 * k + 1];
         let here = position(state, t);
@@ -50,9 +56,14 @@ pub fn run_bytes(
         match moved {
             Moved::Waited => (),
             Moved::Done => done += 1,
-            Moved::ReleaseNotHeld => return Ended::Refused(t, here),
+            Moved::ReleaseNotHeld => return Err(Unheld {
+                lane: t,
+                position: here,
+            }),
         }
-        k += 1;
     }
-    Ended::Ran(done, n - done)
+    Ok(Tally {
+        done,
+        waited: n - done,
+    })
 }

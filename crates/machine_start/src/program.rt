@@ -16,9 +16,7 @@ pub fn program_of(machine: Machine, file: &[u8], rows: &mut [u8]) -> WriteResult
 {
     match machine {
         Machine::Source => chain_file(file, rows),
-        Machine::Target(model) => match model {
-            Model::Tso => lower2(file, rows),
-            Model::Pso => lower3(file, rows),
-        },
+        Machine::Target(Model::Tso) => lower2(file, rows),
+        Machine::Target(Model::Pso) => lower3(file, rows),
     }
 }

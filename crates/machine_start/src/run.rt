@@ -5,15 +5,15 @@ ghost use Rattle.machine_spec.specs.Moves.{moves_in};
 ghost use Rattle.machine_lane.specs.Lanes.{flags};
 ghost use Rattle.machine_start.specs.Setup.{ProgramIn, Startable, AtStart, Begun, ran_into};
 
+use crate::extent::extent_of;
 use machine_lane::flags::flags_of;
 use machine_record::state::write_state;
 use machine_run::judge::finished;
-use machine_run::run::{Ended, run_bytes};
+use machine_run::run::{Tally, run_bytes};
 use machine_spec::Machine;
 use machine_state::state::{COUNTS, LANES, LOCATIONS, LOCKS, SHARED, State};
 use sheet_format::WriteResult;
 use sheet_rows::parts::parts_of;
-use sheet_rows::read::byte_at;
 
 // The moves, from the lanes at their start; then the record.
 fn run_lanes(
@@ -36,13 +36,13 @@ fn run_lanes(
 {
     let answer = run_bytes(machine, volatile, rows, first, count, moves, state);
     match answer {
-        // Never reached: no run of an accepted kernel is refused.
-        Ended::Refused(_, _) => WriteResult::Refuses(11, 0),
-        Ended::Ran(done, waited) => {
+        Ok(Tally { done, waited }) => {
             let finished = finished(state, count);
             write_state(out, finished, done, waited, state);
             WriteResult::Wrote(2280)
         }
+        // Never reached: no run of an accepted kernel is refused.
+        Err(_) => WriteResult::Refuses(11, 0),
     }
 }
 
@@ -64,10 +64,11 @@ pub fn run_rows(
     let first = parts.from;
     let count = parts.count;
     let flags = flags_of(mask);
+    let extent = extent_of(rows);
     let mut state = [[[0u32; 64]; 3]; 5];
-    state[SHARED][COUNTS][LANES] = byte_at(rows, 0) as u32;
-    state[SHARED][COUNTS][LOCATIONS] = byte_at(rows, 1) as u32;
-    state[SHARED][COUNTS][LOCKS] = byte_at(rows, 2) as u32;
+    state[SHARED][COUNTS][LANES] = extent.lanes;
+    state[SHARED][COUNTS][LOCATIONS] = extent.locations;
+    state[SHARED][COUNTS][LOCKS] = extent.locks;
     run_lanes(
         machine, &flags, rows, &first, &count, moves, &mut state, out,
     )

@@ -24,12 +24,12 @@ use Rattle.machine_state.specs.declared.state.Moved.TheVariants.{Waited, Done, R
 use Rattle.machine_state.specs.Ready.{Movable}
 use Rattle.machine_state.specs.States.{Blocks, state_in}
 use Rattle.machine_step.specs.Turns.{turns, Took}
-use Rattle.machine_run.specs.declared.run.Ended.TheVariants.{Ran}
-use Rattle.machine_run.specs.Runs.{RunnableBy, Ends, course}
+use Rattle.machine_run.specs.Runs.{RunnableBy, Ran, Ends, course}
 use Rattle.machine_run.proofs.Laws.Runs.{Counted, lane_moves, inside, run_refused, run_counted}
 use Rattle.machine_start.proofs.Answered.{not_refused}
 use Rattle.machine_start.proofs.Reached.{runs_by}
 use Rattle.machine_start.proofs.Laws.Start.{zeroed, zeroed_state}
+use Rattle.machine_start.specs.declared.extent.Extent.{Extent}
 use Rattle.machine_course.specs.declared.course.Course.{Course}
 use Rattle.machine_course.specs.Stands.{answer_by, Prepared, Stands, Started, counted, stopped}
 use Rattle.machine_course.proofs.Laws.Legal.{allowed, legal_snoc, Under, under, stays_refused}
@@ -83,9 +83,9 @@ module _ {s : List ℕ} {m : Machine} {mvs : List Move} {rows : List ℕ} {x : C
         ∙ ap (λ b. b && allowed n (limit m) mv) here.legals
 
     -- the code's test
-    test : {c : ℕ} {b : Bool} → c ≡ limit x.machine → b ≡ allowed x.lanecount c mv
+    test : {c width : ℕ} {b : Bool} → c ≡ limit x.machine → width ≡ x.extent.lanes → b ≡ allowed width c mv
         → b ≡ allowed n (limit m) mv
-    test ce be = be ∙ ap₂ (λ p q. allowed p q mv) own.lanes (ce ∙ ap (λ y. limit y) own.machine)
+    test ce we be = be ∙ ap₂ (λ p q. allowed p q mv) (we ∙ own.lanes) (ce ∙ ap (λ y. limit y) own.machine)
 
     answers_by : {a : Answer} → run_by m s (accepted k) after ≡ a → answer_by m s after ≡ a
     answers_by e = ap (λ v. run_by m s v after) here.accepts ∙ e
@@ -98,10 +98,11 @@ module _ {s : List ℕ} {m : Machine} {mvs : List Move} {rows : List ℕ} {x : C
         go (refused t p) e = absurd (not_refused s k here.accepts m mvs here.legals t p e)
 
     -- a move that is not legal
-    stops : {c : ℕ} {b : Bool} {e : Blocks} → c ≡ limit x.machine → b ≡ allowed x.lanecount c mv
-        → b ≡ false → Started x.lanecount x.locations x.lockwords e → Stands s m after rows (stopped x) e
-    stops {e = e} ce be bad st =
-        let illegal = legal_after ∙ sym (test ce be) ∙ bad in
+    stops : {c width : ℕ} {b : Bool} {e : Blocks} → c ≡ limit x.machine → width ≡ x.extent.lanes
+        → b ≡ allowed width c mv → b ≡ false → Started x.extent.lanes x.extent.locations x.extent.locks e
+        → Stands s m after rows (stopped x) e
+    stops {e = e} ce we be bad st =
+        let illegal = legal_after ∙ sym (test ce we be) ∙ bad in
         let same : answer_by m s after ≡ refusal (start_of k) 10 0 = answers_by (rw illegal refl) in
         let few = law.few_lanes in
         let start : state_in e ≡ start_of k =
@@ -133,10 +134,10 @@ module _ {s : List ℕ} {m : Machine} {mvs : List Move} {rows : List ℕ} {x : C
         same_kernel j v = let e : accepted k ≡ accepted j = sym here.accepts ∙ v in cc
 
     -- ## a legal move
-    module _ {c : ℕ} {b : Bool} (ce : c ≡ limit x.machine) (be : b ≡ allowed x.lanecount c mv)
-        (good : b ≡ true) where
+    module _ {c width : ℕ} {b : Bool} (ce : c ≡ limit x.machine) (we : width ≡ x.extent.lanes)
+        (be : b ≡ allowed width c mv) (good : b ≡ true) where
       lets : legal n (limit m) after ≡ true
-      lets = legal_after ∙ sym (test ce be) ∙ good
+      lets = legal_after ∙ sym (test ce we be) ∙ good
 
       abbrev h₀ : Blocks
       h₀ = zeroed n k.locations k.locks
@@ -237,14 +238,13 @@ module _ {s : List ℕ} {m : Machine} {mvs : List Move} {rows : List ℕ} {x : C
                 same_kernel i v = let e : accepted k ≡ accepted i = sym here.accepts ∙ v in cc
 
           kept : (y : Course) → y.machine ≡ x.machine → y.volatile ≡ x.volatile → y.first ≡ x.first
-              → y.count ≡ x.count → y.lanecount ≡ x.lanecount → y.locations ≡ x.locations
-              → y.lockwords ≡ x.lockwords → Prepared m k rows y e
-          kept y a v f g l o w = record {
+              → y.count ≡ x.count → y.extent ≡ x.extent → Prepared m k rows y e
+          kept y a v f g o = record {
             machine = a ∙ own.machine;
             volatile = ap flags v ∙ own.volatile;
-            lanes = l ∙ own.lanes;
-            locations = o ∙ own.locations;
-            locks = w ∙ own.locks;
+            lanes = ap (λ (n : Extent). n.lanes) o ∙ own.lanes;
+            locations = ap (λ (n : Extent). n.locations) o ∙ own.locations;
+            locks = ap (λ (n : Extent). n.locks) o ∙ own.locks;
             held = made.lanes ∙ own.held;
             first = f ∙ own.first;
             programs = rw (f, g) own.programs;
@@ -256,12 +256,10 @@ module _ {s : List ℕ} {m : Machine} {mvs : List Move} {rows : List ℕ} {x : C
             where
               go : (p : Moved) → q ≡ p → Stands s m after rows (counted x p) e
               go Waited qe =
-                  stands x.done (inl (qe, refl)) (counted x Waited) (kept (counted x Waited) refl refl refl refl
-                  refl refl refl)
+                  stands x.done (inl (qe, refl)) (counted x Waited) (kept (counted x Waited) refl refl refl refl refl)
                   z number_blames refl (omega (arith, waits_rest, done_few)) (omega (arith, done_few))
               go Done qe =
-                  stands (x.done + 1) (inr (qe, refl)) (counted x Done) (kept (counted x Done) refl refl refl refl
-                  refl refl refl)
+                  stands (x.done + 1) (inr (qe, refl)) (counted x Done) (kept (counted x Done) refl refl refl refl refl)
                   z number_blames refl (omega (arith, waits_rest, done_few)) (omega (arith, done_few))
               go ReleaseNotHeld qe =
                   absurd (not_refused s k here.accepts m after lets mv.lane _
@@ -272,12 +270,12 @@ module _ {s : List ℕ} {m : Machine} {mvs : List Move} {rows : List ℕ} {x : C
 -- ## the same of what the code made
 
 module _ {s : List ℕ} {m : Machine} {mvs : List Move} {rows : List ℕ} {x y : Course} {h e : Blocks}
-    (so : Stands s m mvs rows x h) (mv : Move) (z : x.number ≡ 0) {c : ℕ} {b : Bool}
-    (ce : c ≡ limit x.machine) (be : b ≡ allowed x.lanecount c mv) where
-  pub code_stops : b ≡ false → Started x.lanecount x.locations x.lockwords e → y ≡ stopped x
+    (so : Stands s m mvs rows x h) (mv : Move) (z : x.number ≡ 0) {c width : ℕ} {b : Bool}
+    (ce : c ≡ limit x.machine) (we : width ≡ x.extent.lanes) (be : b ≡ allowed width c mv) where
+  pub code_stops : b ≡ false → Started x.extent.lanes x.extent.locations x.extent.locks e → y ≡ stopped x
       → Stands s m (mvs ++ (mv ∷ [])) rows y e
   code_stops bad st q =
-      subst (λ w. Stands s m (mvs ++ (mv ∷ [])) rows w e) (sym q) (stops so mv z ce be bad st)
+      subst (λ w. Stands s m (mvs ++ (mv ∷ [])) rows w e) (sym q) (stops so mv z ce we be bad st)
 
   pub code_moves : {q : Moved} → b ≡ true → Took h mv.lane (turns x.machine (flags x.volatile)
       (read_rows (get_or x.count mv.lane 0) (drop (get_or x.first mv.lane 0) rows)) h mv.lane mv.choice)
@@ -285,7 +283,7 @@ module _ {s : List ℕ} {m : Machine} {mvs : List Move} {rows : List ℕ} {x y :
       → y ≡ counted x q → Stands s m (mvs ++ (mv ∷ [])) rows y e
   code_moves {q} good made r =
       subst (λ w. Stands s m (mvs ++ (mv ∷ [])) rows w e) (sym r)
-      (moves_on so mv z ce be good q e
+      (moves_on so mv z ce we be good q e
       (subst (λ w. Took h mv.lane (turns w (flags x.volatile)
       (read_rows (get_or x.count mv.lane 0) (drop (get_or x.first mv.lane 0) rows)) h mv.lane mv.choice)
       q e)

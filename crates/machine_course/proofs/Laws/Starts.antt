@@ -2,11 +2,11 @@
 use Prim.Native.Nat.{ℕ, ◌≤◌, ◌<◌}
 use mathlib.Core.Path.{◌≡◌, refl, sym, subst, ◌∙◌}
 use mathlib.Core.Bool.{Bool, true, false}
-use mathlib.Core.List.{List, [], ◌∷◌}
+use mathlib.Core.List.{List}
 use native.Mathlib.Omega.{arith}
 use borrow.Author.Tests.{lt-ltb, le-ltb}
 use lib.Dec.{ltb}
-use lib.ListN.{length, get_or, set}
+use lib.ListN.{length}
 use Rattle.file_format.specs.Fields.{lane_count, locations, locks}
 use Rattle.file_format.specs.Rules.{header_rule}
 use Rattle.file_format.proofs.Laws.Rules.{four_lanes_lem, few_locations, few_locks}
@@ -14,13 +14,6 @@ use Rattle.file_verdict.specs.Verdict.{refused, verdict, refusal_of, fields_then
 use Rattle.machine_state.specs.States.{Blocks}
 use Rattle.machine_start.proofs.Laws.Start.{zeroed, zeroed_sized, zeroed_state}
 use Rattle.machine_course.specs.Stands.{Started, RefusedStart}
-
--- the numbers of lanes, locations and locks are written
-abbrev word_set : Blocks → ℕ → ℕ → Blocks
-word_set s i x = set s 4 (set (get_or s 4 []) 2 (set (get_or (get_or s 4 []) 2 []) i x))
-
-abbrev pub set_words : Blocks → ℕ → ℕ → ℕ → Blocks
-set_words s n ls ks = word_set (word_set (word_set s 0 n) 1 ls) 2 ks
 
 pub started_as : {e : Blocks} (n ls ks : ℕ) → e ≡ zeroed n ls ks → Started n ls ks e
 started_as n ls ks q =
@@ -30,17 +23,6 @@ started_as n ls ks q =
 pub started_by : {e : Blocks} {n ls ks p q r : ℕ} → n ≡ p → ls ≡ q → ks ≡ r → Started n ls ks e → Started p q r e
 started_by {e} {n} {ls} {ks} {p} {q} {r} a b c st =
     subst (λ y. Started y q r e) a (subst (λ y. Started n y r e) b (subst (λ y. Started n ls y e) c st))
-
--- the first five blocks of five
-pub all_blocks : (s : Blocks) (b : List (List ℕ)) → length s ≡ 5
-    → set (set (set (set (set s 0 b) 1 b) 2 b) 3 b) 4 b ≡ b ∷ b ∷ b ∷ b ∷ b ∷ []
-all_blocks [] b h = absurd (omega arith)
-all_blocks (x ∷ []) b h = absurd (omega arith)
-all_blocks (x ∷ y ∷ []) b h = absurd (omega arith)
-all_blocks (x ∷ y ∷ z ∷ []) b h = absurd (omega arith)
-all_blocks (x ∷ y ∷ z ∷ u ∷ []) b h = absurd (omega arith)
-all_blocks (x ∷ y ∷ z ∷ u ∷ v ∷ []) b h = refl
-all_blocks (x ∷ y ∷ z ∷ u ∷ v ∷ w ∷ s) b h = absurd (omega arith)
 
 -- ## a file that is refused for another reason than its header has a valid one
 

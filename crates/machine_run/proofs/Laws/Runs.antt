@@ -17,12 +17,10 @@ use Rattle.machine_spec.specs.Schedule.{Move, move}
 use Rattle.machine_spec.specs.State.{Lane, Loaded, Run, Outcome, ran, refused, core_of, load_row, apply_turn}
 use Rattle.machine_spec.specs.State.{move_turn, advance, run, begin}
 use Rattle.machine_spec.specs.declared.Machine.{Machine}
-use Rattle.machine_run.specs.declared.run.Ended.{Ended}
-use Rattle.machine_run.specs.declared.run.Ended.TheVariants.{Ran, Refused}
 use Rattle.machine_state.specs.declared.state.Moved.{Moved}
 use Rattle.machine_state.specs.declared.state.Moved.TheVariants.{Waited, Done, ReleaseNotHeld}
 use Rattle.machine_state.specs.Ready.{LaneReady, Movable}
-use Rattle.machine_run.specs.Runs.{RunnableBy, outcome_by, Ends}
+use Rattle.machine_run.specs.Runs.{RunnableBy, Ended, Ran, Refused, outcome_by, Ends}
 use Rattle.machine_state.specs.States.{Blocks, lane_of, count_of, state_in, Sized}
 use Rattle.machine_step.specs.Turns.{turns, Took}
 use Rattle.machine_state.proofs.Laws.Lanes.{lane_in_lem}

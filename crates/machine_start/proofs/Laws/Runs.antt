@@ -19,9 +19,7 @@ use Rattle.machine_spec.specs.Shape.{EntrySmall, AllSmall, Shaped}
 use Rattle.sheet_rows.proofs.Laws.Read.{rows_length}
 use Rattle.machine_spec.specs.declared.Machine.{Machine}
 use Rattle.machine_state.specs.States.{Blocks, count_of, state_in}
-use Rattle.machine_run.specs.declared.run.Ended.{Ended}
-use Rattle.machine_run.specs.declared.run.Ended.TheVariants.{Ran, Refused}
-use Rattle.machine_run.specs.Runs.{RunnableBy, Runnable, Ends, outcome_by}
+use Rattle.machine_run.specs.Runs.{RunnableBy, Runnable, Ended, Ran, Refused, Ends, outcome_by}
 use Rattle.machine_record.specs.Record.{record_of, state_bytes}
 use Rattle.machine_record.specs.SmallStates.{Small}
 use Rattle.machine_run.specs.Counts.{Counts}

@@ -5,5 +5,5 @@ use Rattle.machine_course.proofs.begin.start_refused.Goals as goal
 pub returns-else-number-lt3 : goal.returns-else-number-lt3
 returns-else-number-lt3 c =
     refused_header c.args.file.now c.args.number c.if-number-lt3.false
-    (started_by c.byte_at-lanes.ensures c.byte_at-locations.ensures
-    c.byte_at-locks.ensures c.start-else-number-lt3.ensures)
+    (started_by c.extent_of.ensures.lanes c.extent_of.ensures.locations c.extent_of.ensures.locks
+    c.start-else-number-lt3.ensures)

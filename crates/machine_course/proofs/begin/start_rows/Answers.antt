@@ -3,5 +3,4 @@ use Rattle.machine_course.proofs.Laws.Starts.{started_by}
 use Rattle.machine_course.proofs.begin.start_rows.Goals as goal
 
 pub returns : goal.returns
-returns c = started_by c.byte_at-lanes.ensures
-    c.byte_at-locations.ensures c.byte_at-locks.ensures c.start.ensures
+returns c = started_by c.extent_of.ensures.lanes c.extent_of.ensures.locations c.extent_of.ensures.locks c.start.ensures

@@ -9,19 +9,18 @@ twice-more : (k : ℕ) → 2 * (k + 1) ≡ 2 * k + 2
 twice-more k = omega arith
 
 pub loop-k-init : goal.loop-k-init
-loop-k-init c = (omega arith, refl, refl)
+loop-k-init c = (refl, refl)
 
 pub loop-k-preserved : goal.loop-k-preserved
 loop-k-preserved c = (
-  omega (arith, c.loop-k-test.true),
-  c.loop-k.invariant.1,
+  c.loop-k.invariant.0,
   rw c.legal_move-legal.ensures
       (rw (twice-more c.loop-k.k) (legal_more c.args.n c.args.limit c.args.moves.now (2 * c.loop-k.k)
-      c.loop-k.legal (omega (arith, c.loop-k-test.true, c.loop-k.invariant.1)) ∙ c.loop-k.invariant.2)),
+      c.loop-k.legal (omega (arith, c.loop-k.invariant.0)) ∙ c.loop-k.invariant.1)),
 )
 
 pub returns : goal.returns
 returns c =
     legal_all c.args.n c.args.limit c.args.moves.now (2 * c.loop-k.k) c.loop-k.legal
-    (omega (arith, c.loop-k-test.false, c.loop-k.invariant.1))
-    ∙ c.loop-k.invariant.2
+    (omega (arith, c.loop-k.invariant.0))
+    ∙ c.loop-k.invariant.1

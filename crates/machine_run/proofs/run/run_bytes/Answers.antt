@@ -17,7 +17,6 @@ loop-k-init c = (
   c.requires.0,
   omega arith,
   omega arith,
-  omega arith,
   λ i h. lane_below c.requires.1.runs i _ (moves_at c.args.moves.now i h),
   λ prog h. record { sized = c.requires.0; lanes = refl; row = []; outcome = refl },
 )
@@ -26,7 +25,7 @@ pub move_lane-moved-requires : goal.move_lane-moved-requires
 move_lane-moved-requires c =
     let at = moves_at c.args.moves.now c.loop-k.k (omega arith) in (
       lane_moves c.requires.1.runs c.loop-k.k _ at _ _ _ c.loop-k.invariant.0
-          (c.loop-k.invariant.5 _ c.requires.1.runs),
+          (c.loop-k.invariant.4 _ c.requires.1.runs),
       inside c.requires.1.runs c.loop-k.k _ at,
     )
 
@@ -34,7 +33,7 @@ pub returns-in-ReleaseNotHeld : goal.returns-in-ReleaseNotHeld
 returns-in-ReleaseNotHeld c =
     let at = moves_at c.args.moves.now c.loop-k.k (omega arith) in
     λ prog h. run_refused h c.loop-k.k _ at _ _ _ _ _ c.loop-k.invariant.0 c.move_lane-moved.ensures
-    (c.loop-k.invariant.5 prog h)
+    (c.loop-k.invariant.4 prog h)
     c.position-here.ensures c.in-ReleaseNotHeld.is
 
 pub loop-k-preserved : goal.loop-k-preserved
@@ -47,15 +46,14 @@ loop-k-preserved c =
     ] in (
       c.move_lane-moved.ensures.sized,
       counted_few c.loop-k.k c.loop-k.done c.match-moved.done counted c.loop-k.invariant.1,
-      omega arith,
+      c.loop-k.invariant.2,
       c.loop-k.invariant.3,
-      c.loop-k.invariant.4,
       λ prog h. run_counted h c.loop-k.k _ at _ _ _ _ _ c.loop-k.invariant.0 c.move_lane-moved.ensures
-          (c.loop-k.invariant.5 prog h) _ counted c.loop-k.invariant.1 refl,
+          (c.loop-k.invariant.4 prog h) _ counted c.loop-k.invariant.1 refl,
     )
 
 pub returns : goal.returns
 returns c =
     let all : length (moves_in c.args.moves.now) ≤ c.loop-k.k = omega (arith, moves_length c.args.moves.now) in
     let last : c.loop-k.k ≡ length c.args.moves.now / 2 = omega arith in
-    λ prog h. rw (← last) (ends_all _ _ _ prog _ c.loop-k.k _ _ all (c.loop-k.invariant.5 prog h))
+    λ prog h. rw (← last) (ends_all _ _ _ prog _ c.loop-k.k _ _ all (c.loop-k.invariant.4 prog h))

@@ -17,17 +17,17 @@ finished-finished-requires c =
 pub write_state-requires : goal.write_state-requires
 write_state-requires c =
     let so = c.run_bytes-answer.ensures _ (begins_run c.requires.start.begins) in
-    record { room = c.requires.room; sized = so.sized; small = small c.requires.start.begins so c.in-Ran.is }
+    record { room = c.requires.room; sized = so.sized; small = small c.requires.start.begins so c.in-Ok.is }
 
-pub returns-in-Refused : goal.returns-in-Refused
-returns-in-Refused c =
-    λ s k b. absurd (never_refused b (c.run_bytes-answer.ensures _ (begins_run b)) c.in-Refused.is)
+pub returns-in-Err : goal.returns-in-Err
+returns-in-Err c =
+    λ s k b. absurd (never_refused b (c.run_bytes-answer.ensures _ (begins_run b)) c.in-Err.is)
 
-pub returns-in-Ran : goal.returns-in-Ran
-returns-in-Ran c =
+pub returns-in-Ok : goal.returns-in-Ok
+returns-in-Ok c =
     λ s k b.
     let so = c.run_bytes-answer.ensures _ (begins_run b) in
     (λ i. (Wrote 2280, c.write_state.ensures i))
     ∙ ap (λ x. (Wrote 2280, over x c.args.out.now)) (record_is b so
-    c.in-Ran.is
+    c.in-Ok.is
     c.finished-finished.ensures)

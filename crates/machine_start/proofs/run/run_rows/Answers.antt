@@ -8,9 +8,9 @@ flags_of-flags-requires c = mask_small c.requires.start.program
 pub run_lanes-requires : goal.run_lanes-requires
 run_lanes-requires c =
     let b = begins_zeroed c.requires.start.program c.flags_of-flags.ensures.1 c.parts_of-parts.ensures
-    c.byte_at.ensures
-    c.byte_at-2.ensures
-    c.byte_at-3.ensures in
+    c.extent_of-extent.ensures.lanes
+    c.extent_of-extent.ensures.locations
+    c.extent_of-extent.ensures.locks in
     record {
       room = c.requires.room;
       start =
@@ -21,5 +21,5 @@ pub returns : goal.returns
 returns c =
     λ s k p.
     let b = begins_zeroed p c.flags_of-flags.ensures.1 c.parts_of-parts.ensures
-    c.byte_at.ensures c.byte_at-2.ensures c.byte_at-3.ensures in
+    c.extent_of-extent.ensures.lanes c.extent_of-extent.ensures.locations c.extent_of-extent.ensures.locks in
     c.run_lanes.ensures s k b
