@@ -25,8 +25,8 @@ impl fmt::Display for ScheduleError {
 
 impl Error for ScheduleError {}
 
-// The moves at the front of `moves`, two bytes each, and how many bytes that is; an error leaves `moves` as it was. They
-// are measured first, by laying them into a buffer that they need not fit.
+// The moves at the front of `moves`, two bytes each, and how many bytes that is; an error leaves `moves` as it was.
+// They are measured first, by laying them into a buffer that they need not fit.
 pub fn read_schedule(text: &[u8], moves: &mut [u8]) -> Result<usize, ScheduleError>
     ensures { (result, moves.new) ≡ read_into text.now moves.old }
 {
