@@ -1,5 +1,9 @@
 // Standard output. A text that cannot be written is an error.
+
+use crate::input::read_full;
+use sheet_format::WriteResult;
 use std::io;
+use std::io::Read;
 
 pub fn say(rt: &impl Print, text: &[u8]) -> io::Result<()> {
     rt.write_all(text)
@@ -7,10 +11,10 @@ pub fn say(rt: &impl Print, text: &[u8]) -> io::Result<()> {
 
 // The first `size` bytes of a text that has been laid.
 pub fn say_part(rt: &impl Print, text: &[u8], size: usize) -> io::Result<()> {
-    if size <= text.len() {
-        say(rt, &text[..size])?;
+    match text.get(..size) {
+        Some(part) => say(rt, part),
+        None => Ok(()),
     }
-    Ok(())
 }
 
 pub fn say_number(rt: &impl Print, n: usize) -> io::Result<()> {
@@ -29,4 +33,22 @@ pub fn say_unread(rt: &impl Print, name: &[u8]) -> io::Result<()> {
     say(rt, b"cannot read ")?;
     say(rt, name)?;
     say(rt, b"\n")
+}
+
+// The text that `write` makes of the kernel file on the input. Of a file that is longer than every kernel, which is
+// refused by its header or its length, the first 3,089 bytes are enough.
+pub fn say_of_kernel<F: FnOnce(&[u8], &mut [u8]) -> WriteResult>(
+    rt: &impl Print,
+    input: &mut impl Read,
+    write: F,
+) -> io::Result<()>
+    requires { F.IsAlwaysCallable write }
+{
+    let mut file = [0u8; 3089];
+    let n = read_full(input, &mut file);
+    let mut text = [0u8; 65536];
+    match write(&file[..n], &mut text) {
+        WriteResult::Wrote(size) => say_part(rt, &text, size),
+        WriteResult::Refuses(_, _) => Ok(()),
+    }
 }

@@ -1,5 +1,5 @@
 -- Texts of schedules by computation.
-use Rattle.std.specs.Prelude.{◌≡◌, refl, [], ◌∷◌}
+use Rattle.std.specs.Prelude.{◌≡◌, refl, [], ◌∷◌, Some, None}
 use Rattle.text_schedule.specs.declared.place.Place.TheVariants.{Blank}
 use Rattle.text_schedule.specs.Text.{malformed_from, moves_from, moves_of}
 
@@ -11,12 +11,12 @@ unfolding moves_from
 moves_hold = refl
 
 lines_hold : malformed_from 1 Blank
-    (48 ∷ 32 ∷ 49 ∷ 32 ∷ 35 ∷ 32 ∷ 120 ∷ 10 ∷ 10 ∷ 32 ∷ 51 ∷ 9 ∷ 51 ∷ 48 ∷ 48 ∷ 13 ∷ []) ≡ 0
+    (48 ∷ 32 ∷ 49 ∷ 32 ∷ 35 ∷ 32 ∷ 120 ∷ 10 ∷ 10 ∷ 32 ∷ 51 ∷ 9 ∷ 51 ∷ 48 ∷ 48 ∷ 13 ∷ []) ≡ None
 unfolding malformed_from
 lines_hold = refl
 
 -- "0 0", an empty line, "1", "0 0": the third line is not a move
 lane_alone_holds : malformed_from 1 Blank
-    (48 ∷ 32 ∷ 48 ∷ 10 ∷ 10 ∷ 49 ∷ 10 ∷ 48 ∷ 32 ∷ 48 ∷ []) ≡ 3
+    (48 ∷ 32 ∷ 48 ∷ 10 ∷ 10 ∷ 49 ∷ 10 ∷ 48 ∷ 32 ∷ 48 ∷ []) ≡ Some 3
 unfolding malformed_from
 lane_alone_holds = refl

@@ -6,27 +6,24 @@ ghost use Rattle.text_schedule.specs.Text.{malformed_from, move_at, moves_of};
 use crate::place::{Place, after, is_wrong};
 use text_put::put::store;
 
-// The first line, counted from 1, that is neither a move nor empty; 0 where there is none.
-pub(crate) fn malformed(text: &[u8]) -> usize
+// The first line, counted from 1, that is neither a move nor empty.
+pub(crate) fn malformed(text: &[u8]) -> Option<usize>
     ensures { result ≡ malformed_from 1 Place.Blank text.now }
 {
     let mut line = 1;
     let mut p = Place::Blank;
-    let mut i = 0;
-    while i < text.len() {
-        let b = text[i];
+    for &b in text {
         if b == b'\n' {
             if is_wrong(p) {
-                return line;
+                return Some(line);
             }
             line += 1;
             p = Place::Blank;
         } else {
             p = after(p, b);
         }
-        i += 1;
     }
-    if is_wrong(p) { line } else { 0 }
+    if is_wrong(p) { Some(line) } else { None }
 }
 
 fn lay_two(out: &mut [u8], at: usize, a: u8, b: u8) -> usize
@@ -44,9 +41,7 @@ fn lay_move(out: &mut [u8], at: usize, p: Place) -> usize
     ensures { Puts out.old at (move_at p) out.new result }
 {
     match p {
-        Place::Choice(l, c) => lay_two(out, at, l, c),
-        Place::Full(l, c) => lay_two(out, at, l, c),
-        Place::Noted(l, c) => lay_two(out, at, l, c),
+        Place::Choice(l, c) | Place::Full(l, c) | Place::Noted(l, c) => lay_two(out, at, l, c),
         _ => at,
     }
 }
@@ -57,16 +52,13 @@ pub(crate) fn lay_moves(text: &[u8], out: &mut [u8]) -> usize
 {
     let mut at = 0;
     let mut p = Place::Blank;
-    let mut i = 0;
-    while i < text.len() {
-        let b = text[i];
+    for &b in text {
         if b == b'\n' {
             at = lay_move(out, at, p);
             p = Place::Blank;
         } else {
             p = after(p, b);
         }
-        i += 1;
     }
     lay_move(out, at, p)
 }

@@ -1,7 +1,7 @@
 // Where a reader stands in a line of a schedule.
-ghost use Rattle.std.specs.Prelude.{◌≡◌, ◌-◌};
-ghost use Rattle.text_schedule.specs.Place.{is_blank as blankBy, is_digit as digitBy, sorted as sortedBy};
-ghost use Rattle.text_schedule.specs.Place.{grown as grownBy, after as afterBy, is_wrong as wrongBy};
+ghost use Rattle.std.specs.Prelude.{◌≡◌};
+ghost use Rattle.text_schedule.specs.Place.{sorted as sortedBy, grown as grownBy, after as afterBy};
+ghost use Rattle.text_schedule.specs.Place.{is_wrong as wrongBy};
 
 // Nothing so far; within the lane, behind it; within the choice, behind it; in a comment, or in one behind a move; or
 // no line can begin so.
@@ -17,49 +17,23 @@ pub enum Place {
     Wrong,
 }
 
-fn is_blank(b: u8) -> bool
-    ensures { result ≡ blankBy b }
-{
-    if b == b' ' {
-        return true;
-    }
-    if b == b'\t' {
-        return true;
-    }
-    b == b'\r'
-}
-
-fn is_digit(b: u8) -> bool
-    ensures { result ≡ digitBy b }
-{
-    if b < b'0' { false } else { b <= b'9' }
-}
-
-fn value_of(b: u8) -> u8
-    ensures { result ≡ b - 48 }
-{
-    if b < b'0' { 0 } else { b - b'0' }
-}
-
 // A number with one digit more; 255 where it is larger.
 fn grown(n: u8, b: u8) -> u8
     ensures { result ≡ grownBy n b }
 {
-    let wide = 10 * (n as u32) + (value_of(b) as u32);
-    if wide < 255 { wide as u8 } else { 255 }
+    n.saturating_mul(10).saturating_add(b.saturating_sub(b'0'))
 }
 
 // One of three places, by what the byte is to a line, or the place of no line.
 fn sorted(b: u8, blank: Place, digit: Place, hash: Place) -> Place
     ensures { result ≡ sortedBy b blank digit hash Place.Wrong }
 {
-    if is_blank(b) {
-        return blank;
+    match b {
+        b' ' | b'\t' | b'\r' => blank,
+        b'0'..=b'9' => digit,
+        b'#' => hash,
+        _ => Place::Wrong,
     }
-    if is_digit(b) {
-        return digit;
-    }
-    if b == b'#' { hash } else { Place::Wrong }
 }
 
 // Where the reader stands after one more byte of the line.
@@ -92,8 +66,5 @@ pub fn after(p: Place, b: u8) -> Place
 pub fn is_wrong(p: Place) -> bool
     ensures { result ≡ wrongBy p }
 {
-    match p {
-        Place::Lane(_) | Place::Between(_) | Place::Wrong => true,
-        _ => false,
-    }
+    matches!(p, Place::Lane(_) | Place::Between(_) | Place::Wrong)
 }

@@ -3,6 +3,7 @@ use Prim.Native.Nat.{ℕ, ◌+◌, ◌≤◌, ◌<◌}
 use mathlib.Core.Path.{◌≡◌, refl, sym, ◌∙◌}
 use mathlib.Core.Bool.{true, false, cond}
 use mathlib.Core.List.{List, [], ◌∷◌, ◌++◌}
+use Rattle.std.specs.Prelude.{Some, None}
 use native.Mathlib.Numerals.{add-one}
 use native.Mathlib.Omega.{arith}
 use borrow.Author.Tests.{eq-eqb, ne_eqb}
@@ -21,7 +22,8 @@ module _ (s : List ℕ) (i : ℕ) (h : i < length s) where
   here : drop i s ≡ get_or s i 0 ∷ drop (i + 1) s
   here = rw (add-one, drop-cons s i 0) refl
 
-  pub malformed_line : (n : ℕ) (p : Place) → get_or s i 0 ≡ 10 → is_wrong p ≡ true → malformed_from n p (drop i s) ≡ n
+  pub malformed_line : (n : ℕ) (p : Place) → get_or s i 0 ≡ 10 → is_wrong p ≡ true
+      → malformed_from n p (drop i s) ≡ Some n
   unfolding malformed_from
   malformed_line n p e w = rw (here, eq-eqb (get_or s i 0) 10 e, w) refl
 
@@ -47,7 +49,7 @@ module _ (s : List ℕ) (i : ℕ) (h : i < length s) where
 
 -- the last line ends with the text
 module _ (s : List ℕ) (i : ℕ) (h : length s ≤ i) where
-  pub malformed_end : (n : ℕ) (p : Place) → malformed_from n p (drop i s) ≡ cond (is_wrong p) n 0
+  pub malformed_end : (n : ℕ) (p : Place) → malformed_from n p (drop i s) ≡ cond (is_wrong p) (Some n) None
   unfolding malformed_from
   malformed_end n p = rw (drop_of_length-le s h) refl
 
