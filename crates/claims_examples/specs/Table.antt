@@ -2,18 +2,17 @@
 -- kernel of four lanes through every call. Its one theorem is proofs/Examples.
 use Rattle.std.specs.Prelude.{ℕ, zero, suc, ◌+◌, ◌-◌, ◌/◌, ◌≡◌, Bool, true, false, ◌&&◌, List, [], ◌∷◌, ◌++◌, map, eqb}
 use Rattle.std.specs.Prelude.{length, get_or, take, drop, replicate}
-use Rattle.file_verdict.specs.Verdict.{verdict}
+use Rattle.file_verdict.specs.Verdict.{verdict, number_of, record_of}
 use Rattle.sheet_format.specs.declared.Level.{Level}
 use Rattle.sheet_format.specs.declared.Level.TheVariants.{Level1, Level2, Level3}
-use Rattle.sheet_format.specs.Bytes.{WriteResult}
-use Rattle.sheet_format.specs.declared.WriteResult.TheVariants.{Wrote, Refuses}
-use Rattle.sheet_format.specs.Bytes.{lower_by}
+use Rattle.std.specs.Prelude.{Ok, Err}
+use Rattle.sheet_format.specs.Bytes.{WriteResult, lower_by}
 use Rattle.text_listing.specs.Listing.{printed}
 use Rattle.machine_spec.specs.declared.Machine.{Machine}
 use Rattle.machine_spec.specs.declared.Machine.TheVariants.{Source, Target}
 use Rattle.machine_spec.specs.declared.Model.TheVariants.{Tso, Pso}
 use Rattle.machine_spec.specs.Schedule.{Move, move}
-use Rattle.machine_spec.specs.Run.{Answer, run_by}
+use Rattle.machine_spec.specs.Run.{Answer, number_in, run_by}
 use Rattle.machine_record.specs.Record.{state_bytes}
 use Rattle.claims_examples.specs.Kernels.{rec, rec_bytes, file_header, store_buffering, lane, skip_to, sets}
 use Rattle.claims_examples.specs.Kernels.{PL, PS, VL, VS, LOCK, UNLOCK, nested, locking}
@@ -49,8 +48,8 @@ rows zero b = []
 rows (suc n) b = (get_or b 0 0, get_or b 4 0) ∷ rows n (drop 8 b)
 
 abbrev instructions_in : WriteResult → List ℕ → List (ℕ × ℕ)
-instructions_in (Wrote n) b = rows ((n - 16) / 8) (drop 16 b)
-instructions_in (Refuses n r) b = []
+instructions_in (Ok n) b = rows ((n - 16) / 8) (drop 16 b)
+instructions_in (Err r) b = []
 
 abbrev instructions : WriteResult × List ℕ → List (ℕ × ℕ)
 instructions r = instructions_in r.0 r.1
@@ -72,15 +71,20 @@ pub record End : Type 0 where
   pub values : List ℕ
 
 abbrev pub end_of : Answer → End
-end_of a = record { number = a.number; finished = a.finished; values = register1 a }
+end_of a = record { number = number_in a.refusal; finished = a.finished; values = register1 a }
+
+-- the number and the record of a refusal
+abbrev numbers : WriteResult → List ℕ
+numbers (Ok n) = []
+numbers (Err r) = number_of r ∷ record_of r ∷ []
 
 -- what an example says
 abbrev pub Holds : Example → Type 0
-Holds (refused_by l s n x r) = lower_by l (verdict s) (output n) ≡ (Refuses x r, output n)
-Holds (writes l s b) = lower_by l (verdict s) (output (length b + 1)) ≡ (Wrote (length b), b ++ 255 ∷ [])
+Holds (refused_by l s n x r) = let a = lower_by l (verdict s) (output n) in (numbers a.0, a.1) ≡ (x ∷ r ∷ [], output n)
+Holds (writes l s b) = lower_by l (verdict s) (output (length b + 1)) ≡ (Ok (length b), b ++ 255 ∷ [])
 Holds (prints s x) = printed s ≡ x
 Holds (shows l s is) = instructions (lower_by l (verdict s) (output 100)) ≡ is
-Holds (fills l s n) = (lower_by l (verdict s) (output n)).0 ≡ Wrote n
+Holds (fills l s n) = (lower_by l (verdict s) (output n)).0 ≡ Ok n
 Holds (ends m s mvs f rs) =
     end_of (run_by m s (verdict s) mvs) ≡ record { number = 0; finished = f; values = rs }
 Holds (leaves m s mvs b) = state_bytes (run_by m s (verdict s) mvs) ≡ b

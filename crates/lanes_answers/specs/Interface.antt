@@ -1,11 +1,9 @@
 -- The seven calls from C: what each answers, and the output buffer after it.
-use Rattle.std.specs.Prelude.{ℕ, ◌+◌, ◌*◌, ◌^◌, ◌<◌, List}
+use Rattle.std.specs.Prelude.{ℕ, ◌+◌, ◌*◌, ◌^◌, ◌<◌, List, Ok, Err}
 use Rattle.file_format.specs.Accepted.{Program}
-use Rattle.file_verdict.specs.Verdict.{Verdict, verdict}
+use Rattle.file_verdict.specs.Verdict.{Verdict, verdict, number_of, record_of}
 use Rattle.sheet_format.specs.declared.Level.TheVariants.{Level1, Level2, Level3}
-use Rattle.sheet_format.specs.Bytes.{WriteResult}
-use Rattle.sheet_format.specs.declared.WriteResult.TheVariants.{Wrote, Refuses}
-use Rattle.sheet_format.specs.Bytes.{sheet_bytes, answer_by}
+use Rattle.sheet_format.specs.Bytes.{WriteResult, sheet_bytes, answer_by}
 use Rattle.machine_spec.specs.declared.Machine.{Machine}
 use Rattle.machine_spec.specs.declared.Machine.TheVariants.{Source, Target}
 use Rattle.machine_spec.specs.declared.Model.TheVariants.{Tso, Pso}
@@ -17,13 +15,13 @@ abbrev pub packed : ℕ → ℕ → ℕ
 packed n r = n * 2 ^ 32 + r
 
 abbrev pub packed_answer : WriteResult → ℕ
-packed_answer (Wrote n) = n
-packed_answer (Refuses n r) = packed n r
+packed_answer (Ok n) = n
+packed_answer (Err r) = packed (number_of r) (record_of r)
 
 -- an answer that fits 64 bits so
 abbrev pub Small : WriteResult → Type 0
-Small (Wrote n) = Unit {0}
-Small (Refuses n r) = (n < 2 ^ 32) × (r < 2 ^ 32)
+Small (Ok n) = Unit {0}
+Small (Err r) = (number_of r < 2 ^ 32) × (record_of r < 2 ^ 32)
 
 -- what is made of an accepted kernel, written into the output buffer
 abbrev pub write_call_by : (Program → List ℕ) → Verdict → List ℕ → ℕ × List ℕ

@@ -2,6 +2,7 @@
 ghost use Rattle.std.specs.Prelude.{◌≡◌};
 ghost use Rattle.lanes_answers.specs.Interface.{Small, packed_answer};
 
+use file_verdict::number::{number_of, record_of};
 use sheet_format::WriteResult;
 
 // The answer as one number: the bytes written, or number × 2^32 + record.
@@ -10,7 +11,7 @@ pub fn packed(answer: WriteResult) -> u64
     ensures { result ≡ packed_answer answer }
 {
     match answer {
-        WriteResult::Wrote(n) => n as u64,
-        WriteResult::Refuses(number, rec) => number as u64 * 4294967296 + rec as u64,
+        Ok(n) => n as u64,
+        Err(refusal) => number_of(refusal) as u64 * 4294967296 + record_of(refusal) as u64,
     }
 }

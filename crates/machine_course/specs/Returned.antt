@@ -31,8 +31,7 @@ Holds s e = end_state e ≡ state_in s
 
 -- r is the answer a
 pub record Answers (r : Ran) (a : Answer) : Type 0 where
-  pub number : r.number ≡ a.number
-  pub rec : r.rec ≡ a.rec
+  pub refusal : r.refusal ≡ a.refusal
   pub state : end_state r.end ≡ a.state
   pub finished : r.finished ≡ a.finished
   pub done : r.done ≡ a.done

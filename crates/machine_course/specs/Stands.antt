@@ -1,6 +1,8 @@
 -- A run so far: what it holds is the definition's answer on the moves so far.
-use Rattle.std.specs.Prelude.{ℕ, ◌+◌, ◌^◌, ◌≤◌, ◌<◌, ◌≡◌, false, List, [], length, get_or, replicate}
+use Rattle.std.specs.Prelude.{ℕ, ◌+◌, ◌^◌, ◌≤◌, ◌<◌, ◌≡◌, false, List, [], length, get_or, replicate, Option, Some, None}
 use Rattle.file_format.specs.Accepted.{Program, is_volatile}
+use Rattle.file_verdict.specs.declared.refusal.Refusal.{Refusal}
+use Rattle.file_verdict.specs.declared.refusal.Refusal.TheVariants.{IllegalMove}
 use Rattle.file_verdict.specs.Verdict.{refused, accepted, verdict}
 use Rattle.sheet_format.specs.Levels.{volatile_in}
 use Rattle.machine_spec.specs.Schedule.{Move}
@@ -35,9 +37,8 @@ pub record Prepared (m : Machine) (k : Program) (rows : List ℕ) (x : Course) (
 pub record Stands (s : List ℕ) (m : Machine) (mvs : List Move) (rows : List ℕ) (x : Course) (h : Blocks) : Type 0 where
   pub sized : Sized h
   pub few : x.done + x.waited ≤ length mvs
-  pub counted : x.number ≡ 0 → x.done + x.waited ≡ length mvs
-  pub number : x.number ≡ (answer_by m s mvs).number
-  pub rec : x.rec ≡ (answer_by m s mvs).rec
+  pub counted : x.refusal ≡ None → x.done + x.waited ≡ length mvs
+  pub refusal : x.refusal ≡ (answer_by m s mvs).refusal
   pub done : x.done ≡ (answer_by m s mvs).done
   pub waited : x.waited ≡ (answer_by m s mvs).waited
   pub state : state_in h ≡ (answer_by m s mvs).state
@@ -61,37 +62,35 @@ pub record Judged (x : Course) (h : Blocks) : Type 0 where
 
 -- ## what the code makes of x
 
--- with another number and other counts
-abbrev pub counting : Course → ℕ → ℕ → ℕ → Course
-counting x number done waited = record {
+-- with another refusal and other counts
+abbrev pub counting : Course → Option Refusal → ℕ → ℕ → Course
+counting x refusal done waited = record {
   machine = x.machine;
   volatile = x.volatile;
   first = x.first;
   count = x.count;
   extent = x.extent;
-  number = number;
-  rec = x.rec;
+  refusal = refusal;
   done = done;
   waited = waited;
 }
 
 abbrev pub counted : Course → Moved → Course
-counted x Waited = counting x x.number x.done (x.waited + 1)
-counted x Done = counting x x.number (x.done + 1) x.waited
+counted x Waited = counting x x.refusal x.done (x.waited + 1)
+counted x Done = counting x x.refusal (x.done + 1) x.waited
 counted x ReleaseNotHeld = x
 
 abbrev pub stopped : Course → Course
-stopped x = counting x 10 0 0
+stopped x = counting x (Some IllegalMove) 0 0
 
-abbrev pub blocked : Machine → ℕ → ℕ → Course
-blocked m n r = record {
+abbrev pub blocked : Machine → Refusal → Course
+blocked m r = record {
   machine = m;
   volatile = replicate 16 false;
   first = replicate 4 0;
   count = replicate 4 0;
   extent = record { lanes = 0; locations = 0; locks = 0 };
-  number = n;
-  rec = r;
+  refusal = Some r;
   done = 0;
   waited = 0;
 }
@@ -105,7 +104,7 @@ pub record Sets (m : Machine) (mask : ℕ) (rows : List ℕ) (x : Course) : Type
   pub lanes : x.extent.lanes ≡ get_or rows 0 0
   pub locations : x.extent.locations ≡ get_or rows 1 0
   pub locks : x.extent.locks ≡ get_or rows 2 0
-  pub zeros : (x.number ≡ 0) × (x.rec ≡ 0) × (x.done ≡ 0) × (x.waited ≡ 0)
+  pub zeros : (x.refusal ≡ None) × (x.done ≡ 0) × (x.waited ≡ 0)
 
 -- ## the start
 
@@ -115,7 +114,7 @@ pub record Started (n ls ks : ℕ) (e : Blocks) : Type 0 where
   pub lanes : count_of e 0 ≡ n
   pub state : n ≤ 4 → ls ≤ 64 → ks ≤ 64 → state_in e ≡ start_state n (replicate ls 0) ks
 
--- that of a file that is refused with number n
-pub record RefusedStart (s : List ℕ) (n : ℕ) (e : Blocks) : Type 0 where
+-- that of a file that is refused with r
+pub record RefusedStart (s : List ℕ) (r : Refusal) (e : Blocks) : Type 0 where
   pub sized : Sized e
-  pub state : (r : ℕ) → verdict s ≡ refused n r → state_in e ≡ refused_start s n
+  pub state : verdict s ≡ refused r → state_in e ≡ refused_start s r

@@ -5,19 +5,20 @@ ghost use Rattle.machine_course.specs.Stands.{Started, RefusedStart, Stands};
 
 use crate::course::{Course, Rows, blocked, underway};
 use crate::start::start;
+use file_verdict::number::number_of;
+use file_verdict::refusal::Refusal;
 use machine_spec::Machine;
 use machine_start::extent::{NO_EXTENT, extent_of};
 use machine_start::program::program_of;
 use machine_state::state::State;
-use sheet_format::WriteResult;
 use sheet_rows::read::word_at;
 
 // A refused file's start is that of its header where this is valid.
-fn start_refused(file: &[u8], number: usize, state: &mut State)
+fn start_refused(file: &[u8], refusal: Refusal, state: &mut State)
     requires { Sized state.old }
-    ensures { RefusedStart file.now number state.new }
+    ensures { RefusedStart file.now refusal state.new }
 {
-    if number < 3 {
+    if number_of(refusal) < 3 {
         start(NO_EXTENT, state);
     } else {
         start(extent_of(file), state);
@@ -39,13 +40,12 @@ pub fn begin(machine: Machine, file: &[u8], rows: &mut Rows, state: &mut State) 
     requires { (4112 ≤ length rows.old) × Sized state.old }
     ensures { Stands file.now machine [] rows.new result state.new }
 {
-    let answer = program_of(machine, file, rows);
-    match answer {
-        WriteResult::Refuses(number, rec) => {
-            start_refused(file, number, state);
-            blocked(machine, number, rec)
+    match program_of(machine, file, rows) {
+        Err(refusal) => {
+            start_refused(file, refusal, state);
+            blocked(machine, refusal)
         }
-        WriteResult::Wrote(_) => {
+        Ok(_) => {
             start_rows(rows, state);
             underway(machine, word_at(file, 4), rows)
         }

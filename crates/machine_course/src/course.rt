@@ -3,6 +3,7 @@ ghost use Rattle.std.specs.Prelude.{◌≡◌, ◌≤◌, ◌<◌, length};
 ghost use Rattle.machine_state.specs.States.{Sized};
 ghost use Rattle.machine_course.specs.Stands.{blocked, Sets};
 
+use file_verdict::refusal::Refusal;
 use machine_lane::flags::flags_of;
 use machine_spec::Machine;
 use machine_start::extent::{Extent, NO_EXTENT, extent_of};
@@ -10,8 +11,8 @@ use machine_state::state::State;
 use sheet_rows::parts::parts_of;
 
 // The machine and its program: the volatile locations, where the rows of each lane begin and how many they are, and
-// its numbers of lanes, locations and locks. Number 0 is a run that is under way, else it is that of a refusal, with
-// its record; then the moves done and waited.
+// its numbers of lanes, locations and locks; the refusal of a run that is not under way; then the moves done and
+// waited.
 #[derive(Clone, Copy)]
 pub struct Course {
     pub machine: Machine,
@@ -19,8 +20,7 @@ pub struct Course {
     pub first: [usize; 4],
     pub count: [usize; 4],
     pub extent: Extent,
-    pub number: usize,
-    pub rec: usize,
+    pub refusal: Option<Refusal>,
     pub done: usize,
     pub waited: usize,
 }
@@ -41,8 +41,8 @@ pub fn no_state() -> State
 }
 
 // A run that is refused.
-pub(crate) fn blocked(machine: Machine, number: usize, rec: usize) -> Course
-    ensures { result ≡ blocked machine number rec }
+pub(crate) fn blocked(machine: Machine, refusal: Refusal) -> Course
+    ensures { result ≡ blocked machine refusal }
 {
     Course {
         machine,
@@ -50,8 +50,7 @@ pub(crate) fn blocked(machine: Machine, number: usize, rec: usize) -> Course
         first: [0; 4],
         count: [0; 4],
         extent: NO_EXTENT,
-        number,
-        rec,
+        refusal: Some(refusal),
         done: 0,
         waited: 0,
     }
@@ -73,8 +72,7 @@ pub(crate) fn underway(machine: Machine, mask: u32, rows: &[u8]) -> Course
         first,
         count,
         extent: extent_of(rows),
-        number: 0,
-        rec: 0,
+        refusal: None,
         done: 0,
         waited: 0,
     }

@@ -7,6 +7,7 @@ ghost use Rattle.machine_course.specs.Returned.{Answers, Fits, Holds};
 ghost use Rattle.machine_state.specs.States.{SHARED, MEMORY, LOCKWORDS, firsts, word_at, state_in, Sized};
 
 use crate::course::Course;
+use file_verdict::refusal::Refusal;
 use machine_lane::lane::Lane;
 use machine_run::judge::finished;
 use machine_start::extent::Extent;
@@ -24,11 +25,10 @@ pub struct End {
     pub locks: [u32; 4],
 }
 
-// Number 0 is a run that took place, else it is the number of a refusal, with its record.
+// What a run came to; one that did not take place has its refusal.
 #[derive(Clone, Copy)]
 pub struct Ran {
-    pub number: usize,
-    pub rec: usize,
+    pub refusal: Option<Refusal>,
     pub finished: bool,
     pub done: usize,
     pub waited: usize,
@@ -84,7 +84,7 @@ pub(crate) fn answer_finished(x: Course, state: &State) -> bool
         state.now
         → result ≡ (answer_by m s mvs).finished }
 {
-    if x.number != 0 {
+    if x.refusal.is_some() {
         return false;
     }
     finished(state, &x.count)
@@ -99,8 +99,7 @@ pub fn finish(x: Course, state: &State) -> Ran
     let finished = answer_finished(x, state);
     let end = end_of(state);
     Ran {
-        number: x.number,
-        rec: x.rec,
+        refusal: x.refusal,
         finished,
         done: x.done,
         waited: x.waited,

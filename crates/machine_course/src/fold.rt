@@ -6,6 +6,7 @@ ghost use Rattle.machine_course.specs.Stands.{Stands, Standing, counted, stopped
 
 use crate::course::{Course, Rows};
 use crate::start::start;
+use file_verdict::refusal::Refusal;
 use machine_run::judge::{legal_move, limit_of};
 use machine_state::state::{Moved, State};
 use machine_step::step::move_lane;
@@ -28,7 +29,7 @@ fn count(mut x: Course, moved: Moved) -> Course
 fn stop(mut x: Course) -> Course
     ensures { result ≡ stopped x }
 {
-    x.number = 10;
+    x.refusal = Some(Refusal::IllegalMove);
     x.done = 0;
     x.waited = 0;
     x
@@ -42,7 +43,7 @@ pub fn fold_move(rows: &Rows, lane: u8, choice: u8, x: Course, state: &mut State
         state.old
         → Stands s m (mvs ++ (move lane choice ∷ [])) rows.now result state.new }
 {
-    if x.number != 0 {
+    if x.refusal.is_some() {
         return x;
     }
     if !legal_move(lane, choice, wide(x.extent.lanes), limit_of(x.machine)) {

@@ -10,7 +10,7 @@ use Rattle.file_verdict.specs.Verdict.{accepted, verdict}
 use Rattle.machine_spec.specs.declared.Machine.{Machine}
 use Rattle.machine_spec.specs.Schedule.{Move, limit, legal}
 use Rattle.machine_spec.specs.State.{Lane, Run, Outcome, ran, refused, idle, lane_at}
-use Rattle.machine_spec.specs.Run.{Answer, answer_of, start_of, program_for, run_on, run_by, counts_as, shown}
+use Rattle.machine_spec.specs.Run.{number_in, Answer, answer_of, start_of, program_for, run_on, run_by, counts_as, shown}
 use Rattle.machine_spec.specs.Shape.{Shaped, Within}
 use Rattle.claims.specs.Claims.{Claims}
 use Rattle.claims.proofs.Theorem.{claims}
@@ -33,7 +33,7 @@ module _ (s : List ℕ) (k : Program) (e : verdict s ≡ accepted k) where
     pub not_refused : (t p : ℕ) → run_on m k mvs ≡ refused t p → ⊥
     not_refused t p r =
         let eleven : ◌≡◌ {A = ℕ} 11 0 =
-        sym (ap (λ (a : Answer). a.number) (answered (refused t p) r)) ∙ c.runs m mvs le in
+        sym (ap (λ (a : Answer). number_in a.refusal) (answered (refused t p) r)) ∙ ap number_in (c.runs m mvs le) in
         absurd (omega arith)
 
     module _ (r : Run) (re : run_on m k mvs ≡ ran r) where

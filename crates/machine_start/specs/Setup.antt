@@ -3,7 +3,7 @@ use Rattle.std.specs.Prelude.{ℕ, ◌≤◌, ◌<◌, ◌≡◌, Bool, true, Li
 use Rattle.file_format.specs.Accepted.{Program}
 use Rattle.file_verdict.specs.Verdict.{accepted, verdict}
 use Rattle.sheet_format.specs.Bytes.{WriteResult}
-use Rattle.sheet_format.specs.declared.WriteResult.TheVariants.{Wrote}
+use Rattle.std.specs.Prelude.{Ok}
 use Rattle.sheet_format.specs.Levels.{volatile_in}
 use Rattle.sheet_format.specs.Bytes.{over, sheet_bytes}
 use Rattle.machine_spec.specs.Schedule.{Move, limit, legal}
@@ -53,4 +53,4 @@ pub record Begun (m : Machine) (vol : ℕ → Bool) (rows first count : List ℕ
 
 -- the answer of a run that took place, and the output buffer with the state record at its front
 abbrev pub ran_into : Machine → Program → List ℕ → List ℕ → WriteResult × List ℕ
-ran_into m k moves buffer = (Wrote 2280, over (state_bytes (run_program m k (moves_in moves))) buffer)
+ran_into m k moves buffer = (Ok 2280, over (state_bytes (run_program m k (moves_in moves))) buffer)

@@ -6,6 +6,7 @@ ghost use Rattle.machine_lane.specs.Lanes.{flags};
 ghost use Rattle.machine_start.specs.Setup.{ProgramIn, Startable, AtStart, Begun, ran_into};
 
 use crate::extent::extent_of;
+use file_verdict::refusal::Refusal;
 use machine_lane::flags::flags_of;
 use machine_record::state::write_state;
 use machine_run::judge::finished;
@@ -39,10 +40,10 @@ fn run_lanes(
         Ok(Tally { done, waited }) => {
             let finished = finished(state, count);
             write_state(out, finished, done, waited, state);
-            WriteResult::Wrote(2280)
+            Ok(2280)
         }
         // Never reached: no run of an accepted kernel is refused.
-        Err(_) => WriteResult::Refuses(11, 0),
+        Err(_) => Err(Refusal::ReleaseNotHeld(0)),
     }
 }
 

@@ -1,5 +1,5 @@
 -- The bytes of a sheet, and what lowering answers and leaves in the output buffer.
-use Rattle.std.specs.Prelude.{ℕ, ◌/◌, ◌%◌, cond, List, [], ◌∷◌, ◌++◌, map, ltb, length, get_or, drop, Result, Ok, Err}
+use Rattle.std.specs.Prelude.{ℕ, ◌/◌, ◌%◌, cond, List, [], ◌∷◌, ◌++◌, map, ltb, length, get_or, drop, Option, Some, None, Result, Ok, Err}
 use Rattle.file_format.specs.declared.accepted.Op.{Op}
 use Rattle.file_format.specs.declared.accepted.Op.TheVariants.{Set, Add, Load, Store, Lock, Unlock, Skip}
 use Rattle.file_format.specs.Accepted.{Program}
@@ -96,6 +96,11 @@ abbrev pub write_into : List ℕ → List ℕ → WriteResult × List ℕ
 write_into bytes buffer =
     cond (ltb (length buffer) (length bytes)) (Err ShortBuffer, buffer)
     (Ok (length bytes), over bytes buffer)
+
+-- where nothing refuses, so many bytes that leave the buffer like this; else the buffer as it was
+abbrev pub unless_refused : Option Refusal → ℕ → List ℕ → List ℕ → WriteResult × List ℕ
+unless_refused None n after buffer = (Ok n, after)
+unless_refused (Some r) n after buffer = (Err r, buffer)
 
 -- a file's refusal, or the bytes of an accepted kernel
 abbrev pub answer_by : (Program → List ℕ) → Verdict → List ℕ → WriteResult × List ℕ

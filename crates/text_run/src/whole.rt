@@ -42,9 +42,6 @@ pub fn tell_end(machine: Machine, file: &[u8], moves: &[u8], out: &mut [u8]) -> 
         moves.now out.old }
 {
     let mut end = [0u8; 2280];
-    let answer = run_file(machine, file, moves, &mut end);
-    match answer {
-        WriteResult::Wrote(_) => WriteResult::Wrote(tell_state(out, &end, file)),
-        WriteResult::Refuses(number, rec) => WriteResult::Refuses(number, rec),
-    }
+    run_file(machine, file, moves, &mut end)?;
+    Ok(tell_state(out, &end, file))
 }

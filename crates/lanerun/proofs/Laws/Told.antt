@@ -4,6 +4,7 @@ use mathlib.Core.Path.{◌≡◌, sym, subst}
 use mathlib.Core.List.{List, [], ◌∷◌, ◌++◌}
 use native.Mathlib.Omega.{arith}
 use lib.ListN.{length, get_or, take, length-take}
+use Rattle.std.specs.Prelude.{None}
 use Rattle.machine_spec.specs.Schedule.{Move, move}
 use Rattle.machine_spec.specs.Moves.{moves_in}
 use Rattle.machine_spec.proofs.Laws.Moves.{moves_length}
@@ -49,7 +50,7 @@ module _ (b : List ℕ) (few : length b ≤ 65536) {m : Machine} {s : List ℕ} 
         subst (λ mvs. Stands s m mvs rows y e) (sym (moves_next b n there)) (next s m (take n (moves_in b)) c.stands)
 
     module _ {after : List ℕ} (is : after ≡ state_bytes (answer_by m s (take (suc n) (moves_in b)))) where
-      pub between : (answer_by m s (moves_in b)).number ≡ 0 → Between m s (moves_in b) n rows before after
+      pub between : (answer_by m s (moves_in b)).refusal ≡ None → Between m s (moves_in b) n rows before after
       between runs = record {
         runs = runs;
         few = omega (arith, moves_length b);

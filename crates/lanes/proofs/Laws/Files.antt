@@ -9,13 +9,14 @@ use Rattle.file_format.specs.Fields.{word}
 use Rattle.file_format.specs.Accepted.{Program}
 use Rattle.file_verdict.specs.Verdict.{verdict}
 use Rattle.file_verdict.proofs.Laws.Verdict.{accepted_as}
-use Rattle.sheet_format.specs.Bytes.{WriteResult}
-use Rattle.sheet_format.specs.declared.WriteResult.TheVariants.{Refuses}
+use Rattle.std.specs.Prelude.{Ok, Err}
+use Rattle.file_verdict.specs.declared.refusal.Refusal.{Refusal}
+use Rattle.file_verdict.specs.declared.refusal.Refusal.TheVariants.{ShortBuffer, IllegalMove}
 use Rattle.sheet_format.proofs.Answers.{BytesIn}
 use Rattle.machine_spec.specs.Schedule.{limit, legal}
 use Rattle.machine_spec.specs.Moves.{moves_in}
 use Rattle.machine_spec.specs.declared.Machine.{Machine}
-use Rattle.sheet_format.specs.Bytes.{sheet_bytes, lower_by}
+use Rattle.sheet_format.specs.Bytes.{WriteResult, sheet_bytes, lower_by}
 use Rattle.machine_spec.specs.Run.{level_of}
 use Rattle.lanes_answers.specs.Calls.{run_into, run_file_by}
 use Rattle.machine_start.specs.Setup.{ProgramIn, ran_into}
@@ -23,9 +24,9 @@ use Rattle.machine_start.proofs.Laws.Programs.{header_read}
 use Rattle.machine_start.proofs.Laws.Files.{file_verdict, ran_number}
 
 -- a refused file
-pub file_refused : (m : Machine) (s own : List ℕ) → 4112 ≤ length own → {n r : ℕ} {after : List ℕ}
-    → (Refuses n r, after) ≡ lower_by (level_of m) (verdict s) own
-    → (moves out : List ℕ) → (Refuses n r, out) ≡ run_file_by m (verdict s) moves out
+pub file_refused : (m : Machine) (s own : List ℕ) → 4112 ≤ length own → {r : Refusal} {after : List ℕ}
+    → (Err r, after) ≡ lower_by (level_of m) (verdict s) own
+    → (moves out : List ℕ) → (Err r, out) ≡ run_file_by m (verdict s) moves out
 file_refused m s own big p moves out =
     sym (ap (λ v. run_file_by m v moves out) (file_verdict m s own big p))
 
@@ -47,11 +48,11 @@ module _ (m : Machine) {s own rows : List ℕ} (b : BytesIn (sheet_bytes (level_
   by_run : {a : WriteResult × List ℕ} → run_into m k moves out ≡ a → Answers a
   by_run e = sym (ap (λ v. run_file_by m v moves out) b.accepts ∙ e)
 
-  pub short_buffer : length out < 2280 → Answers (Refuses 9 0, out)
+  pub short_buffer : length out < 2280 → Answers (Err ShortBuffer, out)
   short_buffer h = by_run (rw (lt-ltb (length out) 2280 h))
 
   module _ (room : 2280 ≤ length out) where
-    pub odd_moves : length moves % 2 ≡ 1 → Answers (Refuses 10 0, out)
+    pub odd_moves : length moves % 2 ≡ 1 → Answers (Err IllegalMove, out)
     odd_moves h = by_run (rw (le-ltb (length out) 2280 room, eq-eqb (length moves % 2) 1 h))
 
     -- the schedule, judged by the rows' first byte and the machine's highest choice
@@ -63,7 +64,7 @@ module _ (m : Machine) {s own rows : List ℕ} (b : BytesIn (sheet_bytes (level_
           ∙ (header_read k m (drop (length (sheet_bytes (level_of m) k)) own)).0 in
           judged ∙ ap₂ (λ x y. legal x y (moves_in moves)) (ne ∙ first) ce
 
-      pub illegal_moves : ok ≡ false → Answers (Refuses 10 0, out)
+      pub illegal_moves : ok ≡ false → Answers (Err IllegalMove, out)
       illegal_moves bad =
           by_run (rw (le-ltb (length out) 2280 room, ne_eqb (length moves % 2) 1 even, sym lets ∙ bad))
 

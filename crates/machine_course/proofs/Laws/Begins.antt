@@ -7,6 +7,7 @@ use lib.ListN.{length, get_or, drop, replicate}
 use Rattle.file_format.specs.Fields.{word}
 use Rattle.file_format.specs.Accepted.{Program, is_volatile}
 use Rattle.file_format.specs.Lawful.{Lawful}
+use Rattle.file_verdict.specs.declared.refusal.Refusal.{Refusal}
 use Rattle.file_verdict.specs.Verdict.{refused, accepted, verdict}
 use Rattle.file_verdict.proofs.Laws.Verdict.{accepted_as}
 use Rattle.file_wellformed.proofs.Lawful.{accepted_lawful}
@@ -22,31 +23,29 @@ use Rattle.machine_start.proofs.Laws.Programs.{header_read, program_at}
 use Rattle.machine_course.specs.declared.course.Course.{Course}
 use Rattle.machine_course.specs.Stands.{answer_by, Prepared, Stands, Sets, Started, RefusedStart, blocked}
 
-refused_stands : (m : Machine) (s rows : List ℕ) (n r : ℕ) {e : Blocks} → verdict s ≡ refused n r → RefusedStart s n e
-    → Stands s m [] rows (blocked m n r) e
-refused_stands m s rows n r v st =
-    let is : answer_by m s [] ≡ run_by m s (refused n r) [] = ap (λ y. run_by m s y []) v in
+refused_stands : (m : Machine) (s rows : List ℕ) (r : Refusal) {e : Blocks} → verdict s ≡ refused r → RefusedStart s r e
+    → Stands s m [] rows (blocked m r) e
+refused_stands m s rows r v st =
+    let is : answer_by m s [] ≡ run_by m s (refused r) [] = ap (λ y. run_by m s y []) v in
     record {
       sized = st.sized;
       few = omega arith;
       counted = λ e. refl;
-      number = sym (ap (λ (a : Answer). a.number) is);
-      rec = sym (ap (λ (a : Answer). a.rec) is);
+      refusal = sym (ap (λ (a : Answer). a.refusal) is);
       done = sym (ap (λ (a : Answer). a.done) is);
       waited = sym (ap (λ (a : Answer). a.waited) is);
-      state = st.state r v ∙ sym (ap (λ (a : Answer). a.state) is);
+      state = st.state v ∙ sym (ap (λ (a : Answer). a.state) is);
       prepared = λ k a. let z : ◌≡◌ {A = ℕ} 0 1 = clash k (sym v ∙ a) in absurd (omega arith);
     }
   where
-    clash : (k : Program) → refused n r ≡ accepted k → ◌≡◌ {A = ℕ} 0 1
+    clash : (k : Program) → refused r ≡ accepted k → ◌≡◌ {A = ℕ} 0 1
     clash k e = cc
 
 -- of what the code made
-pub begins_refused : (m : Machine) (s : List ℕ) {rows : List ℕ} {n r : ℕ} {x : Course} {e : Blocks} → verdict s ≡
-    refused n r
-    → RefusedStart s n e → x ≡ blocked m n r → Stands s m [] rows x e
-begins_refused m s {rows} {n} {r} {x} {e} v st q =
-    subst (λ y. Stands s m [] rows y e) (sym q) (refused_stands m s rows n r v st)
+pub begins_refused : (m : Machine) (s : List ℕ) {rows : List ℕ} {r : Refusal} {x : Course} {e : Blocks}
+    → verdict s ≡ refused r → RefusedStart s r e → x ≡ blocked m r → Stands s m [] rows x e
+begins_refused m s {rows} {r} {x} {e} v st q =
+    subst (λ y. Stands s m [] rows y e) (sym q) (refused_stands m s rows r v st)
 
 module _ (m : Machine) {s own rows : List ℕ} (b : BytesIn (sheet_bytes (level_of m)) s own rows)
     (room : 4112 ≤ length own) {mask : ℕ} {x : Course} {e : Blocks} (me : mask ≡ word s 4) (sets : Sets m mask rows x)
@@ -99,12 +98,11 @@ module _ (m : Machine) {s own rows : List ℕ} (b : BytesIn (sheet_bytes (level_
       ap (λ y. run_by m s y []) b.accepts in
       record {
         sized = st.sized;
-        few = omega (arith, sets.zeros.2, sets.zeros.3);
-        counted = λ z. omega (arith, sets.zeros.2, sets.zeros.3);
-        number = sets.zeros.0 ∙ sym (ap (λ (a : Answer). a.number) is);
-        rec = sets.zeros.1 ∙ sym (ap (λ (a : Answer). a.rec) is);
-        done = sets.zeros.2 ∙ sym (ap (λ (a : Answer). a.done) is);
-        waited = sets.zeros.3 ∙ sym (ap (λ (a : Answer). a.waited) is);
+        few = omega (arith, sets.zeros.1, sets.zeros.2);
+        counted = λ z. omega (arith, sets.zeros.1, sets.zeros.2);
+        refusal = sets.zeros.0 ∙ sym (ap (λ (a : Answer). a.refusal) is);
+        done = sets.zeros.1 ∙ sym (ap (λ (a : Answer). a.done) is);
+        waited = sets.zeros.2 ∙ sym (ap (λ (a : Answer). a.waited) is);
         state = start ∙ sym (ap (λ (a : Answer). a.state) is);
         prepared = λ j v. subst (λ q. Prepared m q rows x e) (same_kernel j v) prepared;
       }

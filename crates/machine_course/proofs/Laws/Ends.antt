@@ -5,6 +5,7 @@ use mathlib.Core.Bool.{Bool, true, false}
 use mathlib.Core.List.{List, [], ◌∷◌}
 use native.Mathlib.Omega.{arith}
 use lib.ListN.{length, get_or, take, drop}
+use Rattle.std.specs.Prelude.{None}
 use Rattle.file_format.specs.Accepted.{Program}
 use Rattle.file_format.specs.Lawful.{Lawful}
 use Rattle.file_verdict.specs.Verdict.{Verdict, refused, accepted, verdict}
@@ -37,24 +38,24 @@ four_blocks (x ∷ y ∷ z ∷ u ∷ s) h = refl
 module _ {s : List ℕ} {m : Machine} {mvs : List Move} {rows : List ℕ} {x : Course} {h : Blocks}
     (so : Stands s m mvs rows x h) where
   -- a refusal is not finished
-  pub not_finished : (x.number ≡ 0 → ⊥) → false ≡ (answer_by m s mvs).finished
+  pub not_finished : (x.refusal ≡ None → ⊥) → false ≡ (answer_by m s mvs).finished
   not_finished never = go (verdict s) refl
     where
       go : (v : Verdict) → verdict s ≡ v → false ≡ (answer_by m s mvs).finished
-      go (refused n r) e = sym (ap (λ v. (run_by m s v mvs).finished) e)
+      go (refused r) e = sym (ap (λ v. (run_by m s v mvs).finished) e)
       go (accepted k) e = which (legal (length k.lanes) (limit m) mvs) refl
         where
           which : (b : Bool) → legal (length k.lanes) (limit m) mvs ≡ b
               → false ≡ (answer_by m s mvs).finished
           which true l =
-              absurd (never (so.number ∙ ap (λ v. (run_by m s v mvs).number) e
+              absurd (never (so.refusal ∙ ap (λ v. (run_by m s v mvs).refusal) e
               ∙ ran_number s k e m mvs l))
           which false l = sym (ap (λ v. (run_by m s v mvs).finished) e ∙ rw l refl)
 
   -- ## a run that took place
-  module _ (z : x.number ≡ 0) where
+  module _ (z : x.refusal ≡ None) where
     here : Under m s mvs
-    here = under m s mvs (sym so.number ∙ z)
+    here = under m s mvs (sym so.refusal ∙ z)
 
     abbrev k : Program
     k = here.kernel

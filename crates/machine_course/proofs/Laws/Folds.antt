@@ -10,13 +10,15 @@ use lib.Seq.{take_at, take_all}
 use Rattle.laws.proofs.Lists.{get_elem?_seam}
 use Rattle.file_format.specs.Accepted.{Program}
 use Rattle.file_format.specs.Lawful.{Lawful}
+use Rattle.std.specs.Prelude.{None}
+use Rattle.file_verdict.specs.declared.refusal.Refusal.TheVariants.{IllegalMove}
 use Rattle.file_verdict.specs.Verdict.{accepted, verdict}
 use Rattle.file_wellformed.proofs.Lawful.{accepted_lawful}
 use Rattle.sheet_format.specs.Layout.{Instr}
 use Rattle.sheet_format.specs.Read.{read_rows}
 use Rattle.machine_spec.specs.Schedule.{Move, limit, legal}
 use Rattle.machine_spec.specs.State.{State, start_state, Outcome, ran, refused, run, begin}
-use Rattle.machine_spec.specs.Run.{Answer, refusal, answer_of, start_of, program_for, run_on, run_by}
+use Rattle.machine_spec.specs.Run.{Answer, refused_with, answer_of, start_of, program_for, run_on, run_by}
 use Rattle.machine_spec.specs.declared.Machine.{Machine}
 use Rattle.machine_lane.specs.Lanes.{flags}
 use Rattle.machine_state.specs.declared.state.Moved.{Moved}
@@ -32,7 +34,7 @@ use Rattle.machine_start.proofs.Laws.Start.{zeroed, zeroed_state}
 use Rattle.machine_start.specs.declared.extent.Extent.{Extent}
 use Rattle.machine_course.specs.declared.course.Course.{Course}
 use Rattle.machine_course.specs.Stands.{answer_by, Prepared, Stands, Started, counted, stopped}
-use Rattle.machine_course.proofs.Laws.Legal.{allowed, legal_snoc, Under, under, stays_refused}
+use Rattle.machine_course.proofs.Laws.Legal.{some_refusal, allowed, legal_snoc, Under, under, stays_refused}
 
 snoc_length : (mvs : List Move) (mv : Move) → length (mvs ++ (mv ∷ [])) ≡ length mvs + 1
 snoc_length mvs mv = length-append mvs (mv ∷ [])
@@ -42,15 +44,14 @@ module _ {s : List ℕ} {m : Machine} {mvs : List Move} {rows : List ℕ} {x : C
   abbrev after : List Move
   after = mvs ++ (mv ∷ [])
 
-  pub still_refused : (x.number ≡ 0 → ⊥) → Stands s m after rows x h
+  pub still_refused : (x.refusal ≡ None → ⊥) → Stands s m after rows x h
   still_refused never =
-      let same = stays_refused m s mvs mv (λ e. never (so.number ∙ e)) in
+      let same = stays_refused m s mvs mv (λ e. never (so.refusal ∙ e)) in
       record {
         sized = so.sized;
         few = omega (arith, so.few, snoc_length mvs mv);
         counted = λ e. absurd (never e);
-        number = so.number ∙ ap (λ (a : Answer). a.number) same;
-        rec = so.rec ∙ ap (λ (a : Answer). a.rec) same;
+        refusal = so.refusal ∙ ap (λ (a : Answer). a.refusal) same;
         done = so.done ∙ ap (λ (a : Answer). a.done) same;
         waited = so.waited ∙ ap (λ (a : Answer). a.waited) same;
         state = so.state ∙ ap (λ (a : Answer). a.state) same;
@@ -58,9 +59,9 @@ module _ {s : List ℕ} {m : Machine} {mvs : List Move} {rows : List ℕ} {x : C
       }
 
   -- ## a run that is under way
-  module _ (z : x.number ≡ 0) where
+  module _ (z : x.refusal ≡ None) where
     pub here : Under m s mvs
-    here = under m s mvs (sym so.number ∙ z)
+    here = under m s mvs (sym so.refusal ∙ z)
 
     abbrev k : Program
     k = here.kernel
@@ -90,20 +91,13 @@ module _ {s : List ℕ} {m : Machine} {mvs : List Move} {rows : List ℕ} {x : C
     answers_by : {a : Answer} → run_by m s (accepted k) after ≡ a → answer_by m s after ≡ a
     answers_by e = ap (λ v. run_by m s v after) here.accepts ∙ e
 
-    number_blames : x.rec ≡ 0
-    number_blames = so.rec ∙ go (run_on m k mvs) refl
-      where
-        go : (o : Outcome) → run_on m k mvs ≡ o → (answer_by m s mvs).rec ≡ 0
-        go (ran r) e = ap (λ v. (run_by m s v mvs).rec) here.accepts ∙ rw (here.legals, e) refl
-        go (refused t p) e = absurd (not_refused s k here.accepts m mvs here.legals t p e)
-
     -- a move that is not legal
     stops : {c width : ℕ} {b : Bool} {e : Blocks} → c ≡ limit x.machine → width ≡ x.extent.lanes
         → b ≡ allowed width c mv → b ≡ false → Started x.extent.lanes x.extent.locations x.extent.locks e
         → Stands s m after rows (stopped x) e
     stops {e = e} ce we be bad st =
         let illegal = legal_after ∙ sym (test ce we be) ∙ bad in
-        let same : answer_by m s after ≡ refusal (start_of k) 10 0 = answers_by (rw illegal refl) in
+        let same : answer_by m s after ≡ refused_with (start_of k) IllegalMove = answers_by (rw illegal refl) in
         let few = law.few_lanes in
         let start : state_in e ≡ start_of k =
         st.state (omega (arith, own.lanes, law.few_lanes)) (omega (arith, own.locations, law.few_locations))
@@ -112,9 +106,8 @@ module _ {s : List ℕ} {m : Machine} {mvs : List Move} {rows : List ℕ} {x : C
         record {
           sized = st.sized;
           few = omega arith;
-          counted = λ e. let ten : ◌≡◌ {A = ℕ} 10 0 = e in absurd (omega arith);
-          number = sym (ap (λ (a : Answer). a.number) same);
-          rec = number_blames ∙ sym (ap (λ (a : Answer). a.rec) same);
+          counted = λ e. absurd (some_refusal e);
+          refusal = sym (ap (λ (a : Answer). a.refusal) same);
           done = sym (ap (λ (a : Answer). a.done) same);
           waited = sym (ap (λ (a : Answer). a.waited) same);
           state = start ∙ sym (ap (λ (a : Answer). a.state) same);
@@ -220,14 +213,13 @@ module _ {s : List ℕ} {m : Machine} {mvs : List Move} {rows : List ℕ} {x : C
                 (course e (ends d u).row d (j + 1 - d))
             answer = answers_by (rw (lets, came) refl)
 
-            stands : (y : Course) → Prepared m k rows y e → y.number ≡ 0 → y.rec ≡ 0 → y.done ≡ d
+            stands : (y : Course) → Prepared m k rows y e → y.refusal ≡ None → y.done ≡ d
                 → y.waited ≡ j + 1 - d → d ≤ j + 1 → Stands s m after rows y e
-            stands y p yn yr yd yw few = record {
+            stands y p yn yd yw few = record {
               sized = made.sized;
               few = omega (arith, snoc_length mvs mv);
               counted = λ _. omega (arith, snoc_length mvs mv);
-              number = yn ∙ sym (ap (λ (a : Answer). a.number) answer);
-              rec = yr ∙ sym (ap (λ (a : Answer). a.rec) answer);
+              refusal = yn ∙ sym (ap (λ (a : Answer). a.refusal) answer);
               done = yd ∙ sym (ap (λ (a : Answer). a.done) answer);
               waited = yw ∙ sym (ap (λ (a : Answer). a.waited) answer);
               state = sym (ap (λ (a : Answer). a.state) answer);
@@ -257,10 +249,10 @@ module _ {s : List ℕ} {m : Machine} {mvs : List Move} {rows : List ℕ} {x : C
               go : (p : Moved) → q ≡ p → Stands s m after rows (counted x p) e
               go Waited qe =
                   stands x.done (inl (qe, refl)) (counted x Waited) (kept (counted x Waited) refl refl refl refl refl)
-                  z number_blames refl (omega (arith, waits_rest, done_few)) (omega (arith, done_few))
+                  z refl (omega (arith, waits_rest, done_few)) (omega (arith, done_few))
               go Done qe =
                   stands (x.done + 1) (inr (qe, refl)) (counted x Done) (kept (counted x Done) refl refl refl refl refl)
-                  z number_blames refl (omega (arith, waits_rest, done_few)) (omega (arith, done_few))
+                  z refl (omega (arith, waits_rest, done_few)) (omega (arith, done_few))
               go ReleaseNotHeld qe =
                   absurd (not_refused s k here.accepts m after lets mv.lane _
                   (sym (same_run after) ∙ (run_refused runs j mv (get_elem?_seam mvs mv []) x.done x.waited h e q
@@ -270,7 +262,7 @@ module _ {s : List ℕ} {m : Machine} {mvs : List Move} {rows : List ℕ} {x : C
 -- ## the same of what the code made
 
 module _ {s : List ℕ} {m : Machine} {mvs : List Move} {rows : List ℕ} {x y : Course} {h e : Blocks}
-    (so : Stands s m mvs rows x h) (mv : Move) (z : x.number ≡ 0) {c width : ℕ} {b : Bool}
+    (so : Stands s m mvs rows x h) (mv : Move) (z : x.refusal ≡ None) {c width : ℕ} {b : Bool}
     (ce : c ≡ limit x.machine) (we : width ≡ x.extent.lanes) (be : b ≡ allowed width c mv) where
   pub code_stops : b ≡ false → Started x.extent.lanes x.extent.locations x.extent.locks e → y ≡ stopped x
       → Stands s m (mvs ++ (mv ∷ [])) rows y e

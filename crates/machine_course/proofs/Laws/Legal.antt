@@ -8,11 +8,8 @@ use lib.Dec.{ltb, leb}
 use lib.ListN.{length}
 use Rattle.file_format.specs.Accepted.{Program}
 use Rattle.file_verdict.specs.declared.refusal.Refusal.{Refusal}
-use Rattle.file_verdict.specs.declared.refusal.Refusal.TheVariants.{Accepted, TruncatedHeader, BadHeader, BadLength}
-use Rattle.file_verdict.specs.declared.refusal.Refusal.TheVariants.{BadRecord, BadLinkage, ChainTooLong, BadTarget}
-use Rattle.file_verdict.specs.declared.refusal.Refusal.TheVariants.{LockFault, LockOrder}
-use Rattle.file_verdict.specs.Verdict.{Verdict, refused, accepted, verdict, verdict_from, refusal_of}
-use Rattle.file_format.specs.Accepted.{program_of}
+use Rattle.file_verdict.specs.Verdict.{Verdict, refused, accepted, verdict}
+use Rattle.std.specs.Prelude.{Option, Some, None}
 use Rattle.machine_spec.specs.Schedule.{Move, limit, legal}
 use Rattle.machine_spec.specs.Run.{run_by}
 use Rattle.machine_spec.specs.declared.Machine.{Machine}
@@ -33,21 +30,9 @@ legal_snoc n k (x ∷ mvs) mv = go (allowed n k x) (legal_snoc n k mvs mv)
     go true e = e
     go false e = refl
 
--- a refusal has a number
-pub refused_number : (s : List ℕ) (n r : ℕ) → verdict s ≡ refused n r → 0 < n
-refused_number s n r = go (refusal_of s)
-  where
-    go : (x : Refusal) → verdict_from x (program_of s) ≡ refused n r → 0 < n
-    go Accepted e = let z : ◌≡◌ {A = ℕ} 0 1 = cc in absurd (omega arith)
-    go TruncatedHeader e = let z : 1 ≡ n = cc in omega arith
-    go BadHeader e = let z : 2 ≡ n = cc in omega arith
-    go BadLength e = let z : 3 ≡ n = cc in omega arith
-    go (BadRecord q) e = let z : 4 ≡ n = cc in omega arith
-    go (BadLinkage q) e = let z : 5 ≡ n = cc in omega arith
-    go (ChainTooLong q) e = let z : 6 ≡ n = cc in omega arith
-    go (BadTarget q) e = let z : 7 ≡ n = cc in omega arith
-    go (LockFault q) e = let z : 8 ≡ n = cc in omega arith
-    go (LockOrder q) e = let z : 12 ≡ n = cc in omega arith
+-- a refusal is one
+pub some_refusal : {r : Refusal} → ◌≡◌ {A = Option Refusal} (Some r) None → ⊥
+some_refusal e = let z : ◌≡◌ {A = ℕ} 0 1 = cc in absurd (omega arith)
 
 module _ (m : Machine) (s : List ℕ) (mvs : List Move) where
   abbrev lets : Program → List Move → Bool
@@ -59,35 +44,30 @@ module _ (m : Machine) (s : List ℕ) (mvs : List Move) where
     pub accepts : verdict s ≡ accepted kernel
     pub legals : lets kernel mvs ≡ true
 
-  pub under : (answer_by m s mvs).number ≡ 0 → Under
+  pub under : (answer_by m s mvs).refusal ≡ None → Under
   under e = go (verdict s) refl
     where
       go : (v : Verdict) → verdict s ≡ v → Under
-      go (refused n r) h =
-          let zero : n ≡ 0 = sym (ap (λ v. (run_by m s v mvs).number) h) ∙ e in
-          let one = refused_number s n r h in
-          absurd (omega arith)
+      go (refused r) h = absurd (some_refusal (sym (ap (λ v. (run_by m s v mvs).refusal) h) ∙ e))
       go (accepted k) h = which (lets k mvs) refl
         where
           which : (b : Bool) → lets k mvs ≡ b → Under
           which true l = record { kernel = k; accepts = h; legals = l }
-          which false l =
-              let ten : ◌≡◌ {A = ℕ} 10 0 = sym (ap (λ v. (run_by m s v mvs).number) h ∙ rw l refl) ∙ e in
-              absurd (omega arith)
+          which false l = absurd (some_refusal (sym (ap (λ v. (run_by m s v mvs).refusal) h ∙ rw l refl) ∙ e))
 
   -- an answer that is a refusal is that of every longer schedule
-  pub stays_refused : (mv : Move) → ((answer_by m s mvs).number ≡ 0 → ⊥)
+  pub stays_refused : (mv : Move) → ((answer_by m s mvs).refusal ≡ None → ⊥)
       → answer_by m s mvs ≡ answer_by m s (mvs ++ (mv ∷ []))
   stays_refused mv never = go (verdict s) refl
     where
       go : (v : Verdict) → verdict s ≡ v → answer_by m s mvs ≡ answer_by m s (mvs ++ (mv ∷ []))
-      go (refused n r) h =
+      go (refused r) h =
           ap (λ v. run_by m s v mvs) h ∙ sym (ap (λ v. run_by m s v (mvs ++ (mv ∷ []))) h)
       go (accepted k) h = which (lets k mvs) refl
         where
           which : (b : Bool) → lets k mvs ≡ b → answer_by m s mvs ≡ answer_by m s (mvs ++ (mv ∷ []))
           which true l =
-              absurd (never (ap (λ v. (run_by m s v mvs).number) h ∙ ran_number s k h m mvs l))
+              absurd (never (ap (λ v. (run_by m s v mvs).refusal) h ∙ ran_number s k h m mvs l))
           which false l =
               let more : lets k (mvs ++ (mv ∷ [])) ≡ false =
               legal_snoc (length k.lanes) (limit m) mvs mv

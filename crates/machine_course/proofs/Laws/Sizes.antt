@@ -11,7 +11,8 @@ use Rattle.file_format.specs.Accepted.{Program}
 use Rattle.file_format.specs.Fields.{lane_count, locations, locks}
 use Rattle.file_format.specs.Lawful.{Lawful}
 use Rattle.file_format.proofs.Laws.Rules.{few_locations, few_locks}
-use Rattle.file_verdict.specs.Verdict.{Verdict, refused, accepted, verdict}
+use Rattle.file_verdict.specs.declared.refusal.Refusal.{Refusal}
+use Rattle.file_verdict.specs.Verdict.{Verdict, refused, accepted, verdict, number_of}
 use Rattle.file_wellformed.proofs.Lawful.{accepted_lawful}
 use Rattle.machine_spec.specs.Schedule.{Move, limit, legal}
 use Rattle.machine_spec.specs.Shape.{AllSmall}
@@ -56,13 +57,13 @@ start_fits n ls ks l k = record {
   small = record { locks = zero_everywhere ks; entries = none_pending n };
 }
 
-refused_fits : (s : List ℕ) (n r : ℕ) → verdict s ≡ refused n r → Fits (refused_start s n)
-refused_fits s n r v = go (ltb n 3) refl
+refused_fits : (s : List ℕ) (r : Refusal) → verdict s ≡ refused r → Fits (refused_start s r)
+refused_fits s r v = go (ltb (number_of r) 3) refl
   where
-    go : (b : Bool) → ltb n 3 ≡ b → Fits (refused_start s n)
+    go : (b : Bool) → ltb (number_of r) 3 ≡ b → Fits (refused_start s r)
     go true e = rw e (start_fits 0 0 0 (omega arith) (omega arith))
     go false e =
-        let ok = header_valid s n r v (ltb-false n 3 e) in
+        let ok = header_valid s r v (ltb-false (number_of r) 3 e) in
         rw e (start_fits (lane_count s) (locations s) (locks s) (few_locations s ok) (few_locks s ok))
 
 module _ (m : Machine) (s : List ℕ) (mvs : List Move) where
@@ -96,7 +97,7 @@ module _ (m : Machine) (s : List ℕ) (mvs : List Move) where
   answer_fits = go (verdict s) refl
     where
       go : (v : Verdict) → verdict s ≡ v → Fits (answer_by m s mvs).state
-      go (refused n r) v = subst (λ w. Fits (answered w)) (sym v) (refused_fits s n r v)
+      go (refused r) v = subst (λ w. Fits (answered w)) (sym v) (refused_fits s r v)
       go (accepted k) v = subst (λ w. Fits (answered w)) (sym v) (accepted_fits k v)
 
 -- so what a run so far holds does

@@ -7,7 +7,8 @@ use native.Mathlib.Omega.{arith}
 use lib.ListN.{length}
 use Rattle.file_format.specs.Accepted.{Program}
 use Rattle.file_verdict.specs.Verdict.{verdict, refused as refusing, accepted}
-use Rattle.sheet_format.specs.declared.WriteResult.TheVariants.{Wrote, Refuses}
+use Rattle.std.specs.Prelude.{Ok, Err, None}
+use Rattle.file_verdict.specs.declared.refusal.Refusal.{Refusal}
 use Rattle.sheet_format.proofs.Answers.{BytesIn, refuses_as, wrote_as}
 use Rattle.machine_spec.proofs.Levels.{program_narrow}
 use Rattle.machine_spec.specs.declared.Machine.{Machine}
@@ -19,19 +20,19 @@ use Rattle.machine_start.proofs.Answered.{not_refused}
 
 -- a legal schedule's run is no refusal
 pub ran_number : (s : List ℕ) (k : Program) → verdict s ≡ accepted k → (m : Machine) (mvs : List Move)
-    → legal (length k.lanes) (limit m) mvs ≡ true → (run_program m k mvs).number ≡ 0
+    → legal (length k.lanes) (limit m) mvs ≡ true → (run_program m k mvs).refusal ≡ None
 ran_number s k e m mvs le = rw le (go (run_on m k mvs) refl)
   where
-    go : (o : Outcome) → run_on m k mvs ≡ o → (answer_of (program_for m k) k.records (start_of k) o).number ≡ 0
+    go : (o : Outcome) → run_on m k mvs ≡ o → (answer_of (program_for m k) k.records (start_of k) o).refusal ≡ None
     go (ran r) h = refl
     go (refused t p) h = absurd (not_refused s k e m mvs le t p h)
 
 -- a machine's program, in a buffer that takes every program
 module _ (m : Machine) (s own : List ℕ) (big : 4112 ≤ length own) where
-  pub file_verdict : {n r : ℕ} {after : List ℕ} → (Refuses n r, after) ≡ lower_by (level_of m) (verdict s) own
-      → verdict s ≡ refusing n r
+  pub file_verdict : {r : Refusal} {after : List ℕ} → (Err r, after) ≡ lower_by (level_of m) (verdict s) own
+      → verdict s ≡ refusing r
   file_verdict = refuses_as (level_of m) s own (omega (arith, program_narrow m))
 
-  pub file_accepted : {n : ℕ} {after : List ℕ} → (Wrote n, after) ≡ lower_by (level_of m) (verdict s) own
+  pub file_accepted : {n : ℕ} {after : List ℕ} → (Ok n, after) ≡ lower_by (level_of m) (verdict s) own
       → BytesIn (sheet_bytes (level_of m)) s own after
   file_accepted = wrote_as (level_of m) s own (omega (arith, program_narrow m))

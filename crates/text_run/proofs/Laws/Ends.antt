@@ -4,19 +4,19 @@ use mathlib.Core.Path.{◌≡◌, refl, sym, ap, ◌∙◌}
 use mathlib.Core.Bool.{Bool, true, false, cond}
 use mathlib.Core.List.{List, append-nil, ◌++◌}
 use native.Mathlib.Omega.{arith}
-use lib.Dec.{eqb}
 use lib.ListN.{length, drop_of_length-le}
 use lib.Seq.{sets}
-use borrow.Author.Tests.{le-ltb, eqb-true}
+use borrow.Author.Tests.{le-ltb}
 use Rattle.file_format.specs.Fields.{byte}
 use Rattle.file_format.specs.Accepted.{Program}
 use Rattle.file_format.proofs.Laws.Rules.{four_lanes_lem}
 use Rattle.file_format.proofs.Laws.Stored.{lane_count_lem}
 use Rattle.file_verdict.specs.Verdict.{Verdict, refused, accepted, verdict}
 use Rattle.file_verdict.proofs.Laws.Verdict.{sound, accepted_as}
-use Rattle.sheet_format.specs.Bytes.{WriteResult}
-use Rattle.sheet_format.specs.declared.WriteResult.TheVariants.{Wrote, Refuses}
-use Rattle.sheet_format.specs.Bytes.{over}
+use Rattle.std.specs.Prelude.{Option, Some, None, Ok, Err}
+use Rattle.file_verdict.specs.declared.refusal.Refusal.{Refusal}
+use Rattle.file_verdict.specs.declared.refusal.Refusal.TheVariants.{IllegalMove}
+use Rattle.sheet_format.specs.Bytes.{WriteResult, over, unless_refused}
 use Rattle.sheet_format.specs.Put.{Puts}
 use Rattle.sheet_format.proofs.Laws.Put.{puts_as}
 use Rattle.machine_spec.specs.declared.Machine.{Machine}
@@ -55,54 +55,50 @@ module _ (m : Machine) (s moves : List ℕ) where
 
   -- what is answered on a verdict, and the buffer after: w says what is written of a run that takes place
   abbrev answered : (Program → ℕ × List ℕ) → List ℕ → Verdict → WriteResult × List ℕ
-  answered w buffer (refused n r) = (Refuses n r, buffer)
+  answered w buffer (refused r) = (Err r, buffer)
   answered w buffer (accepted k) =
-      cond (odd_bytes moves) (Refuses 10 0, buffer)
-      (cond (eqb (answer k).number 0) (Wrote (w k).0, (w k).1) (Refuses (answer k).number (answer k).rec, buffer))
+      cond (odd_bytes moves) (Err IllegalMove, buffer) (unless_refused (answer k).refusal (w k).0 (w k).1 buffer)
 
   record Ran (w : Program → ℕ × List ℕ) (after : List ℕ) : Type 0 where
     kernel : Program
     accepts : verdict s ≡ accepted kernel
     even : odd_bytes moves ≡ false
-    zero : eqb (answer kernel).number 0 ≡ true
+    none : (answer kernel).refusal ≡ None
     written : after ≡ (w kernel).1
 
   module _ (w : Program → ℕ × List ℕ) (buffer : List ℕ) {after : List ℕ} where
     -- something is written only of a run that takes place
-    takes_place : {n : ℕ} → (Wrote n, after) ≡ answered w buffer (verdict s) → Ran w after
+    takes_place : {n : ℕ} → (Ok n, after) ≡ answered w buffer (verdict s) → Ran w after
     takes_place {n} = go (verdict s) refl
       where
-        by : (k : Program) → verdict s ≡ accepted k → (t u : Bool) → odd_bytes moves ≡ t
-            → eqb (answer k).number 0 ≡ u
-            → ◌≡◌ {A = WriteResult × List ℕ} (Wrote n, after)
-            (cond t (Refuses 10 0, buffer)
-            (cond u (Wrote (w k).0, (w k).1) (Refuses (answer k).number (answer k).rec, buffer)))
+        by : (k : Program) → verdict s ≡ accepted k → (t : Bool) (o : Option Refusal) → odd_bytes moves ≡ t
+            → (answer k).refusal ≡ o
+            → ◌≡◌ {A = WriteResult × List ℕ} (Ok n, after)
+            (cond t (Err IllegalMove, buffer) (unless_refused o (w k).0 (w k).1 buffer))
             → Ran w after
-        by k e true u te ue p = let z : ◌≡◌ {A = ℕ} 0 1 = cc (ap (λ x. x.0) p) in absurd (omega arith)
-        by k e false true te ue p =
-            record { kernel = k; accepts = e; even = te; zero = ue; written = ap (λ x. x.1) p }
-        by k e false false te ue p = let z : ◌≡◌ {A = ℕ} 0 1 = cc (ap (λ x. x.0) p) in absurd (omega arith)
+        by k e true o te oe p = let z : ◌≡◌ {A = ℕ} 0 1 = cc (ap (λ x. x.0) p) in absurd (omega arith)
+        by k e false None te oe p =
+            record { kernel = k; accepts = e; even = te; none = oe; written = ap (λ x. x.1) p }
+        by k e false (Some r) te oe p = let z : ◌≡◌ {A = ℕ} 0 1 = cc (ap (λ x. x.0) p) in absurd (omega arith)
 
-        go : (v : Verdict) → verdict s ≡ v → (Wrote n, after) ≡ answered w buffer v → Ran w after
-        go (refused q r) e p = let z : ◌≡◌ {A = ℕ} 0 1 = cc (ap (λ x. x.0) p) in absurd (omega arith)
-        go (accepted k) e p = by k e (odd_bytes moves) (eqb (answer k).number 0) refl refl p
+        go : (v : Verdict) → verdict s ≡ v → (Ok n, after) ≡ answered w buffer v → Ran w after
+        go (refused r) e p = let z : ◌≡◌ {A = ℕ} 0 1 = cc (ap (λ x. x.0) p) in absurd (omega arith)
+        go (accepted k) e p = by k e (odd_bytes moves) (answer k).refusal refl refl p
 
     -- a refusal is the same whatever would be written
-    refused_alike : {n r : ℕ} (w' : Program → ℕ × List ℕ) (out : List ℕ) (v : Verdict)
-        → (Refuses n r, after) ≡ answered w buffer v → (Refuses n r, out) ≡ answered w' out v
-    refused_alike w' out (refused q p) e = λ i. ((e i).0, out)
-    refused_alike {n} {r} w' out (accepted k) e = by (odd_bytes moves) (eqb (answer k).number 0) e
+    refused_alike : {r : Refusal} (w' : Program → ℕ × List ℕ) (out : List ℕ) (v : Verdict)
+        → (Err r, after) ≡ answered w buffer v → (Err r, out) ≡ answered w' out v
+    refused_alike w' out (refused q) e = λ i. ((e i).0, out)
+    refused_alike {r} w' out (accepted k) e = by (odd_bytes moves) (answer k).refusal e
       where
-        by : (t u : Bool)
-            → ◌≡◌ {A = WriteResult × List ℕ} (Refuses n r, after)
-            (cond t (Refuses 10 0, buffer)
-            (cond u (Wrote (w k).0, (w k).1) (Refuses (answer k).number (answer k).rec, buffer)))
-            → ◌≡◌ {A = WriteResult × List ℕ} (Refuses n r, out)
-            (cond t (Refuses 10 0, out)
-            (cond u (Wrote (w' k).0, (w' k).1) (Refuses (answer k).number (answer k).rec, out)))
-        by true u e = λ i. ((e i).0, out)
-        by false true e = let z : ◌≡◌ {A = ℕ} 0 1 = cc (ap (λ x. x.0) e) in absurd (omega arith)
-        by false false e = λ i. ((e i).0, out)
+        by : (t : Bool) (o : Option Refusal)
+            → ◌≡◌ {A = WriteResult × List ℕ} (Err r, after)
+            (cond t (Err IllegalMove, buffer) (unless_refused o (w k).0 (w k).1 buffer))
+            → ◌≡◌ {A = WriteResult × List ℕ} (Err r, out)
+            (cond t (Err IllegalMove, out) (unless_refused o (w' k).0 (w' k).1 out))
+        by true o e = λ i. ((e i).0, out)
+        by false None e = let z : ◌≡◌ {A = ℕ} 0 1 = cc (ap (λ x. x.0) e) in absurd (omega arith)
+        by false (Some q) e = λ i. ((e i).0, out)
 
   -- ## the code's answers
 
@@ -113,24 +109,24 @@ module _ (m : Machine) (s moves : List ℕ) where
   texts out k = (length (answer_text (answer k)), sets out 0 (answer_text (answer k)))
 
   tells : (out : List ℕ) (v : Verdict) → tell_end_by m v moves out ≡ answered (texts out) out v
-  tells out (refused n r) = refl
+  tells out (refused r) = refl
   tells out (accepted k) = refl
 
   -- `run_file` on a buffer that takes a record
   module _ (buffer : List ℕ) (room : length buffer ≡ 2280) where
     answers : (v : Verdict) → run_file_by m v moves buffer ≡ answered (records buffer) buffer v
-    answers (refused n r) = refl
+    answers (refused r) = refl
     answers (accepted k) = rw (le-ltb (length buffer) 2280 (omega arith)) refl
 
-    pub end_refused : {n r : ℕ} {after : List ℕ} (out : List ℕ)
-        → (Refuses n r, after) ≡ run_file_by m (verdict s) moves buffer
-        → (Refuses n r, out) ≡ tell_end_by m (verdict s) moves out
+    pub end_refused : {r : Refusal} {after : List ℕ} (out : List ℕ)
+        → (Err r, after) ≡ run_file_by m (verdict s) moves buffer
+        → (Err r, out) ≡ tell_end_by m (verdict s) moves out
     end_refused out p =
         refused_alike (records buffer) buffer (texts out) out (verdict s) (p ∙ answers (verdict s))
         ∙ sym (tells out (verdict s))
 
     module _ (few : length moves < 2 ^ 32) (out : List ℕ) {n size : ℕ} {end after : List ℕ}
-        (p : (Wrote n, end) ≡ run_file_by m (verdict s) moves buffer)
+        (p : (Ok n, end) ≡ run_file_by m (verdict s) moves buffer)
         (q : Puts out 0 (state_text end (byte s 0) (byte s 1) (byte s 2)) after size) where
       ran : Ran (records buffer) end
       ran = takes_place (records buffer) buffer (p ∙ answers (verdict s))
@@ -149,16 +145,16 @@ module _ (m : Machine) (s moves : List ℕ) where
           (λ i. state_text (bytes i) (counts.0 i) (counts.1 i) (counts.2 i))
           ∙ end_told s k ran.accepts m (moves_in moves) (omega (arith, moves_length moves)) ∙ ap answer_text is
 
-      pub end_wrote : (Wrote size, after) ≡ tell_end_by m (verdict s) moves out
+      pub end_wrote : (Ok size, after) ≡ tell_end_by m (verdict s) moves out
       end_wrote =
           let laid = puts_as text q in
           let whole : size ≡ length (answer_text (answer k)) = omega (arith, laid.behind) in
-          (λ i. (Wrote (whole i), laid.bytes i))
-          ∙ sym (ap (λ v. tell_end_by m v moves out) ran.accepts ∙ rw (ran.even, ran.zero) refl)
+          (λ i. (Ok (whole i), laid.bytes i))
+          ∙ sym (ap (λ v. tell_end_by m v moves out) ran.accepts ∙ rw (ran.even, ran.none) refl)
 
   -- text that is told is of a run that took place
-  pub told_ran : (out : List ℕ) {n : ℕ} {after : List ℕ} → (Wrote n, after) ≡ tell_end_by m (verdict s) moves out
-      → (answer_by m s (moves_in moves)).number ≡ 0
+  pub told_ran : (out : List ℕ) {n : ℕ} {after : List ℕ} → (Ok n, after) ≡ tell_end_by m (verdict s) moves out
+      → (answer_by m s (moves_in moves)).refusal ≡ None
   told_ran out p =
       let r = takes_place (texts out) out (p ∙ tells out (verdict s)) in
-      ap (λ v. (run_by m s v (moves_in moves)).number) r.accepts ∙ eqb-true (answer r.kernel).number 0 r.zero
+      ap (λ v. (run_by m s v (moves_in moves)).refusal) r.accepts ∙ r.none

@@ -6,5 +6,5 @@ use Rattle.lanerun.proofs.tell.run_and_tell.Goals as goal
 pub tell_moves-requires : goal.tell_moves-requires
 tell_moves-requires g c = record {
   few = c.requires;
-  runs = told_ran c.args.machine c.args.file.now c.args.moves.now (replicate 65536 0) c.in-Wrote.ensures;
+  runs = told_ran c.args.machine c.args.file.now c.args.moves.now (replicate 65536 0) c.in-Ok.ensures;
 }

@@ -4,19 +4,16 @@ use Rattle.machine_start.proofs.Laws.Files.{file_verdict, file_accepted}
 use Rattle.machine_course.proofs.Laws.Begins.{begins_refused, begins_accepted}
 use Rattle.machine_course.proofs.begin.begin.Goals as goal
 
-pub returns-in-Refuses : goal.returns-in-Refuses
-returns-in-Refuses c =
+pub returns-in-Err : goal.returns-in-Err
+returns-in-Err c =
     let v = file_verdict c.args.machine c.args.file.now c.args.rows.now c.requires.0
-    ((λ i. (sym c.in-Refuses.is i, c.program_of-answer.new.rows)) ∙ c.program_of-answer.ensures) in
+    c.in-Err.ensures in
     begins_refused c.args.machine c.args.file.now v c.start_refused.ensures c.blocked.ensures
 
-pub returns-in-Wrote : goal.returns-in-Wrote
-returns-in-Wrote c =
+pub returns-in-Ok : goal.returns-in-Ok
+returns-in-Ok c =
     let b = file_accepted c.args.machine c.args.file.now c.args.rows.now c.requires.0
-    ((λ i. (
-      sym c.in-Wrote.is i,
-      c.program_of-answer.new.rows,
-    )) ∙ c.program_of-answer.ensures) in
+    c.in-Ok.ensures in
     begins_accepted c.args.machine b c.requires.0
     c.word_at.ensures.0 c.underway.ensures
     c.start_rows.ensures

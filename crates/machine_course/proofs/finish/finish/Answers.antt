@@ -8,8 +8,7 @@ end_of-end-requires c = (c.requires.stands.sized, stands_fits c.requires.stands)
 
 pub returns : goal.returns
 returns c = λ s m mvs rows so. record {
-  number = so.number;
-  rec = so.rec;
+  refusal = so.refusal;
   state = c.end_of-end.ensures ∙ so.state;
   finished = c.answer_finished-finished.ensures s m mvs rows so;
   done = so.done;

@@ -1,6 +1,6 @@
 -- `machine_start::run::run_lanes` meets its contract.
 use mathlib.Core.Path.{ap, ◌∙◌}
-use Rattle.sheet_format.specs.declared.WriteResult.TheVariants.{Wrote}
+use Rattle.std.specs.Prelude.{Ok}
 use Rattle.sheet_format.specs.Bytes.{over}
 use Rattle.machine_start.proofs.Laws.Runs.{begins_run, begins_runnable, few_ended}
 use Rattle.machine_start.proofs.Laws.Runs.{never_refused, small, record_is}
@@ -27,7 +27,7 @@ pub returns-in-Ok : goal.returns-in-Ok
 returns-in-Ok c =
     λ s k b.
     let so = c.run_bytes-answer.ensures _ (begins_run b) in
-    (λ i. (Wrote 2280, c.write_state.ensures i))
-    ∙ ap (λ x. (Wrote 2280, over x c.args.out.now)) (record_is b so
+    (λ i. (Ok 2280, c.write_state.ensures i))
+    ∙ ap (λ x. (Ok 2280, over x c.args.out.now)) (record_is b so
     c.in-Ok.is
     c.finished-finished.ensures)
