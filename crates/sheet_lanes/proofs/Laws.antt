@@ -2,5 +2,4 @@
 pub mod Put
 pub mod Begins
 pub mod Lane
-pub mod Level
 pub mod Rows

@@ -27,6 +27,7 @@ fn plan_at(
 
 // The plans of the four lanes one behind the other, each with one number more than the lane has rows; the number that
 // each has of its lane's end.
+#[tactic(auto, using(crate::proofs::Laws::Rows::part_few))]
 pub fn plan_lanes(rows: &[u8], parts: Parts, mask: u16, plan: &mut [u32]) -> [u32; 4]
     requires { Short rows.now × (parts ≡ parts_in rows.now) × (plan_from rows.now 4 ≤ length plan.old) }
     ensures { PlansTo rows.now mask plan.new result 4 }

@@ -36,6 +36,7 @@ impl Encoder {
 }
 
 // Writes the four lanes by their plans behind the header.
+#[tactic(auto, using(crate::proofs::Laws::Rows::part_few))]
 pub fn write_lanes(level: Level, out: &mut [u8], rows: &[u8], parts: Parts, plan: &[u32])
     requires short { Short rows.now × (parts ≡ parts_in rows.now) × (plan_from rows.now 4 ≤ length plan.now) }
     requires single_in { SingleIn rows.now plan.now }

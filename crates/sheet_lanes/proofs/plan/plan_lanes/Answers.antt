@@ -24,14 +24,6 @@ plan_at-requires c =
     let many = part_count c.args.rows.now c.requires.0 c.requires.1 c.loop-t.t (omega arith) in
     record { room = (few, inside, omega (arith, c.loop-t.auto.plan, c.loop-t.invariant.placed, room, many)) }
 
-pub overflow_add-place : goal.overflow_add-place
-overflow_add-place c =
-    omega (arith, c.loop-t.invariant.small, part_few c.args.rows.now c.requires.0 c.requires.1 c.loop-t.t (omega arith))
-
-pub overflow_add-place-in-loop-t : goal.overflow_add-place-in-loop-t
-overflow_add-place-in-loop-t c =
-    omega (arith, c.loop-t.invariant.small, part_few c.args.rows.now c.requires.0 c.requires.1 c.loop-t.t (omega arith))
-
 pub loop-t-preserved : goal.loop-t-preserved
 loop-t-preserved c =
     let many = part_count c.args.rows.now c.requires.0 c.requires.1 c.loop-t.t (omega arith) in
@@ -40,7 +32,8 @@ loop-t-preserved c =
     ap (λ n. drop n c.plan_at.new.plan) c.loop-t.invariant.placed in record {
       four = length-set c.loop-t.ends c.loop-t.t c.plan_at.result ∙ c.loop-t.invariant.four;
       placed = omega (arith, c.loop-t.invariant.placed, plan_next c.args.rows.now c.loop-t.t, many);
-      plans = plans_on c.args.rows.now c.args.mask c.loop-t.plan c.plan_at.new.plan c.loop-t.ends c.loop-t.t c.plan_at.result
+      plans = plans_on c.args.rows.now c.args.mask c.loop-t.plan c.plan_at.new.plan c.loop-t.ends c.loop-t.t
+          c.plan_at.result
           c.loop-t.invariant.plans
           (omega (arith, c.loop-t.invariant.four))
           (λ i h. c.plan_at.ensures.before i (omega (arith, c.loop-t.invariant.placed)))

@@ -45,22 +45,6 @@ put_lane-at-requires c =
       n_in_bounds_2 = omega (arith, size, fits.1);
     }
 
-pub overflow_add-place : goal.overflow_add-place
-overflow_add-place c =
-    omega (
-      arith,
-      c.loop-t.invariant.small,
-      part_few c.args.rows.now c.requires.short.0 c.requires.short.1 c.loop-t.t (omega arith),
-    )
-
-pub overflow_add-place-in-loop-t : goal.overflow_add-place-in-loop-t
-overflow_add-place-in-loop-t c =
-    omega (
-      arith,
-      c.loop-t.invariant.small,
-      part_few c.args.rows.now c.requires.short.0 c.requires.short.1 c.loop-t.t (omega arith),
-    )
-
 pub loop-t-preserved : goal.loop-t-preserved
 loop-t-preserved c =
     let many = part_count c.args.rows.now c.requires.short.0 c.requires.short.1 c.loop-t.t (omega arith) in

@@ -22,7 +22,8 @@ returns-then-rows-from-eq7 c =
     ∙ ap (λ z. sets z (c.args.at + 4) (quad_bytes c.beginning-target.result)) copied
     ∙ half_over c.args.out.now c.args.at (take 8 s) (quad_bytes c.beginning-target.result)
     (length-take-le 8 s (omega (arith, length-drop c.args.from c.args.rows.now, c.requires.1))) refl
-    ∙ ap (λ z. sets c.args.out.now c.args.at (z ++ quad_bytes c.beginning-target.result)) (take-take 4 8 s (omega arith))
+    ∙ ap (λ z. sets c.args.out.now c.args.at (z ++ quad_bytes c.beginning-target.result))
+    (take-take 4 8 s (omega arith))
     ∙ ap (sets c.args.out.now c.args.at)
     (own_skip c.args.self.level c.args.plan.now c.args.rows.now c.args.from c.if-rows-from-eq7.true target)
 

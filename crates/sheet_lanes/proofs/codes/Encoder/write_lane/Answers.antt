@@ -1,4 +1,5 @@
--- `sheet_lanes::codes::Encoder::write_lane` meets its contract. What is written is the rows passed, with their barriers.
+-- `sheet_lanes::codes::Encoder::write_lane` meets its contract. What is written is the rows passed, with their
+-- barriers.
 use Prim.Native.Nat.{◌+◌, ◌≤◌}
 use mathlib.Core.Path.{◌≡◌, ap}
 use native.Mathlib.Omega.{arith}

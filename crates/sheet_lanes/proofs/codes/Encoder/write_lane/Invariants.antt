@@ -1,4 +1,5 @@
--- `sheet_lanes::codes::Encoder::write_lane` meets its contract. What is written is the rows passed, with their barriers.
+-- `sheet_lanes::codes::Encoder::write_lane` meets its contract. What is written is the rows passed, with their
+-- barriers.
 use Rattle.sheet_format.specs.Put.{Puts}
 use Rattle.sheet_lanes.specs.Put.{lane_rows}
 use Rattle.sheet_lanes.proofs.codes.Encoder.write_lane.Given as goal
