@@ -10,9 +10,7 @@ use std::rt::{Env, Files};
 // length.
 pub(crate) fn run_files<R: Env + Files + Print>(rt: &R, machine: Machine) -> io::Result<()> {
     let mut file = [0u8; 3089];
-    let got = read_named(rt, 1, &mut file)?;
-    if got.ok {
-        let n = got.size;
+    if let Some(n) = read_named(rt, 1, &mut file)? {
         run_schedule(rt, machine, &file[..n])?;
     }
     Ok(())
@@ -21,9 +19,7 @@ pub(crate) fn run_files<R: Env + Files + Print>(rt: &R, machine: Machine) -> io:
 // The schedule.
 fn run_schedule<R: Env + Files + Print>(rt: &R, machine: Machine, file: &[u8]) -> io::Result<()> {
     let mut moves = [0u8; 65536];
-    let got = read_moves(rt, 3, &mut moves)?;
-    if got.ok {
-        let n = got.size;
+    if let Some(n) = read_moves(rt, 3, &mut moves)? {
         run_and_tell(rt, machine, file, &moves[..n])?;
     }
     Ok(())

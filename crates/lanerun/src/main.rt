@@ -14,16 +14,17 @@ use std::io;
 fn main(rt: HostRuntime) -> io::Result<()> {
     let mut name = [0u8; 4096];
     let n = argument(&rt, 2, &mut name);
-    if argument_count(&rt) == 4 {
-        if check::same(&name[..n], b"source") {
-            return run_files(&rt, Machine::Source);
-        }
-        if check::same(&name[..n], b"tso") {
-            return run_files(&rt, Machine::Target(Model::Tso));
-        }
-        if check::same(&name[..n], b"pso") {
-            return run_files(&rt, Machine::Target(Model::Pso));
-        }
+    match machine_named(&name[..n]) {
+        Some(machine) if argument_count(&rt) == 4 => run_files(&rt, machine),
+        _ => say(&rt, b"usage: lanerun KERNEL source|tso|pso SCHEDULE\n"),
     }
-    say(&rt, b"usage: lanerun KERNEL source|tso|pso SCHEDULE\n")
+}
+
+fn machine_named(name: &[u8]) -> Option<Machine> {
+    match name {
+        b"source" => Some(Machine::Source),
+        b"tso" => Some(Machine::Target(Model::Tso)),
+        b"pso" => Some(Machine::Target(Model::Pso)),
+        _ => None,
+    }
 }

@@ -48,13 +48,11 @@ fn tell_moves(rt: &impl Print, machine: Machine, file: &[u8], moves: &[u8]) -> i
     let mut state = no_state();
     let mut x = begin(machine, file, &mut rows, &mut state);
     let mut before = record_of(x, &state);
-    let mut n = 0;
-    while n < moves.len() / 2 {
+    for n in 0..moves.len() / 2 {
         x = fold_move(&rows, moves[2 * n], moves[2 * n + 1], x, &mut state);
         let after = record_of(x, &state);
         say_line(rt, machine, file, moves, n, &rows, &before, &after)?;
         before = after;
-        n += 1;
     }
     Ok(())
 }

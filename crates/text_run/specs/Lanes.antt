@@ -6,6 +6,8 @@ use Rattle.machine_spec.specs.Entries.{Entry, write, release}
 use Rattle.machine_record.specs.Fields.{Fields}
 use Rattle.text_put.specs.Decimal.{decimal}
 use Rattle.text_put.specs.Words.{space, newline, named}
+use Rattle.text_run.specs.declared.numbers.Width.{Width}
+use Rattle.text_run.specs.declared.numbers.Width.TheVariants.{Byte, Quad}
 use Rattle.text_run.specs.Words.{lane_start, position_word, registers_word, pending_word, mark_word}
 use Rattle.text_run.specs.Words.{location_word, value_word, release_word}
 
@@ -17,9 +19,10 @@ spaced f n = in_turn (λ i. space ∷ decimal (f i)) n
 abbrev pub numbers_line : List ℕ → (ℕ → ℕ) → ℕ → List ℕ
 numbers_line w f n = w ++ spaced f n ++ newline ∷ []
 
--- number i of those that lie from `base` on: of 32 bits, or a byte
-abbrev pub number_at : List ℕ → ℕ → Bool → ℕ → ℕ
-number_at s base wide i = cond wide (quad s (base + 4 * i)) (byte s (base + i))
+-- number i of those that lie from `base` on: a byte, or of 32 bits
+abbrev pub number_at : List ℕ → ℕ → Width → ℕ → ℕ
+number_at s base Byte i = byte s (base + i)
+number_at s base Quad i = quad s (base + 4 * i)
 
 abbrev pub entry_text : Entry → List ℕ
 entry_text (write x v) = named location_word x ++ named value_word v

@@ -6,7 +6,7 @@ ghost use Rattle.machine_record.specs.Fields.{fields_in};
 ghost use Rattle.text_run.specs.Lanes.{lane_line, mark_text, pending_line, lane_text};
 
 use crate::entry::put_entry;
-use crate::numbers::put_numbers_line;
+use crate::numbers::{Width, put_numbers_line};
 use crate::places::{entry_from, lane_from};
 use sheet_rows::read::{byte_at, word_at};
 use text_put::put::{put, put_text};
@@ -21,7 +21,7 @@ fn put_lane_line(out: &mut [u8], at: usize, s: &[u8], t: u8) -> usize
     let i = put_one(out, at, b"lane ", t as u32);
     let from = lane_from(t);
     let j = put_one(out, i, b" position ", word_at(s, from));
-    put_numbers_line(out, j, b" registers", s, from + 4, true, 8)
+    put_numbers_line(out, j, b" registers", s, from + 4, Width::Quad, 8)
 }
 
 // The mark behind the entry whose bytes begin at `from`: its byte 2 is 1 where there is one.
@@ -59,10 +59,8 @@ pub(crate) fn put_lane(out: &mut [u8], start: usize, s: &[u8], t: u8) -> usize
 {
     let count = word_at(s, lane_from(t) + 2);
     let mut at = put_lane_line(out, start, s, t);
-    let mut i: u32 = 0;
-    while i < count {
+    for i in 0..count {
         at = put_pending(out, at, s, t, i);
-        i += 1;
     }
     at
 }

@@ -13,11 +13,7 @@ use text_put::put::put_text;
 fn is_store_load(code: u8) -> bool
     ensures { (a b c : ℕ) → result ≡ is_store_load (instr_by code a b c) }
 {
-    match code {
-        1..=7 => false,
-        11..=13 => false,
-        _ => true,
-    }
+    !matches!(code, 1..=7 | 11..=13)
 }
 
 // Has the machine a name of its own for the instruction of this code?
@@ -25,11 +21,8 @@ fn own_name(machine: Machine, code: u8) -> bool
     ensures { (a b c : ℕ) → result ≡ own_name machine (instr_by code a b c) }
 {
     match machine {
-        Machine::Source => false,
-        Machine::Target(model) => match model {
-            Model::Tso => false,
-            Model::Pso => is_store_load(code),
-        },
+        Machine::Source | Machine::Target(Model::Tso) => false,
+        Machine::Target(Model::Pso) => is_store_load(code),
     }
 }
 

@@ -34,10 +34,7 @@ pub fn register_at(s: &[u8], t: u8, n: u8) -> u32
 fn first_row(rows: &[u8], t: u8) -> usize
     ensures { (result ≡ get_or (parts_in rows.now).from t 0) × (result < 2 ^ 24) }
 {
-    let parts = parts_of(rows);
-    let from = parts.from;
-    let i = t as usize;
-    if i < 4 { from[i] } else { 0 }
+    parts_of(rows).from.get(t as usize).copied().unwrap_or(0)
 }
 
 // The byte at which its next instruction begins.

@@ -6,7 +6,7 @@ ghost use Rattle.machine_record.specs.Fields.{fields_in};
 ghost use Rattle.text_run.specs.States.{counts_line, finished_line, memory_line, locks_line, state_text};
 
 use crate::lane::put_lane;
-use crate::numbers::put_numbers_line;
+use crate::numbers::{Width, put_numbers_line};
 use sheet_rows::read::{byte_at, quad_at};
 use text_put::put::{put, put_text};
 use text_put::words::put_one;
@@ -45,8 +45,8 @@ fn put_head(out: &mut [u8], s: &[u8], rows: &[u8]) -> usize
 {
     let i = put_counts(out, s);
     let j = put_finished(out, i, s);
-    let k = put_numbers_line(out, j, b"memory", s, 24, true, byte_at(rows, 1));
-    put_numbers_line(out, k, b"locks", s, 4, false, byte_at(rows, 2))
+    let k = put_numbers_line(out, j, b"memory", s, 24, Width::Quad, byte_at(rows, 1));
+    put_numbers_line(out, k, b"locks", s, 4, Width::Byte, byte_at(rows, 2))
 }
 
 // The text of a state record, as far as the buffer reaches; the rows tell how many lanes there are, too.
@@ -57,10 +57,8 @@ pub fn tell_state(out: &mut [u8], record: &[u8], rows: &[u8]) -> usize
 {
     let lanes = byte_at(rows, 0);
     let mut at = put_head(out, record, rows);
-    let mut t: u8 = 0;
-    while t < lanes {
+    for t in 0..lanes {
         at = put_lane(out, at, record, t);
-        t += 1;
     }
     at
 }

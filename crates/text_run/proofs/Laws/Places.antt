@@ -1,10 +1,9 @@
--- Laws of places: the rows of every lane begin near the front; there is no fifth lane.
+-- Law of places: the rows of every lane begin near the front.
 use Prim.Native.Nat.{ℕ, zero, suc, ◌+◌, ◌*◌, ◌^◌, ◌≤◌, ◌<◌}
-use mathlib.Core.Path.{◌≡◌, sym}
 use mathlib.Core.List.{List}
 use native.Mathlib.Decide.{dec_le}
 use native.Mathlib.Omega.{arith}
-use lib.ListN.{get_or, get_or-eq_default}
+use lib.ListN.{get_or}
 use Rattle.sheet_rows.specs.Rows.{count_at, parts_in}
 use Rattle.sheet_rows.proofs.Laws.Parts.{count_in_lem, count_none}
 
@@ -23,6 +22,3 @@ module _ (s : List ℕ) (small : (i : ℕ) → get_or s i 0 < 256) where
   from_few (suc (suc (suc zero))) =
       omega (arith, count_few 0 (omega arith), count_few 1 (omega arith), count_few 2 (omega arith))
   from_few (suc (suc (suc (suc t)))) = omega arith
-
-pub from_none : (s : List ℕ) (t : ℕ) → 4 ≤ t → 0 ≡ get_or (parts_in s).from t 0
-from_none s t h = sym (get_or-eq_default (parts_in s).from 0 h)

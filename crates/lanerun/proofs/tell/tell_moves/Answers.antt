@@ -7,30 +7,25 @@ use Rattle.lanerun.proofs.tell.tell_moves.Goals as goal
 pub loop-n-init : goal.loop-n-init
 loop-n-init g c =
     let start = c.begin-x.ensures in
-    (omega arith, record { stands = start; recorded = c.record_of-before.ensures _ _ _ _ start })
+    record { stands = start; recorded = c.record_of-before.ensures _ _ _ _ start }
 
 pub fold_move-x-requires : goal.fold_move-x-requires
-fold_move-x-requires g c = can_move c.args.moves.now c.requires.few c.loop-n.invariant.1
+fold_move-x-requires g c = can_move c.args.moves.now c.requires.few c.loop-n.invariant
 
 pub record_of-after-requires : goal.record_of-after-requires
 record_of-after-requires g c =
-    can_record (moved c.args.moves.now c.requires.few c.loop-n.invariant.1 c.loop-n-test.true c.fold_move-x.ensures)
+    can_record (moved c.args.moves.now c.requires.few c.loop-n.invariant c.loop-n-test.true c.fold_move-x.ensures)
 
 pub say_line-requires : goal.say_line-requires
 say_line-requires g c =
     let b = c.args.moves.now in
-    let next = moved b c.requires.few c.loop-n.invariant.1 c.loop-n-test.true c.fold_move-x.ensures in
-    between b c.requires.few c.loop-n.invariant.1 c.loop-n-test.true c.fold_move-x.ensures
+    let next = moved b c.requires.few c.loop-n.invariant c.loop-n-test.true c.fold_move-x.ensures in
+    between b c.requires.few c.loop-n.invariant c.loop-n-test.true c.fold_move-x.ensures
     (c.record_of-after.ensures _ _ _ _ next) c.requires.runs
-
-pub loop-n-smaller : goal.loop-n-smaller
-loop-n-smaller g c = omega (arith, c.loop-n-test.true)
 
 pub loop-n-preserved : goal.loop-n-preserved
 loop-n-preserved g c =
     let b = c.args.moves.now in
-    let next = moved b c.requires.few c.loop-n.invariant.1 c.loop-n-test.true c.fold_move-x.ensures in (
-      omega (arith, c.loop-n-test.true),
-      one_more b c.requires.few c.loop-n.invariant.1 c.loop-n-test.true c.fold_move-x.ensures
-          (c.record_of-after.ensures _ _ _ _ next),
-    )
+    let next = moved b c.requires.few c.loop-n.invariant c.loop-n-test.true c.fold_move-x.ensures in
+    one_more b c.requires.few c.loop-n.invariant c.loop-n-test.true c.fold_move-x.ensures
+    (c.record_of-after.ensures _ _ _ _ next)

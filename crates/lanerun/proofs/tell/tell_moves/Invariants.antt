@@ -1,14 +1,8 @@
 -- `lanerun::tell::tell_moves` meets its contract: what is told for n is move n of the schedule, on what the moves
 -- before it came to.
-use Prim.Native.Nat.{◌-◌, ◌/◌, ◌≤◌}
-use lib.ListN.{length}
 use Rattle.machine_spec.specs.Moves.{moves_in}
 use Rattle.lanerun.proofs.Laws.Told.{CameTo}
 use Rattle.lanerun.proofs.tell.tell_moves.Given as goal
 
 abbrev pub invariant-loop-n : goal.invariant-loop-n
-invariant-loop-n g l =
-    (l.n ≤ length l.moves / 2) × CameTo l.machine l.file (moves_in l.moves) l.n l.rows l.x l.state l.before
-
-abbrev pub decreases-loop-n : goal.decreases-loop-n
-decreases-loop-n g l = length l.moves / 2 - l.n
+invariant-loop-n g l = CameTo l.machine l.file (moves_in l.moves) l.n l.rows l.x l.state l.before

@@ -10,12 +10,8 @@ use Rattle.machine_record.specs.Fields.{fields_in}
 use Rattle.text_run.specs.Lanes.{pending_line, lane_text}
 use Rattle.text_run.proofs.lane.put_lane.Goals as goal
 
-pub put_lane_line-at-requires : goal.put_lane_line-at-requires
-put_lane_line-at-requires c =
-    omega (arith, c.requires)
-
 pub loop-i-init : goal.loop-i-init
-loop-i-init c = (omega arith, omega arith, turn_none _)
+loop-i-init c = (omega arith, turn_none _)
 
 pub put_pending-at-requires : goal.put_pending-at-requires
 put_pending-at-requires c = (
@@ -23,35 +19,25 @@ put_pending-at-requires c = (
     arith,
     c.requires,
     c.put_lane_line-at.ensures.0,
-    c.loop-i.invariant.1,
-    c.loop-i-test.true,
+    c.loop-i.invariant.0,
     c.word_at-count.ensures.1,
   ),
-  omega (arith, c.loop-i-test.true, c.word_at-count.ensures.1),
+  omega (arith, c.word_at-count.ensures.1),
 )
-
-pub overflow_add-i : goal.overflow_add-i
-overflow_add-i c =
-    omega (arith, c.loop-i-test.true, c.word_at-count.ensures.1)
-
-pub loop-i-smaller : goal.loop-i-smaller
-loop-i-smaller c =
-    omega (arith, c.loop-i-test.true)
 
 pub loop-i-preserved : goal.loop-i-preserved
 loop-i-preserved c = (
-  omega (arith, c.loop-i-test.true),
-  omega (arith, c.put_pending-at.ensures.0, c.loop-i.invariant.1),
-  turn_on_lem (pending_line (fields_in c.args.s.now) c.args.t) c.loop-i.i c.loop-i.invariant.2
+  omega (arith, c.put_pending-at.ensures.0, c.loop-i.invariant.0),
+  turn_on_lem (pending_line (fields_in c.args.s.now) c.args.t) c.loop-i.i c.loop-i.invariant.1
       c.put_pending-at.ensures.1,
 )
 
 pub returns : goal.returns
 unfolding lane_text
 returns c =
-    let all : c.loop-i.i ≡ c.word_at-count.result = omega (arith, c.loop-i-test.false) in
+    let all : c.loop-i.i ≡ c.word_at-count.result = omega arith in
     let last = all ∙ c.word_at-count.ensures.0 ∙ ap (λ k. word c.args.s.now (k + 2)) c.lane_from.ensures.0 in (
-      omega (arith, c.put_lane_line-at.ensures.0, c.loop-i.invariant.1, all, c.word_at-count.ensures.1),
+      omega (arith, c.put_lane_line-at.ensures.0, c.loop-i.invariant.0, all, c.word_at-count.ensures.1),
       puts_on c.put_lane_line-at.ensures.1
-          (puts_as (ap (in_turn (pending_line (fields_in c.args.s.now) c.args.t)) last) c.loop-i.invariant.2),
+          (puts_as (ap (in_turn (pending_line (fields_in c.args.s.now) c.args.t)) last) c.loop-i.invariant.1),
     )

@@ -10,42 +10,29 @@ use Rattle.text_run.specs.Lanes.{spaced, number_at}
 use Rattle.text_run.proofs.numbers.put_numbers_line.Goals as goal
 
 pub loop-i-init : goal.loop-i-init
-loop-i-init c = (omega arith, omega arith, turn_none _)
-
-pub number_at-requires : goal.number_at-requires
-number_at-requires c =
-    c.requires.1
+loop-i-init c = (omega arith, turn_none _)
 
 pub put_one-at-requires : goal.put_one-at-requires
 put_one-at-requires c =
-    omega (arith, c.requires.0, c.put_text-at.ensures.behind, c.loop-i.invariant.1, c.loop-i-test.true)
-
-pub overflow_add-i : goal.overflow_add-i
-overflow_add-i c =
-    omega (arith, c.loop-i-test.true)
-
-pub loop-i-smaller : goal.loop-i-smaller
-loop-i-smaller c =
-    omega (arith, c.loop-i-test.true)
+    omega (arith, c.requires.0, c.put_text-at.ensures.behind, c.loop-i.invariant.0)
 
 pub loop-i-preserved : goal.loop-i-preserved
 loop-i-preserved c =
     let text = ap (λ v. space ∷ decimal v) c.number_at.ensures in (
-      omega (arith, c.loop-i-test.true),
-      omega (arith, c.put_one-at.ensures.0, c.loop-i.invariant.1),
-      turn_on_lem (λ j. space ∷ decimal (number_at c.args.s.now c.args.base c.args.wide j)) c.loop-i.i
-          c.loop-i.invariant.2
+      omega (arith, c.put_one-at.ensures.0, c.loop-i.invariant.0),
+      turn_on_lem (λ j. space ∷ decimal (number_at c.args.s.now c.args.base c.args.width j)) c.loop-i.i
+          c.loop-i.invariant.1
           (puts_as text c.put_one-at.ensures.1),
     )
 
 pub put-requires : goal.put-requires
 put-requires c =
-    omega (arith, c.requires.0, c.put_text-at.ensures.behind, c.loop-i.invariant.0, c.loop-i.invariant.1)
+    omega (arith, c.requires.0, c.put_text-at.ensures.behind, c.loop-i.invariant.0)
 
 pub returns : goal.returns
 returns c =
-    let last : c.loop-i.i ≡ c.args.n = omega (arith, c.loop-i-test.false) in
-    let numbers = puts_as (ap (spaced (number_at c.args.s.now c.args.base c.args.wide)) last) c.loop-i.invariant.2 in (
-      omega (arith, c.put_text-at.ensures.behind, c.loop-i.invariant.1, last, c.put.ensures.behind),
+    let last : c.loop-i.i ≡ c.args.n = omega arith in
+    let numbers = puts_as (ap (spaced (number_at c.args.s.now c.args.base c.args.width)) last) c.loop-i.invariant.1 in (
+      omega (arith, c.put_text-at.ensures.behind, c.loop-i.invariant.0, last, c.put.ensures.behind),
       puts_on (puts_on c.put_text-at.ensures numbers) c.put.ensures,
     )

@@ -10,32 +10,21 @@ use Rattle.text_run.specs.States.{text_by}
 use Rattle.text_run.proofs.states.tell_state.Goals as goal
 
 pub loop-t-init : goal.loop-t-init
-loop-t-init c = (omega arith, omega arith, turn_none _)
+loop-t-init c = (omega arith, turn_none _)
 
 pub put_lane-at-requires : goal.put_lane-at-requires
-put_lane-at-requires c =
-    omega (arith, c.put_head-at.ensures.0, c.loop-t.invariant.1, c.loop-t-test.true)
-
-pub overflow_add-t : goal.overflow_add-t
-overflow_add-t c =
-    omega (arith, c.loop-t-test.true)
-
-pub loop-t-smaller : goal.loop-t-smaller
-loop-t-smaller c =
-    omega (arith, c.loop-t-test.true)
+put_lane-at-requires c = omega (arith, c.put_head-at.ensures.0, c.loop-t.invariant.0)
 
 pub loop-t-preserved : goal.loop-t-preserved
 loop-t-preserved c = (
-  omega (arith, c.loop-t-test.true),
-  omega (arith, c.put_lane-at.ensures.0, c.loop-t.invariant.1),
-  turn_on_lem (lane_text (fields_in c.args.record.now)) c.loop-t.t c.loop-t.invariant.2
-      c.put_lane-at.ensures.1,
+  omega (arith, c.put_lane-at.ensures.0, c.loop-t.invariant.0),
+  turn_on_lem (lane_text (fields_in c.args.record.now)) c.loop-t.t c.loop-t.invariant.1 c.put_lane-at.ensures.1,
 )
 
 pub returns : goal.returns
 unfolding text_by
 returns c =
-    let all : c.loop-t.t ≡ c.byte_at-lanes.result = omega (arith, c.loop-t-test.false) in
+    let all : c.loop-t.t ≡ c.byte_at-lanes.result = omega arith in
     puts_on c.put_head-at.ensures.1
     (puts_as (ap (in_turn (lane_text (fields_in c.args.record.now))) (all ∙ c.byte_at-lanes.ensures))
-    c.loop-t.invariant.2)
+    c.loop-t.invariant.1)
