@@ -1,6 +1,7 @@
 // Standard output. A text that cannot be written is an error.
 
 use crate::input::read_full;
+use file_verdict::refusal::Refusal;
 use sheet_format::WriteResult;
 use std::io;
 use std::io::Read;
@@ -21,12 +22,8 @@ pub fn say_number(rt: &impl Print, n: usize) -> io::Result<()> {
     rt.print(n)
 }
 
-pub fn say_refusal(rt: &impl Print, number: usize, rec: usize) -> io::Result<()> {
-    say(rt, b"refused ")?;
-    say_number(rt, number)?;
-    say(rt, b" record ")?;
-    say_number(rt, rec)?;
-    say(rt, b"\n")
+pub fn say_refusal(rt: &impl Print, refusal: Refusal) -> io::Result<()> {
+    println!(rt; "{refusal}")
 }
 
 pub fn say_unread(rt: &impl Print, name: &[u8]) -> io::Result<()> {
@@ -48,7 +45,7 @@ pub fn say_of_kernel<F: FnOnce(&[u8], &mut [u8]) -> WriteResult>(
     let n = read_full(input, &mut file);
     let mut text = [0u8; 65536];
     match write(&file[..n], &mut text) {
-        WriteResult::Wrote(size) => say_part(rt, &text, size),
-        WriteResult::Refuses(_, _) => Ok(()),
+        Ok(size) => say_part(rt, &text, size),
+        Err(_) => Ok(()),
     }
 }

@@ -1,5 +1,5 @@
 // A run, told move by move: one state, carried on from each move to the next.
-ghost use Rattle.std.specs.Prelude.{◌≡◌, List, ℕ, ◌≤◌, length};
+ghost use Rattle.std.specs.Prelude.{None, ◌≡◌, List, ℕ, ◌≤◌, length};
 ghost use Rattle.machine_spec.specs.Schedule.{Move};
 ghost use Rattle.machine_spec.specs.Moves.{moves_in};
 ghost use Rattle.machine_spec.specs.declared.Machine.{Machine};
@@ -14,7 +14,6 @@ use machine_course::fold::fold_move;
 use machine_course::record::write_record;
 use machine_spec::Machine;
 use machine_state::state::State;
-use sheet_format::WriteResult;
 use std::io;
 use text_run::whole::{run_line, tell_end};
 
@@ -28,21 +27,20 @@ pub(crate) fn run_and_tell(
     requires { length moves.now ≤ 65536 }
 {
     let mut end = [0u8; 65536];
-    let answer = tell_end(machine, file, moves, &mut end);
-    match answer {
-        WriteResult::Wrote(size) => {
+    match tell_end(machine, file, moves, &mut end) {
+        Ok(size) => {
             tell_moves(rt, machine, file, moves)?;
             say_part(rt, &end, size)?;
             say(rt, b"ran\n")
         }
-        WriteResult::Refuses(number, rec) => say_refusal(rt, number, rec),
+        Err(refusal) => say_refusal(rt, refusal),
     }
 }
 
 // A line for each move of a schedule that is not refused. The state record after a move is the one before the next.
 fn tell_moves(rt: &impl Print, machine: Machine, file: &[u8], moves: &[u8]) -> io::Result<()>
     requires few { length moves.now ≤ 65536 }
-    requires runs { (answer_by machine file.now (moves_in moves.now)).number ≡ 0 }
+    requires runs { (answer_by machine file.now (moves_in moves.now)).refusal ≡ None }
 {
     let mut rows = no_rows();
     let mut state = no_state();
