@@ -1,6 +1,6 @@
 -- `file_accept::accept::linked_refusal` meets its contract: each return is the first of checks 5 to 8 and 12 that
 -- refuses.
-use mathlib.Core.Path.{◌≡◌, ◌∙◌}
+use mathlib.Core.Path.{◌∙◌}
 use Rattle.file_format.specs.Structured.{Structured}
 use Rattle.file_format.proofs.Laws.Named.{is_named, none_named}
 use Rattle.file_rows.proofs.Laws.Whole.{chains_counted}
