@@ -57,10 +57,6 @@ after_row-w-requires c =
           (get_or c.args.rows.now (8 * c.loop-p.p + 2) 0),
     )
 
-pub slice_bounds-lead-end : goal.slice_bounds-lead-end
-slice_bounds-lead-end c =
-    sym c.loop-p.invariant.0
-
 pub loop-p-preserved : goal.loop-p-preserved
 loop-p-preserved c =
     let r = (goal.at.loop-p-preserved c).After-after_row-w in

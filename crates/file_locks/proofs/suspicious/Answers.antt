@@ -1,7 +1,6 @@
 -- `file_locks::suspicious` meets its contract. No fault and no descent lies before p.
 use Prim.Native.Nat.{ℕ, ◌+◌, ◌*◌}
 use lib.ListN.{length, get_or, length-set}
-use mathlib.Core.Bool.{true≢false}
 use mathlib.Core.List.{List}
 use mathlib.Core.Path.{◌≡◌, refl, sym, ap, ◌∙◌}
 use native.Mathlib.Omega.{arith}
@@ -52,9 +51,6 @@ suspect_at-requires c =
           (get_or c.args.rows.now (8 * c.loop-p.p + 2) 0),
     )
 
-pub returns-then-suspect_at : goal.returns-then-suspect_at
-returns-then-suspect_at c = λ e. absurd (true≢false e)
-
 pub after_row-w-requires : goal.after_row-w-requires
 after_row-w-requires c =
     omega (
@@ -63,10 +59,6 @@ after_row-w-requires c =
       bit_small (get_or c.args.rows.now (8 * c.loop-p.p) 0)
           (get_or c.args.rows.now (8 * c.loop-p.p + 2) 0),
     )
-
-pub slice_bounds-lead-end : goal.slice_bounds-lead-end
-slice_bounds-lead-end c =
-    sym c.loop-p.invariant.0
 
 pub loop-p-preserved : goal.loop-p-preserved
 loop-p-preserved c =
