@@ -6,8 +6,9 @@ ghost use Rattle.machine_lane.specs.Lanes.{flags, entry_of, lane_in, with_pendin
 
 use crate::marks::whole;
 
-// A pending entry has a cell: a location from 0 to 15, or 16 + lock for a release, and the value for the location. The
-// marks are in two halves: a field of 64 bits makes every copy of a lane slower.
+// A pending entry has a cell: a location from 0 to 15, or 16 + lock for a release, and the value for the location.
+// Cells and values stay two rows of fixed size with a length, as the lent state holds them: a row is copied as one.
+// The marks are in two halves: a field of 64 bits makes every copy of a lane slower.
 #[derive(Clone, Copy)]
 pub struct Lane {
     pub at: u32,

@@ -12,6 +12,7 @@ use barrier_placement::cookbook::Barrier;
 use machine_spec::Machine;
 use machine_state::state::{Moved, State};
 
+// The barrier of an operation code. Codes stay numbers here: they are bytes of a sheet, whose format may not change.
 fn barrier_of(o: u8) -> Barrier
     ensures { result ≡ barrier_by o }
 {

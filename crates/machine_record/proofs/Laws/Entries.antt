@@ -29,7 +29,8 @@ module _ {f : ℕ} (m : Bool) (told : f ≡ flag m) (c v : ℕ) where
 
 -- what stands at place i of the first n entries of full rows
 module _ (cs vs : List ℕ) (n i : ℕ) (full : length cs ≡ 64) (whole : length vs ≡ 64) where
-  pub place_there : i < 64 → i < n → some (entry_of (get_or cs i 0) (get_or vs i 0)) ≡ get_elem? (take n (entries_of cs vs)) i
+  pub place_there : i < 64 → i < n
+      → some (entry_of (get_or cs i 0) (get_or vs i 0)) ≡ get_elem? (take n (entries_of cs vs)) i
   place_there h l =
       let es = entries_of cs vs in
       let size = entries_length 64 cs vs full whole in

@@ -37,7 +37,8 @@ loop-i-preserved c =
     let mark = c.mark_at.ensures ∙ ap (λ k. mark_at k c.loop-i.i) c.marks-marks.ensures in
     let entry : entry_in c.if-i-len.entry ≡ get_elem? l.pending c.loop-i.i = elim c.if-i-len.branch [
       | then-i-len w ↦ ap entry_in w.entry-is
-          ∙ place_there lane.cells lane.values lane.len c.loop-i.i (omega arith) (omega arith) (omega arith) (omega arith)
+          ∙ place_there lane.cells lane.values lane.len c.loop-i.i (omega arith) (omega arith)
+          (omega arith) (omega arith)
       | else-i-len w ↦ ap entry_in w.entry-is
           ∙ place_free lane.cells lane.values lane.len c.loop-i.i (omega arith) (omega arith) (omega arith)
     ] in

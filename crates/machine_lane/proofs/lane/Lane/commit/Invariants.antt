@@ -11,5 +11,6 @@ invariant-loop-i l = record {
   cells : length l.self.cells ≡ 64;
   values : length l.self.values ≡ 64;
   rest : with_pending (lane_in l.self) [] ≡ with_pending (lane_in l.fn.self) [];
-  moved : without l.i (entries_of l.self.cells l.self.values) ≡ without l.index (entries_of l.fn.self.cells l.fn.self.values);
+  moved : without l.i (entries_of l.self.cells l.self.values)
+      ≡ without l.index (entries_of l.fn.self.cells l.fn.self.values);
 }

@@ -30,7 +30,8 @@ loop-i-preserved c =
     let l = c.args.self.now in
     let j = c.loop-i.i - 1 in
     let on : c.loop-i.i ≡ suc j = omega arith in
-    sym (newest_on l.cells l.values (omega arith) (omega arith) c.args.cell c.args.otherwise j (omega arith) (omega arith)
+    sym (newest_on l.cells l.values (omega arith) (omega arith)
+    c.args.cell c.args.otherwise j (omega arith) (omega arith)
     ∙ rw (ne_eqb _ _ c.if-self-i.false) refl) ∙ rw on at c.loop-i.invariant
 
 pub returns : goal.returns
