@@ -12,7 +12,7 @@ use machine_state::held::{count as pending_count, position};
 use machine_state::state::{COUNTS, LANES, SHARED, State};
 use sheet_rows::number::wide;
 
-// Whether a move names a lane below n and a choice up to the limit.
+// Whether a move names a lane below n and a choice up to the limit. `&`, which has no branch, is for the loop below.
 pub fn legal_move(lane: u8, choice: u8, n: usize, limit: u8) -> bool
     ensures { result ≡ (ltb lane n && leb choice limit) }
 {
