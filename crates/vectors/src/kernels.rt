@@ -13,10 +13,8 @@ use std::rt::{Env, Files};
 pub(crate) fn tell_pairs<R: Env + Files + Print>(rt: &R, n: usize) -> io::Result<()>
     requires { n < 2 ^ 63 }
 {
-    let mut i = 0;
-    while i < n {
+    for i in 0..n {
         tell_pair(rt, 2 * i + 1)?;
-        i += 1;
     }
     Ok(())
 }
@@ -26,9 +24,7 @@ fn tell_pair<R: Env + Files + Print>(rt: &R, i: usize) -> io::Result<()>
     requires { i + 1 < 2 ^ 64 }
 {
     let mut file = [0u8; 3089];
-    let got = read_named(rt, i, &mut file)?;
-    if got.ok {
-        let n = got.size;
+    if let Some(n) = read_named(rt, i, &mut file)? {
         say_argument(rt, i)?;
         tell_kernel(rt, &file[..n])?;
         tell_schedule(rt, i + 1, &file[..n])?;

@@ -3,7 +3,7 @@ ghost use Rattle.std.specs.Prelude.{◌≤◌, length};
 
 use crate::kernels::say_argument;
 use console::arguments::argument;
-use console::print::{say, say_part, say_refusal};
+use console::print::{say_part, say_refusal};
 use console::schedules::read_moves;
 use machine_spec::{Machine, Model};
 use sheet_format::WriteResult;
@@ -19,13 +19,11 @@ pub(crate) fn tell_schedule<R: Env + Files + Print>(
 ) -> io::Result<()> {
     let mut name = [0u8; 4096];
     let n = argument(rt, i, &mut name);
-    if check::same(&name[..n], b"-") {
+    if matches!(&name[..n], b"-") {
         return Ok(());
     }
     let mut moves = [0u8; 65536];
-    let got = read_moves(rt, i, &mut moves)?;
-    if got.ok {
-        let size = got.size;
+    if let Some(size) = read_moves(rt, i, &mut moves)? {
         tell_runs(rt, i, file, &moves[..size])?;
     }
     Ok(())
@@ -34,15 +32,17 @@ pub(crate) fn tell_schedule<R: Env + Files + Print>(
 fn tell_runs<R: Env + Print>(rt: &R, i: usize, file: &[u8], moves: &[u8]) -> io::Result<()>
     requires { length moves.now ≤ 65536 }
 {
-    say_argument(rt, i)?;
-    say(rt, b"source\n")?;
-    tell_run(rt, Machine::Source, file, moves)?;
-    say_argument(rt, i)?;
-    say(rt, b"tso\n")?;
-    tell_run(rt, Machine::Target(Model::Tso), file, moves)?;
-    say_argument(rt, i)?;
-    say(rt, b"pso\n")?;
-    tell_run(rt, Machine::Target(Model::Pso), file, moves)
+    let machines = [
+        ("source", Machine::Source),
+        ("tso", Machine::Target(Model::Tso)),
+        ("pso", Machine::Target(Model::Pso)),
+    ];
+    for (name, machine) in machines {
+        say_argument(rt, i)?;
+        rt.println(name)?;
+        tell_run(rt, machine, file, moves)?;
+    }
+    Ok(())
 }
 
 fn tell_run(rt: &impl Print, machine: Machine, file: &[u8], moves: &[u8]) -> io::Result<()>
