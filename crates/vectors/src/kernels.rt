@@ -42,9 +42,8 @@ pub(crate) fn say_argument<R: Env + Print>(rt: &R, i: usize) -> io::Result<()> {
 // The bytes of its three sheets, or why it is refused: every level refuses alike.
 fn tell_kernel(rt: &impl Print, file: &[u8]) -> io::Result<()> {
     let mut sheet = [0u8; 6160];
-    let first = lower1(file, &mut sheet);
-    match first {
-        WriteResult::Wrote(size) => {
+    match lower1(file, &mut sheet) {
+        Ok(size) => {
             say(rt, b"level 1 ")?;
             say_number(rt, size)?;
             let second = lower2(file, &mut sheet);
@@ -55,13 +54,13 @@ fn tell_kernel(rt: &impl Print, file: &[u8]) -> io::Result<()> {
             say_size(rt, third)?;
             say(rt, b" bytes\n")
         }
-        WriteResult::Refuses(number, rec) => say_refusal(rt, number, rec),
+        Err(refusal) => say_refusal(rt, refusal),
     }
 }
 
 fn say_size(rt: &impl Print, answer: WriteResult) -> io::Result<()> {
     match answer {
-        WriteResult::Wrote(size) => say_number(rt, size),
-        WriteResult::Refuses(number, rec) => say_refusal(rt, number, rec),
+        Ok(size) => say_number(rt, size),
+        Err(refusal) => say_refusal(rt, refusal),
     }
 }

@@ -6,7 +6,6 @@ use console::arguments::argument;
 use console::print::{say_part, say_refusal};
 use console::schedules::read_moves;
 use machine_spec::{Machine, Model};
-use sheet_format::WriteResult;
 use std::io;
 use std::rt::{Env, Files};
 use text_run::whole::tell_end;
@@ -49,9 +48,8 @@ fn tell_run(rt: &impl Print, machine: Machine, file: &[u8], moves: &[u8]) -> io:
     requires { length moves.now ≤ 65536 }
 {
     let mut text = [0u8; 65536];
-    let answer = tell_end(machine, file, moves, &mut text);
-    match answer {
-        WriteResult::Wrote(size) => say_part(rt, &text, size),
-        WriteResult::Refuses(number, rec) => say_refusal(rt, number, rec),
+    match tell_end(machine, file, moves, &mut text) {
+        Ok(size) => say_part(rt, &text, size),
+        Err(refusal) => say_refusal(rt, refusal),
     }
 }
