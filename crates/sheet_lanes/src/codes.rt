@@ -1,12 +1,12 @@
-// The codes of SS and SL at each level: a byte for each set of SS, SL and bit 4 of a plan, 0 where neither stands.
+// What writes lanes at a level, with the level's codes of SS and SL: a byte for each set of SS, SL and bit 4 of a plan,
+// 0 where neither stands.
 ghost use Rattle.std.specs.Prelude.{◌≡◌};
 ghost use Rattle.sheet_format.specs.declared.Level.TheVariants.{Level1, Level2, Level3};
 ghost use Rattle.sheet_lanes.specs.Put.{CodesOf};
 
 use sheet_format::Level;
 
-// What writes lanes at a level. The level's codes are looked up before the lanes are written: a jump by the level at
-// each row is slower.
+// The codes are looked up before the lanes are written: a jump by the level at each row is slower.
 #[derive(Clone, Copy)]
 pub(crate) struct Encoder {
     pub(crate) level: Level,
