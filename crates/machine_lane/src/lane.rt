@@ -1,6 +1,6 @@
 // A lane of a machine: its position, its eight registers, its pending stores, oldest first, and the marks in them, as
-// the bits of a number. A method reads and changes an array in a local of its own: the rest of a lane that was taken from
-// the state is not copied then, and a move takes less (measured).
+// the bits of a number. A method reads and changes an array in a local of its own: the rest of a lane that was taken
+// from the state is not copied then, and a move takes less (measured).
 ghost use Rattle.std.specs.Prelude.{◌≡◌, ℕ, ◌≤◌, ◌<◌, length};
 ghost use Rattle.machine_spec.specs.Entries.{is_sync, newest, without};
 ghost use Rattle.machine_lane.specs.Lanes.{flags, entry_of, lane_in, with_pending, Appended};
