@@ -55,13 +55,21 @@ pub fn marks(state: &State, t: usize) -> u64
     )
 }
 
+// Word by word: where a move uses no register the compiler then drops them; with copy_from_slice it copies them.
 fn registers(state: &State, t: usize) -> [u32; 8]
     requires { t < 4 }
     ensures { result ≡ firsts 8 (word_at state.now t HEAD) }
 {
-    let mut r = [0; 8];
-    r.copy_from_slice(&state[t][HEAD][..8]);
-    r
+    [
+        state[t][HEAD][0],
+        state[t][HEAD][1],
+        state[t][HEAD][2],
+        state[t][HEAD][3],
+        state[t][HEAD][4],
+        state[t][HEAD][5],
+        state[t][HEAD][6],
+        state[t][HEAD][7],
+    ]
 }
 
 // Lane t as a whole.
@@ -131,8 +139,10 @@ fn put_newest(lane: &Lane, t: usize, state: &mut State)
         state.new }
 {
     let n = lane.len as usize - 1;
-    put_word(t, CELLS, n, lane.cells[n], state);
-    put_word(t, VALUES, n, lane.values[n], state);
+    let c = lane.cells;
+    let v = lane.values;
+    put_word(t, CELLS, n, c[n], state);
+    put_word(t, VALUES, n, v[n], state);
     put_word(t, HEAD, LENGTH, lane.len, state);
 }
 

@@ -10,11 +10,11 @@ use Rattle.machine_lane.proofs.Laws.Entries.{entries_set}
 use Rattle.machine_lane.proofs.Laws.Lanes.{room, pending_length, lane_eq}
 use Rattle.machine_lane.proofs.lane.Lane.append.Goals as goal
 
-pub bounds-self-n : goal.bounds-self-n
-bounds-self-n c = omega (arith, pending_length c.args.self.now (omega arith) (omega arith))
+pub bounds-c-n : goal.bounds-c-n
+bounds-c-n c = omega (arith, pending_length c.args.self.now (omega arith) (omega arith))
 
-pub bounds-self-n-2 : goal.bounds-self-n-2
-bounds-self-n-2 c = omega (arith, pending_length c.args.self.now (omega arith) (omega arith))
+pub bounds-v-n : goal.bounds-v-n
+bounds-v-n c = omega (arith, pending_length c.args.self.now (omega arith) (omega arith))
 
 pub overflow_add-self : goal.overflow_add-self
 overflow_add-self c = omega (arith, pending_length c.args.self.now (omega arith) (omega arith))

@@ -16,14 +16,14 @@ loop-i-init c =
     ap (newest c.args.cell c.args.otherwise)
     (ap (λ n. take n es) c.count-i.ensures.0 ∙ take_length_take c.args.self.now.len es)
 
-pub returns-then-self-i : goal.returns-then-self-i
-returns-then-self-i c =
+pub returns-then-c-i : goal.returns-then-c-i
+returns-then-c-i c =
     let l = c.args.self.now in
     let j = c.loop-i.i - 1 in
     let on : c.loop-i.i ≡ suc j = omega arith in
     sym (rw on at (sym c.loop-i.invariant)
     ∙ newest_on l.cells l.values (omega arith) (omega arith) c.args.cell c.args.otherwise j (omega arith) (omega arith)
-    ∙ rw (eq-eqb _ _ c.if-self-i.true) refl)
+    ∙ rw (eq-eqb _ _ c.if-c-i.true) refl)
 
 pub loop-i-preserved : goal.loop-i-preserved
 loop-i-preserved c =
@@ -32,7 +32,7 @@ loop-i-preserved c =
     let on : c.loop-i.i ≡ suc j = omega arith in
     sym (newest_on l.cells l.values (omega arith) (omega arith)
     c.args.cell c.args.otherwise j (omega arith) (omega arith)
-    ∙ rw (ne_eqb _ _ c.if-self-i.false) refl) ∙ rw on at c.loop-i.invariant
+    ∙ rw (ne_eqb _ _ c.if-c-i.false) refl) ∙ rw on at c.loop-i.invariant
 
 pub returns : goal.returns
 returns c =
