@@ -1,6 +1,5 @@
 -- `lanerun::tell::tell_moves` meets its contract: what is told for n is move n of the schedule, on what the moves
 -- before it came to.
-use native.Mathlib.Omega.{arith}
 use Rattle.lanerun.proofs.Laws.Told.{can_record, can_move, moved, between, one_more}
 use Rattle.lanerun.proofs.tell.tell_moves.Goals as goal
 
