@@ -1,7 +1,9 @@
 -- Laws of operation codes: the instruction of a code that is known, of one that is no operation's, and of codes whose
 -- instructions have the same fields.
 use Prim.Native.Nat.{ℕ, ◌≤◌, ◌<◌}
-use mathlib.Core.Path.{◌≡◌, refl, ap, sym, subst}
+use mathlib.Core.Path.{◌≡◌, refl, ap, sym, subst, ◌∙◌}
+use mathlib.Core.Bool.{Bool, true, false, cond}
+use lib.Dec.{eqb}
 use mathlib.Core.Logic.{◌⊎◌, ⊎_elim}
 use native.Mathlib.Omega.{arith}
 use borrow.Author.Tests.{ne_eqb}
@@ -9,6 +11,11 @@ use Rattle.laws.proofs.Numbers.{lt_or_le}
 use Rattle.file_format.specs.declared.accepted.Op.TheVariants.{Set, Add, Load, Store, Lock, Unlock, Skip}
 use Rattle.sheet_format.specs.Layout.{Instr, op, barrier}
 use Rattle.sheet_format.specs.Read.{barrier_by, instr_by}
+use Rattle.sheet_format.specs.declared.code.Code.{Code}
+use Rattle.sheet_format.specs.declared.code.Code.TheVariants as C
+use Rattle.barrier_placement.specs.declared.cookbook.Barrier.{Barrier}
+use Rattle.barrier_placement.specs.declared.cookbook.Barrier.TheVariants.{LL, LS, SS, SL}
+use Rattle.sheet_format.specs.Code.{barrier_kind, code_from, instr_named}
 
 pub by_code : (n : ℕ) {o : ℕ} (a b c : ℕ) → o ≡ n → instr_by n a b c ≡ instr_by o a b c
 by_code n a b c e = ap (λ x. instr_by x a b c) (sym e)
@@ -25,6 +32,31 @@ other_code o a b c n1 n2 n3 n4 n5 n6 n7 =
       ne_eqb o 6 n6,
       ne_eqb o 7 n7,
     ) refl
+
+-- the instruction of a code is that of its kind
+barrier_named : (k : Barrier) (a b c : ℕ) → barrier k ≡ instr_named (barrier_kind k) a b c
+barrier_named LL a b c = refl
+barrier_named LS a b c = refl
+barrier_named SS a b c = refl
+barrier_named SL a b c = refl
+
+named_next : (t : Bool) (k n : Code) {i : Instr} (a b c : ℕ) → i ≡ instr_named n a b c
+    → cond t (instr_named k a b c) i ≡ instr_named (cond t k n) a b c
+named_next true k n a b c e = refl
+named_next false k n a b c e = e
+
+pub named_by : (o a b c : ℕ) → instr_by o a b c ≡ instr_named (code_from o) a b c
+named_by o a b c =
+    named_next (eqb o 1) C.Set _ a b c
+    (named_next (eqb o 2) C.Add _ a b c
+    (named_next (eqb o 3) C.Load _ a b c
+    (named_next (eqb o 4) C.Store _ a b c
+    (named_next (eqb o 5) C.Lock _ a b c
+    (named_next (eqb o 6) C.Unlock _ a b c
+    (named_next (eqb o 7) C.Skip _ a b c (barrier_named (barrier_by o) a b c)))))))
+
+pub of_kind : (o : ℕ) {r k : Code} (a b c : ℕ) → r ≡ code_from o → r ≡ k → instr_named k a b c ≡ instr_by o a b c
+of_kind o a b c e is = ap (λ x. instr_named x a b c) (sym is ∙ e) ∙ sym (named_by o a b c)
 
 module _ (P : Instr → Type 0) (o a b c : ℕ) where
   by : (n : ℕ) → o ≡ n → P (instr_by n a b c) → P (instr_by o a b c)
