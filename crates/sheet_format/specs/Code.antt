@@ -1,6 +1,7 @@
 -- The kind of an operation code, and the instruction of a kind with its fields.
 use Rattle.std.specs.Prelude.{ℕ, cond, eqb}
-use Rattle.file_format.specs.declared.accepted.Op.TheVariants.{Set as set, Add as add, Load as load, Store as store, Lock as lock, Unlock as unlock, Skip as skip}
+use Rattle.file_format.specs.declared.accepted.Op.TheVariants.{Set as set, Add as add, Load as load, Store as store}
+use Rattle.file_format.specs.declared.accepted.Op.TheVariants.{Lock as lock, Unlock as unlock, Skip as skip}
 use Rattle.barrier_placement.specs.declared.cookbook.Barrier.{Barrier}
 use Rattle.barrier_placement.specs.declared.cookbook.Barrier.TheVariants.{LL as ll, LS as ls, SS as ss, SL as sl}
 use Rattle.sheet_format.specs.Layout.{Instr, op, barrier}

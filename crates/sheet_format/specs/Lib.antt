@@ -1,5 +1,6 @@
 -- The sheets. Layout: a lane with its barriers; Levels: which of them a level keeps; Bytes: what is written, and what
--- lowering answers; Read: the instructions that bytes stand for; Code: the kinds of code; Items: a lane as placement sees it.
+-- lowering answers; Read: the instructions that bytes stand for; Code: the kinds of operation code; Items: a lane as
+-- placement sees it.
 pub mod Layout
 pub mod Levels
 pub mod Bytes
