@@ -11,7 +11,7 @@ use Rattle.laws.proofs.Lists.{get_elem?_seam}
 use Rattle.file_format.specs.Accepted.{Program}
 use Rattle.file_format.specs.Lawful.{Lawful}
 use Rattle.std.specs.Prelude.{None}
-use Rattle.std.proofs.Math.Option.{some-ne-none}
+use Rattle.std.proofs.lemmas.Option.{none-some}
 use Rattle.file_verdict.specs.declared.refusal.Refusal.TheVariants.{IllegalMove}
 use Rattle.file_verdict.specs.Verdict.{accepted, verdict}
 use Rattle.file_wellformed.proofs.Lawful.{accepted_lawful}
@@ -107,7 +107,7 @@ module _ {s : List ℕ} {m : Machine} {mvs : List Move} {rows : List ℕ} {x : C
         record {
           sized = st.sized;
           few = omega arith;
-          counted = λ e. absurd (some-ne-none IllegalMove e);
+          counted = λ e. absurd (none-some IllegalMove (sym e));
           refusal = sym (ap (λ (a : Answer). a.refusal) same);
           done = sym (ap (λ (a : Answer). a.done) same);
           waited = sym (ap (λ (a : Answer). a.waited) same);

@@ -10,7 +10,7 @@ use Rattle.file_format.specs.Accepted.{Program}
 use Rattle.file_verdict.specs.declared.refusal.Refusal.{Refusal}
 use Rattle.file_verdict.specs.Verdict.{Verdict, refused, accepted, verdict}
 use Rattle.std.specs.Prelude.{Option, Some, None, is_some}
-use Rattle.std.proofs.Math.Option.{some-ne-none}
+use Rattle.std.proofs.lemmas.Option.{none-some}
 use Rattle.file_verdict.specs.declared.refusal.Refusal.TheVariants.{IllegalMove}
 use Rattle.machine_spec.specs.Schedule.{Move, limit, legal}
 use Rattle.machine_spec.specs.Run.{run_by}
@@ -39,7 +39,7 @@ none_is (Some r) e = absurd cc
 
 pub some_is : (o : Option Refusal) → is_some o ≡ true → o ≡ None → ⊥
 some_is None e z = absurd cc
-some_is (Some r) e z = some-ne-none r z
+some_is (Some r) e z = none-some r (sym z)
 
 module _ (m : Machine) (s : List ℕ) (mvs : List Move) where
   abbrev lets : Program → List Move → Bool
@@ -55,12 +55,12 @@ module _ (m : Machine) (s : List ℕ) (mvs : List Move) where
   under e = go (verdict s) refl
     where
       go : (v : Verdict) → verdict s ≡ v → Under
-      go (refused r) h = absurd (some-ne-none r (sym (ap (λ v. (run_by m s v mvs).refusal) h) ∙ e))
+      go (refused r) h = absurd (none-some r (sym e ∙ ap (λ v. (run_by m s v mvs).refusal) h))
       go (accepted k) h = which (lets k mvs) refl
         where
           which : (b : Bool) → lets k mvs ≡ b → Under
           which true l = record { kernel = k; accepts = h; legals = l }
-          which false l = absurd (some-ne-none IllegalMove (sym (ap (λ v. (run_by m s v mvs).refusal) h ∙ rw l refl) ∙ e))
+          which false l = absurd (none-some IllegalMove (sym e ∙ ap (λ v. (run_by m s v mvs).refusal) h ∙ rw l refl))
 
   -- an answer that is a refusal is that of every longer schedule
   pub stays_refused : (mv : Move) → ((answer_by m s mvs).refusal ≡ None → ⊥)
