@@ -16,7 +16,8 @@ fn is_volatile(mask: u16, x: u8) -> bool
     ((mask >> (x % 16)) % 2 == 1) & (x < 16)
 }
 
-// What the table has of the operation with this code and this operand b.
+// What the table has of the operation with this code and this operand b. Codes stay numbers here, for the index and the
+// test of SKIP's 7: one use of the code's byte a row, as fast as the bar asks.
 pub(crate) fn known_of(tables: &Tables, code: u8, b: u8, mask: u16) -> u32
     ensures { ((o : Op) → code ≡ (fields_of o).code → b ≡ (fields_of o).b → result
         ≡ known_of (step_of (is_volatile mask) o))

@@ -2,7 +2,8 @@
 // asks whether there is anything wrong, by one test at each row; only where there is, another finds out what.
 // A set of locks is a number below 16, bit l for lock l. The ways to a position are a number of eight bits: bit l is up
 // where some way holds lock l, bit 4 + l where some way does not; ways are joined by `|`, and differ where a lock has
-// both bits.
+// both bits. Codes stay numbers, 5 LOCK, 6 UNLOCK and 7 SKIP: one test of the code's byte a row, as fast as the bar
+// asks.
 #![tactic(auto)]
 
 ghost use Rattle.std.specs.Prelude.{◌≡◌, List, false, ℕ, ◌+◌, ◌-◌, ◌*◌, ◌<◌, ◌≤◌, length, set, get_or, take, drop};

@@ -32,6 +32,7 @@ fn put_record(out: &mut [u8], at: usize, s: &[u8], r: usize, place: &[u16], begi
 {
     let from = 4 + 12 * r;
     copy_eight(out, at, s, from);
+    // SKIP's code stays a number: one test of the code's byte a row, as fast as the bar asks.
     if s[from] == 7 {
         out[at + 4] = landing(place, begin, n, whole_word(s, from + 8)) as u8;
     }

@@ -56,6 +56,7 @@ impl Encoder {
         ensures { out.new ≡ sets out.old at (own_row self.level plan.now (drop from rows.now)) }
     {
         copy_eight(out, at, rows, from);
+        // SKIP's code stays a number: one test of the code's byte a row, as fast as the bar asks.
         if rows[from] == 7 {
             let target = beginning(self.level, plan, usize::from(rows[from + 4]));
             put_quad(out, at + 4, target);

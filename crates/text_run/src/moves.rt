@@ -10,11 +10,12 @@ use crate::entry::put_entry;
 use crate::names::put_named;
 use crate::places::{entry_from, next_row, register_at};
 use machine_spec::Machine;
+use sheet_format::code::Code;
 use sheet_rows::read::{Row, quad_at, row_at};
 use text_put::put::{put, put_text};
 use text_put::words::{put_decimal, put_one};
 
-// Behind a LOAD, whose code is 3, the value that its register took.
+// Behind a LOAD the value that its register took.
 fn put_loaded(out: &mut [u8], at: usize, row: Row, after: &[u8], t: u8) -> usize
     requires { at + 17 ≤ 2 ^ 62 }
     ensures { (result ≤ at + 17)
@@ -22,7 +23,7 @@ fn put_loaded(out: &mut [u8], at: usize, row: Row, after: &[u8], t: u8) -> usize
         (loaded_text (instr_by row.code row.a row.b row.word) (fields_in after.now) t)
         out.new result }
 {
-    if row.code == 3 {
+    if Code::from(u32::from(row.code)) == Code::Load {
         return put_one(out, at, b" value ", register_at(after, t, row.a));
     }
     at

@@ -16,23 +16,23 @@ Laid line after r i = after ≡ in_columns line (drop 3 columns) (field_texts i 
 pub returns-in-Set : goal.returns-in-Set
 unfolding in_column in_columns
 returns-in-Set c =
-    word_kinds (Laid c.args.line.now _ c.args.rec) c.args.code c.args.a c.args.b c.args.word c.from.ensures c.in-Set.is
-    c.pair_in.ensures c.pair_in.ensures
+    word_kinds (Laid c.args.line.now _ c.args.rec) c.args.code c.args.a c.args.b c.args.word
+    c.from.ensures c.in-Set.is c.pair_in.ensures c.pair_in.ensures
 
 pub returns-in-Add : goal.returns-in-Add
 unfolding in_column in_columns
 returns-in-Add c =
-    pair_kinds (Laid c.args.line.now _ c.args.rec) c.args.code c.args.a c.args.b c.args.word c.from.ensures c.in-Add.is
-    c.pair_in-in-Add.ensures c.pair_in-in-Add.ensures c.pair_in-in-Add.ensures
+    pair_kinds (Laid c.args.line.now _ c.args.rec) c.args.code c.args.a c.args.b c.args.word
+    c.from.ensures c.in-Add.is c.pair_in-in-Add.ensures c.pair_in-in-Add.ensures c.pair_in-in-Add.ensures
 
 pub returns-in-Lock : goal.returns-in-Lock
 unfolding in_column in_columns
 returns-in-Lock c =
-    lock_kinds (Laid c.args.line.now _ c.args.rec) c.args.code c.args.a c.args.b c.args.word c.from.ensures c.in-Lock.is
-    c.number_in.ensures c.number_in.ensures
+    lock_kinds (Laid c.args.line.now _ c.args.rec) c.args.code c.args.a c.args.b c.args.word
+    c.from.ensures c.in-Lock.is c.number_in.ensures c.number_in.ensures
 
 pub returns-in-LL : goal.returns-in-LL
 unfolding in_columns
 returns-in-LL c =
-    barrier_kinds (Laid c.args.line.now _ c.args.rec) c.args.code c.args.a c.args.b c.args.word c.from.ensures c.in-LL.is
-    (λ k. refl)
+    barrier_kinds (Laid c.args.line.now _ c.args.rec) c.args.code c.args.a c.args.b c.args.word
+    c.from.ensures c.in-LL.is (λ k. refl)
