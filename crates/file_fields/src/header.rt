@@ -25,11 +25,8 @@ fn head_rule(s: &[u8], t: usize) -> bool
     requires { t < 4 }
     ensures { result ≡ head_rule s.now t }
 {
-    let most = if t < usize::from(byte_at(s, 0)) {
-        word_at(s, 6)
-    } else {
-        0
-    };
+    let lanes = usize::from(byte_at(s, 0));
+    let most = if t < lanes { word_at(s, 6) } else { 0 };
     head_of(s, t) <= usize::from(most)
 }
 
