@@ -78,9 +78,12 @@ abbrev numbers : WriteResult → List ℕ
 numbers (Ok n) = []
 numbers (Err r) = number_of r ∷ record_of r ∷ []
 
+abbrev numbered : WriteResult × List ℕ → List ℕ × List ℕ
+numbered a = (numbers a.0, a.1)
+
 -- what an example says
 abbrev pub Holds : Example → Type 0
-Holds (refused_by l s n x r) = let a = lower_by l (verdict s) (output n) in (numbers a.0, a.1) ≡ (x ∷ r ∷ [], output n)
+Holds (refused_by l s n x r) = numbered (lower_by l (verdict s) (output n)) ≡ (x ∷ r ∷ [], output n)
 Holds (writes l s b) = lower_by l (verdict s) (output (length b + 1)) ≡ (Ok (length b), b ++ 255 ∷ [])
 Holds (prints s x) = printed s ≡ x
 Holds (shows l s is) = instructions (lower_by l (verdict s) (output 100)) ≡ is

@@ -1,6 +1,5 @@
 // The instruction of a sheet row, carried out by a lane of the borrowed state.
-ghost use Rattle.std.specs.Prelude.{◌≡◌};
-ghost use Rattle.sheet_format.specs.Read.{barrier_by, instr_by};
+ghost use Rattle.sheet_format.specs.Read.{instr_by};
 ghost use Rattle.machine_lane.specs.Lanes.{flags};
 ghost use Rattle.machine_state.specs.Ready.{Ready};
 ghost use Rattle.machine_step.specs.Turns.{Carried};
@@ -11,18 +10,7 @@ use crate::local::{add, pass, set, skip};
 use barrier_placement::cookbook::Barrier;
 use machine_spec::Machine;
 use machine_state::state::{Moved, State};
-
-// The barrier of an operation code. Codes stay numbers here: they are bytes of a sheet, whose format may not change.
-fn barrier_of(o: u8) -> Barrier
-    ensures { result ≡ barrier_by o }
-{
-    match o {
-        11 => Barrier::LL,
-        12 => Barrier::LS,
-        13 => Barrier::SS,
-        _ => Barrier::SL,
-    }
-}
+use sheet_format::code::Code;
 
 // The instruction of operation code o, with its fields.
 pub fn carry(
@@ -39,14 +27,17 @@ pub fn carry(
     ensures { Carried machine (flags volatile.now) (instr_by o a b c) t
         state.old result state.new }
 {
-    match o {
-        1 => set(a, c, t, state),
-        2 => add(a, b, t, state),
-        3 => load(machine, volatile, a, b, t, state),
-        4 => store(a, b, t, state),
-        5 => lock(machine, volatile, b, t, state),
-        6 => unlock(b, t, state),
-        7 => skip(a, c, t, state),
-        _ => pass(machine, barrier_of(o), t, state),
+    match Code::from(u32::from(o)) {
+        Code::Set => set(a, c, t, state),
+        Code::Add => add(a, b, t, state),
+        Code::Load => load(machine, volatile, a, b, t, state),
+        Code::Store => store(a, b, t, state),
+        Code::Lock => lock(machine, volatile, b, t, state),
+        Code::Unlock => unlock(b, t, state),
+        Code::Skip => skip(a, c, t, state),
+        Code::LL => pass(machine, Barrier::LL, t, state),
+        Code::LS => pass(machine, Barrier::LS, t, state),
+        Code::SS => pass(machine, Barrier::SS, t, state),
+        Code::SL => pass(machine, Barrier::SL, t, state),
     }
 }

@@ -4,6 +4,7 @@ ghost use Rattle.sheet_format.specs.Read.{instr_by, read_instr};
 ghost use Rattle.sheet_format.specs.Put.{Puts};
 ghost use Rattle.text_listing.specs.Line.{pair, instr_name, instr_text, line_of};
 
+use sheet_format::code::Code;
 use sheet_rows::read::row_at;
 use text_put::put::{put, put_text};
 use text_put::words::{put_decimal, put_one};
@@ -31,18 +32,18 @@ pub fn put_name(out: &mut [u8], at: usize, o: u32) -> usize
     requires { at + 6 ≤ 2 ^ 62 }
     ensures { (a b c : ℕ) → Puts out.old at (instr_name (instr_by o a b c)) out.new result }
 {
-    let name: &[u8] = match o {
-        1 => b"SET",
-        2 => b"ADD",
-        3 => b"LOAD",
-        4 => b"STORE",
-        5 => b"LOCK",
-        6 => b"UNLOCK",
-        7 => b"SKIP",
-        11 => b"LL",
-        12 => b"LS",
-        13 => b"SS",
-        _ => b"MFENCE",
+    let name: &[u8] = match Code::from(o) {
+        Code::Set => b"SET",
+        Code::Add => b"ADD",
+        Code::Load => b"LOAD",
+        Code::Store => b"STORE",
+        Code::Lock => b"LOCK",
+        Code::Unlock => b"UNLOCK",
+        Code::Skip => b"SKIP",
+        Code::LL => b"LL",
+        Code::LS => b"LS",
+        Code::SS => b"SS",
+        Code::SL => b"MFENCE",
     };
     put_text(out, at, name)
 }
@@ -53,11 +54,11 @@ pub fn put_instr(out: &mut [u8], at: usize, o: u32, a: u32, b: u32, c: u32) -> u
     ensures { Puts out.old at (instr_text (instr_by o a b c)) out.new result }
 {
     let i = put_name(out, at, o);
-    match o {
-        1 | 7 => put_two(out, i, b" ", a, c),
-        2 | 3 | 4 => put_two(out, i, b" ", a, b),
-        5 | 6 => put_one(out, i, b" ", b),
-        _ => i,
+    match Code::from(o) {
+        Code::Set | Code::Skip => put_two(out, i, b" ", a, c),
+        Code::Add | Code::Load | Code::Store => put_two(out, i, b" ", a, b),
+        Code::Lock | Code::Unlock => put_one(out, i, b" ", b),
+        Code::LL | Code::LS | Code::SS | Code::SL => i,
     }
 }
 

@@ -12,6 +12,7 @@ ghost use Rattle.text_page.specs.Pages.{heading_line};
 ghost use Rattle.text_page.specs.Given.{headed};
 
 use crate::column::{Column, Side, put_in, put_number};
+use sheet_format::code::Code;
 use sheet_rows::read::Row;
 use text_listing::line::put_name;
 use text_put::put::{put, put_text};
@@ -119,11 +120,11 @@ fn fields_in(line: &mut [u8], code: u32, a: u32, b: u32, word: u32, rec: u32)
     ensures { line.new ≡ in_columns line.old (drop 3 columns)
         (field_texts (instr_by code a b word) rec) }
 {
-    match code {
-        1 | 7 => pair_in(line, a, CONSTANT, word, rec),
-        2 | 3 | 4 => pair_in(line, a, OPERAND, b, rec),
-        5 | 6 => number_in(line, OPERAND, b, rec),
-        _ => {}
+    match Code::from(code) {
+        Code::Set | Code::Skip => pair_in(line, a, CONSTANT, word, rec),
+        Code::Add | Code::Load | Code::Store => pair_in(line, a, OPERAND, b, rec),
+        Code::Lock | Code::Unlock => number_in(line, OPERAND, b, rec),
+        Code::LL | Code::LS | Code::SS | Code::SL => {}
     }
 }
 

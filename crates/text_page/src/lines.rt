@@ -8,6 +8,7 @@ ghost use Rattle.text_page.specs.Lines.{takes as takesOf, page_lines};
 ghost use Rattle.text_page.specs.Given.{RowAt, paged, Given};
 
 use crate::line::put_row;
+use sheet_format::code::Code;
 use sheet_rows::parts::{Parts, parts_of};
 use sheet_rows::read::row_at;
 
@@ -40,9 +41,9 @@ fn place_of(parts: Parts, i: usize) -> Place
 fn takes(code: u8) -> usize
     ensures { (result ≤ 1) × ((a b c : ℕ) → result ≡ takesOf (instr_by code a b c)) }
 {
-    match code {
-        1..=7 => 1,
-        _ => 0,
+    match Code::from(u32::from(code)) {
+        Code::LL | Code::LS | Code::SS | Code::SL => 0,
+        _ => 1,
     }
 }
 

@@ -5,15 +5,16 @@ ghost use Rattle.sheet_format.specs.Read.{instr_by};
 ghost use Rattle.text_run.specs.Names.{is_store_load, own_name, instr_on};
 
 use machine_spec::{Machine, Model};
+use sheet_format::code::Code;
 use sheet_rows::read::Row;
 use text_listing::line::put_instr;
 use text_put::put::put_text;
 
-// Is the code the store-load barrier's? 1 to 7 are operations, 11 to 13 the other barriers.
+// Is the code the store-load barrier's?
 fn is_store_load(code: u8) -> bool
     ensures { (a b c : ℕ) → result ≡ is_store_load (instr_by code a b c) }
 {
-    !matches!(code, 1..=7 | 11..=13)
+    Code::from(u32::from(code)) == Code::SL
 }
 
 // Has the machine a name of its own for the instruction of this code?

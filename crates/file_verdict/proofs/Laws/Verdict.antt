@@ -22,7 +22,8 @@ use Rattle.file_format.specs.Structured.{Structured}
 use Rattle.file_format.specs.Accepted.{Program, program_of}
 use Rattle.file_format.specs.Held.{lock_fault}
 use Rattle.file_format.specs.Rising.{lock_order}
-use Rattle.file_verdict.specs.Verdict.{Checked, unless, refused_if, fields_then, structure_then, refusal_of, Verdict, refused, accepted}
+use Rattle.file_verdict.specs.Verdict.{Checked, unless, refused_if, fields_then, structure_then, refusal_of}
+use Rattle.file_verdict.specs.Verdict.{Verdict, refused, accepted}
 use Rattle.file_verdict.specs.Verdict.{verdict, verdict_from}
 
 -- a check that names a record, and one that names none

@@ -11,6 +11,7 @@ use Rattle.laws.proofs.Lists.{get_elem?_seam}
 use Rattle.file_format.specs.Accepted.{Program}
 use Rattle.file_format.specs.Lawful.{Lawful}
 use Rattle.std.specs.Prelude.{None}
+use Rattle.std.proofs.lemmas.Option.{none-some}
 use Rattle.file_verdict.specs.declared.refusal.Refusal.TheVariants.{IllegalMove}
 use Rattle.file_verdict.specs.Verdict.{accepted, verdict}
 use Rattle.file_wellformed.proofs.Lawful.{accepted_lawful}
@@ -34,7 +35,7 @@ use Rattle.machine_start.proofs.Laws.Start.{zeroed, zeroed_state}
 use Rattle.machine_start.specs.declared.extent.Extent.{Extent}
 use Rattle.machine_course.specs.declared.course.Course.{Course}
 use Rattle.machine_course.specs.Stands.{answer_by, Prepared, Stands, Started, counted, stopped}
-use Rattle.machine_course.proofs.Laws.Legal.{some_refusal, allowed, legal_snoc, Under, under, stays_refused}
+use Rattle.machine_course.proofs.Laws.Legal.{allowed, legal_snoc, Under, under, stays_refused}
 
 snoc_length : (mvs : List Move) (mv : Move) → length (mvs ++ (mv ∷ [])) ≡ length mvs + 1
 snoc_length mvs mv = length-append mvs (mv ∷ [])
@@ -106,7 +107,7 @@ module _ {s : List ℕ} {m : Machine} {mvs : List Move} {rows : List ℕ} {x : C
         record {
           sized = st.sized;
           few = omega arith;
-          counted = λ e. absurd (some_refusal e);
+          counted = λ e. absurd (none-some IllegalMove (sym e));
           refusal = sym (ap (λ (a : Answer). a.refusal) same);
           done = sym (ap (λ (a : Answer). a.done) same);
           waited = sym (ap (λ (a : Answer). a.waited) same);

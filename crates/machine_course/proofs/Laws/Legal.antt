@@ -9,7 +9,9 @@ use lib.ListN.{length}
 use Rattle.file_format.specs.Accepted.{Program}
 use Rattle.file_verdict.specs.declared.refusal.Refusal.{Refusal}
 use Rattle.file_verdict.specs.Verdict.{Verdict, refused, accepted, verdict}
-use Rattle.std.specs.Prelude.{Option, Some, None}
+use Rattle.std.specs.Prelude.{Option, Some, None, is_some}
+use Rattle.std.proofs.lemmas.Option.{none-some}
+use Rattle.file_verdict.specs.declared.refusal.Refusal.TheVariants.{IllegalMove}
 use Rattle.machine_spec.specs.Schedule.{Move, limit, legal}
 use Rattle.machine_spec.specs.Run.{run_by}
 use Rattle.machine_spec.specs.declared.Machine.{Machine}
@@ -30,9 +32,20 @@ legal_snoc n k (x ∷ mvs) mv = go (allowed n k x) (legal_snoc n k mvs mv)
     go true e = e
     go false e = refl
 
--- a refusal is one
-pub some_refusal : {r : Refusal} → ◌≡◌ {A = Option Refusal} (Some r) None → ⊥
-some_refusal e = let z : ◌≡◌ {A = ℕ} 0 1 = cc in absurd (omega arith)
+-- whether there is a refusal, by the code's test
+none_is : (o : Option Refusal) → is_some o ≡ false → o ≡ None
+none_is None e = refl
+none_is (Some r) e = absurd cc
+
+some_is : (o : Option Refusal) → is_some o ≡ true → o ≡ None → ⊥
+some_is None e z = absurd cc
+some_is (Some r) e z = none-some r (sym z)
+
+pub none_by : {o : Option Refusal} {b : Bool} → b ≡ is_some o → b ≡ false → o ≡ None
+none_by {o} is e = none_is o (sym is ∙ e)
+
+pub some_by : {o : Option Refusal} {b : Bool} → b ≡ is_some o → b ≡ true → o ≡ None → ⊥
+some_by {o} is e = some_is o (sym is ∙ e)
 
 module _ (m : Machine) (s : List ℕ) (mvs : List Move) where
   abbrev lets : Program → List Move → Bool
@@ -48,12 +61,12 @@ module _ (m : Machine) (s : List ℕ) (mvs : List Move) where
   under e = go (verdict s) refl
     where
       go : (v : Verdict) → verdict s ≡ v → Under
-      go (refused r) h = absurd (some_refusal (sym (ap (λ v. (run_by m s v mvs).refusal) h) ∙ e))
+      go (refused r) h = absurd (none-some r (sym e ∙ ap (λ v. (run_by m s v mvs).refusal) h))
       go (accepted k) h = which (lets k mvs) refl
         where
           which : (b : Bool) → lets k mvs ≡ b → Under
           which true l = record { kernel = k; accepts = h; legals = l }
-          which false l = absurd (some_refusal (sym (ap (λ v. (run_by m s v mvs).refusal) h ∙ rw l refl) ∙ e))
+          which false l = absurd (none-some IllegalMove (sym e ∙ ap (λ v. (run_by m s v mvs).refusal) h ∙ rw l refl))
 
   -- an answer that is a refusal is that of every longer schedule
   pub stays_refused : (mv : Move) → ((answer_by m s mvs).refusal ≡ None → ⊥)

@@ -1,8 +1,11 @@
 -- Laws of the instruction of a sheet row, and of what is said of equal instructions.
-use Rattle.std.proofs.Common.{◌≡◌, ℕ, Bool, sym, ap, subst}
+use Rattle.std.proofs.Common.{◌≡◌, ℕ, Bool, sym, ap, subst, ◌∙◌}
 use Rattle.sheet_format.specs.Layout.{Instr}
 use Rattle.sheet_rows.specs.declared.read.Row.{Row}
 use Rattle.sheet_format.specs.Read.{instr_by}
+use Rattle.sheet_format.specs.declared.code.Code.{Code}
+use Rattle.sheet_format.specs.Code.{code_from, instr_named}
+use Rattle.sheet_format.proofs.Laws.Codes.{of_kind}
 use Rattle.machine_spec.specs.declared.Machine.{Machine}
 use Rattle.machine_state.specs.declared.state.Moved.{Moved}
 use Rattle.machine_state.specs.Ready.{Ready}
@@ -19,3 +22,10 @@ ready_as {r} {t} e h = subst (Ready r t) (sym e) h
 pub carried_as : (m : Machine) (f : ℕ → Bool) {i j : Instr} {t : ℕ} {s e : Blocks} {q : Moved} → i ≡ j
     → Carried m f i t s q e → Carried m f j t s q e
 carried_as m f {t = t} {s} {e} {q} p h = subst (λ i. Carried m f i t s q e) p h
+
+-- by the kind of the operation code o, read as p
+pub carried_by : (m : Machine) (f : ℕ → Bool) (a b c : ℕ) {o p : ℕ} {r k : Code} {t : ℕ} {s e : Blocks} {q : Moved}
+    → p ≡ o → r ≡ code_from p → r ≡ k → Carried m f (instr_named k a b c) t s q e
+    → Carried m f (instr_by o a b c) t s q e
+carried_by m f a b c {o} same from is h =
+    carried_as m f (of_kind o a b c (from ∙ ap code_from same) is) h

@@ -6,13 +6,18 @@ use mathlib.Core.Bool.{Bool, true, false, cond}
 use mathlib.Core.List.{List, [], ◌∷◌, ◌++◌}
 use native.Mathlib.Omega.{arith}
 use lib.Dec.{eqb}
+use Rattle.std.proofs.Common.{Bor}
 use lib.ListN.{length, length-append}
 use Rattle.file_format.specs.declared.accepted.Op.TheVariants.{Set, Add, Load, Store, Lock, Unlock, Skip}
 use Rattle.barrier_placement.specs.declared.cookbook.Barrier.TheVariants.{LL, LS, SS, SL}
 use Rattle.sheet_format.specs.Layout.{Instr, op, barrier}
 use Rattle.sheet_format.specs.Read.{barrier_by, instr_by}
 use Rattle.sheet_format.specs.Put.{Puts}
-use Rattle.sheet_format.proofs.Laws.Codes.{word_codes, pair_codes, lock_codes, barrier_codes}
+use Rattle.sheet_format.specs.declared.code.Code.{Code}
+use Rattle.sheet_format.specs.declared.code.Code.TheVariants as C
+use Rattle.sheet_format.specs.Code.{code_from, instr_named}
+use Rattle.sheet_format.proofs.Laws.Put.{puts_as}
+use Rattle.sheet_format.proofs.Laws.Codes.{of_kind, word_kinds, pair_kinds, lock_kinds, barrier_kinds}
 use Rattle.text_put.specs.Decimal.{decimal}
 use Rattle.text_put.specs.Words.{space}
 use Rattle.text_listing.specs.Line.{pair, instr_name, instr_text, line_of, first_line}
@@ -31,31 +36,39 @@ name_few (barrier LS) = omega arith
 name_few (barrier SS) = omega arith
 name_few (barrier SL) = omega arith
 
+-- the name of a kind of code, laid as a text
+pub put_kind : (o a b c : ℕ) {r k : Code} → r ≡ code_from o → {l m : List ℕ} {i j : ℕ} {x y : Bor (List ℕ)} → r ≡ k
+    → x ≡ y → y.now ≡ instr_name (instr_named k a b c) → Puts l i x.now m j
+    → Puts l i (instr_name (instr_by o a b c)) m j
+put_kind o a b c from is same name =
+    puts_as (ap (λ (x : Bor (List ℕ)). x.now) same ∙ name ∙ ap instr_name (of_kind o a b c from is))
+
 -- a name that is laid ends at most six bytes on
 pub name_end : {l m : List ℕ} {i j : ℕ} (o : ℕ) → ((a b c : ℕ) → Puts l i (instr_name (instr_by o a b c)) m j)
     → j ≤ i + 6
 name_end o p = omega (arith, (p 0 0 0).behind, name_few (instr_by o 0 0 0))
 
 -- what stands behind the name: a and the constant or the target, a and b, b alone, or nothing
-module _ (o a b c : ℕ) where
+module _ (o a b c : ℕ) {r : Code} (from : r ≡ code_from o) where
   abbrev Behind : List ℕ → Instr → Type 0
   Behind rest i = instr_name i ++ rest ≡ instr_text i
 
-  pub word_behind : (o ≡ 1) ⊎ (o ≡ 7) → Behind (space ∷ pair a c) (instr_by o a b c)
+  pub word_behind : (r ≡ C.Set) ⊎ (r ≡ C.Skip) → Behind (space ∷ pair a c) (instr_by o a b c)
   unfolding instr_text
-  word_behind k = word_codes (Behind (space ∷ pair a c)) o a b c k refl refl
+  word_behind is = word_kinds (Behind (space ∷ pair a c)) o a b c from is refl refl
 
-  pub pair_behind : (o ≡ 1 → ⊥) → 1 ≤ o → o < 5 → Behind (space ∷ pair a b) (instr_by o a b c)
+  pub pair_behind : (r ≡ C.Add) ⊎ ((r ≡ C.Load) ⊎ (r ≡ C.Store)) → Behind (space ∷ pair a b) (instr_by o a b c)
   unfolding instr_text
-  pair_behind n p q = pair_codes (Behind (space ∷ pair a b)) o a b c n p q refl refl refl
+  pair_behind is = pair_kinds (Behind (space ∷ pair a b)) o a b c from is refl refl refl
 
-  pub b_behind : 5 ≤ o → o < 7 → Behind (space ∷ decimal b) (instr_by o a b c)
+  pub b_behind : (r ≡ C.Lock) ⊎ (r ≡ C.Unlock) → Behind (space ∷ decimal b) (instr_by o a b c)
   unfolding instr_text
-  b_behind p q = lock_codes (Behind (space ∷ decimal b)) o a b c p q refl refl
+  b_behind is = lock_kinds (Behind (space ∷ decimal b)) o a b c from is refl refl
 
-  pub none_behind : (1 ≤ o → o < 8 → ⊥) → instr_name (instr_by o a b c) ≡ instr_text (instr_by o a b c)
+  pub none_behind : (r ≡ C.LL) ⊎ ((r ≡ C.LS) ⊎ ((r ≡ C.SS) ⊎ (r ≡ C.SL)))
+      → instr_name (instr_by o a b c) ≡ instr_text (instr_by o a b c)
   unfolding instr_text
-  none_behind h = barrier_codes (λ i. instr_name i ≡ instr_text i) o a b c h refl
+  none_behind is = barrier_kinds (λ i. instr_name i ≡ instr_text i) o a b c from is (λ k. refl)
 
 pub pair_few : (a b : ℕ) → a < 2 ^ 32 → b < 2 ^ 32 → length (pair a b) ≤ 21
 pair_few a b ha hb =

@@ -20,7 +20,9 @@ returns-in_err-program_of c =
 
 pub returns-then-not-legal_moves : goal.returns-then-not-legal_moves
 returns-then-not-legal_moves c =
-    illegal_moves c.args.machine (file_accepted c.args.machine c.args.file.now (replicate 4112 0) (omega arith) c.in_ok-program_of.ensures) c.args.moves.now
+    illegal_moves c.args.machine
+    (file_accepted c.args.machine c.args.file.now (replicate 4112 0) (omega arith) c.in_ok-program_of.ensures)
+    c.args.moves.now
     c.args.out.now (omega arith) (λ e. absurd (omega (arith, e))) c.byte_at.ensures c.limit_of.ensures
     c.legal_moves.ensures c.if-not-legal_moves.true
 
