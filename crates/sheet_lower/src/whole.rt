@@ -7,13 +7,13 @@ ghost use Rattle.sheet_format.specs.Bytes.{level_number, mask_at, write_into};
 ghost use Rattle.sheet_lower.specs.Sheet.{sheet_of};
 ghost use Rattle.sheet_lower.specs.Chained.{ChainsOf};
 
+use file_format::fields::{byte_at, word_at};
 use sheet_format::Level;
 use sheet_lanes::plan::plan_lanes;
 use sheet_lanes::starts::begin_in;
 use sheet_lanes::whole::write_lanes;
 use sheet_rows::parts::parts_of;
 use sheet_rows::put::{put_counts, put_first};
-use file_format::fields::{byte_at, word_at};
 
 // The level in a sheet's header.
 fn level_number(level: Level) -> u8
