@@ -23,7 +23,7 @@ bounds-x-t c =
     omega (
       arith,
       lane_few c.requires.stands (move c.args.lane c.args.choice) (none_by c.is_some.ensures c.if-is_some.false)
-      c.limit_of.ensures
+          c.limit_of.ensures
           c.wide.ensures c.legal_move.ensures c.if-not-legal_move.false,
     )
 
@@ -32,7 +32,7 @@ bounds-x-t-2 c =
     omega (
       arith,
       lane_few c.requires.stands (move c.args.lane c.args.choice) (none_by c.is_some.ensures c.if-is_some.false)
-      c.limit_of.ensures
+          c.limit_of.ensures
           c.wide.ensures c.legal_move.ensures c.if-not-legal_move.false,
     )
 
@@ -40,10 +40,10 @@ pub move_lane-moved-requires : goal.move_lane-moved-requires
 move_lane-moved-requires c =
     let mv = move c.args.lane c.args.choice in (
       can_move c.requires.stands mv (none_by c.is_some.ensures c.if-is_some.false) c.limit_of.ensures c.wide.ensures
-      c.legal_move.ensures
+          c.legal_move.ensures
           c.if-not-legal_move.false,
       lies_inside c.requires.stands mv (none_by c.is_some.ensures c.if-is_some.false) c.limit_of.ensures
-      c.wide.ensures c.legal_move.ensures
+          c.wide.ensures c.legal_move.ensures
           c.if-not-legal_move.false,
     )
 
