@@ -27,11 +27,14 @@ impl Tables {
     }
 }
 
-// The barrier that an access of class c calls for before one of class d, as a set; the codes go from 11 up.
+// The barrier that an access of class c calls for before one of class d, as a set: LL is its first bit.
 fn cell_set(c: Class, d: Class) -> u32
     ensures { (result ≡ set_of (cell_of c d)) × (result ≤ 8) }
 {
-    (1 << cell(c, d)) >> 11
+    match cell(c, d) {
+        None => 0,
+        Some(b) => 1 << b as u32,
+    }
 }
 
 // All that an access of class c calls for.

@@ -1,6 +1,9 @@
 // The cookbook table: which barrier an earlier access and a later one call for.
-ghost use Rattle.std.specs.Prelude.{◌≡◌};
-ghost use Rattle.barrier_placement.specs.Cookbook.{cell as cell_of, cell_code, number_of};
+ghost use Rattle.std.specs.Prelude.{◌≡◌, MatchOption};
+ghost use Rattle.std.proofs.Math.Option.{none, some};
+ghost use Rattle.barrier_placement.specs.Cookbook.{cell as cell_of};
+
+use Barrier::{LL, LS, SL, SS};
 
 // Plain load, plain store, volatile load or LOCK, volatile store or UNLOCK.
 #[derive(Clone, Copy, PartialEq, Eq, Debug)]
@@ -20,29 +23,17 @@ pub enum Barrier {
     SL,
 }
 
-// Row by the earlier access's class, column by the later one's; 0 where no barrier is called for.
-const TABLE: [[u8; 4]; 4] = [
-    [0, 0, 0, 12],
-    [0, 0, 0, 13],
-    [11, 12, 11, 12],
-    [0, 0, 14, 13],
+// Row by the earlier access's class, column by the later one's.
+const TABLE: [[Option<Barrier>; 4]; 4] = [
+    [None, None, None, Some(LS)],
+    [None, None, None, Some(SS)],
+    [Some(LL), Some(LS), Some(LL), Some(LS)],
+    [None, None, Some(SL), Some(SS)],
 ];
 
-// The class's row and column of the table.
-pub(crate) fn number(c: Class) -> usize
-    ensures { result ≡ number_of c }
+// The barrier between an earlier and a later access, if there is one.
+pub fn cell(first: Class, second: Class) -> Option<Barrier>
+    ensures { MatchOption result (cell_of first second ≡ none) (λ b. cell_of first second ≡ some b) }
 {
-    match c {
-        Class::PL => 0,
-        Class::PS => 1,
-        Class::VL => 2,
-        Class::VS => 3,
-    }
-}
-
-// The code of the barrier between an earlier and a later access, or 0.
-pub fn cell(first: Class, second: Class) -> u8
-    ensures { result ≡ cell_code (cell_of first second) }
-{
-    TABLE[number(first)][number(second)]
+    TABLE[first as usize][second as usize]
 }

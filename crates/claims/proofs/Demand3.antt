@@ -28,7 +28,8 @@ use Rattle.claims.specs.Schedules.{source_schedule, target_schedule}
 use Rattle.claims.specs.Direct.{direct}
 use Rattle.claims.proofs.Fenced.{kernel_program, sheet_program}
 use Rattle.file_verdict.specs.declared.refusal.Refusal.TheVariants.{IllegalMove}
-use Rattle.machine_spec.specs.Run.{answer_of, refused_with, start_of, level_of, program_for, run_on, run_program, run_file}
+use Rattle.machine_spec.specs.Run.{answer_of, refused_with, start_of, level_of, program_for, run_on, run_program}
+use Rattle.machine_spec.specs.Run.{run_file}
 use Rattle.machine_spec.specs.Run.{shown}
 use Rattle.machine_spec.specs.Run.{run_by, counts_as}
 use Rattle.claims.specs.Claims.{Shares, source_for, target_for, answer_for, Demand3, Runs, Bounds}

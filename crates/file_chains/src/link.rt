@@ -58,7 +58,7 @@ pub fn link(s: &[u8], order: &mut [u16], place: &mut [u16]) -> Result<[usize; 4]
         k = walk(s, head_of(s, t), k, order, place)?;
         ends[t] = k;
     }
-    let n = word_at(s, 6);
+    let n = usize::from(word_at(s, 6));
     if k == n {
         return Ok(ends);
     }

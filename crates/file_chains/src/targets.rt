@@ -43,7 +43,7 @@ fn strays(s: &[u8], place: &[u16], ends: &[usize; 4], i: usize) -> bool
     requires s_value { (chain_too_long s.now ≡ 0) × ((order : List ℕ) × Ordered s.now order place.now ends.now) }
     ensures { result ≡ unreachable_target s.now i }
 {
-    let x = word_at(s, 4 + 12 * i + 8);
+    let x = usize::from(word_at(s, 4 + 12 * i + 8));
     x != 0 && !reaches(ends, usize::from(place[i]), usize::from(place[x]))
 }
 
@@ -53,7 +53,7 @@ pub fn bad_target(s: &[u8], place: &[u16], ends: &[usize; 4]) -> Option<usize>
     requires s_value { (chain_too_long s.now ≡ 0) × ((order : List ℕ) × Ordered s.now order place.now ends.now) }
     ensures { result ≡ named (bad_target s.now) }
 {
-    let n = word_at(s, 6);
+    let n = usize::from(word_at(s, 6));
     // a `for`: with `find` the proof did not close, since it learns too little of the calls that returned `false`
     for i in 1..n + 1 {
         if strays(s, place, ends, i) {

@@ -9,12 +9,11 @@ use file_format::fields::{byte_at, head_of, word_at};
 pub fn bad_length(s: &[u8]) -> bool
     ensures { result ≡ not (eqb (length s.now) (16 + 12 * record_count s.now)) }
 {
-    s.len() != 16 + 12 * word_at(s, 6)
+    s.len() != 16 + 12 * usize::from(word_at(s, 6))
 }
 
 // The mask has no bit from location ls up.
-fn mask_rule(mask: usize, ls: usize) -> bool
-    requires { mask < 65536 }
+fn mask_rule(mask: u16, ls: u8) -> bool
     ensures { result ≡ ltb mask (2 ^ ls) }
 {
     ls >= 16 || mask < 1 << ls
@@ -26,8 +25,9 @@ fn head_rule(s: &[u8], t: usize) -> bool
     requires { t < 4 }
     ensures { result ≡ head_rule s.now t }
 {
-    let most = if t < byte_at(s, 0) { word_at(s, 6) } else { 0 };
-    head_of(s, t) <= most
+    let lanes = usize::from(byte_at(s, 0));
+    let most = if t < lanes { word_at(s, 6) } else { 0 };
+    head_of(s, t) <= usize::from(most)
 }
 
 // The rule of the header.

@@ -25,9 +25,9 @@ fn row_of(op: u8) -> usize
 pub(crate) fn rows_of(s: &[u8]) -> Rows
     ensures { Limits s.now result.count result.a result.b result.constant result.target }
 {
-    let ls = byte_at(s, 1);
-    let ks = byte_at(s, 2);
-    let count = word_at(s, 6);
+    let ls = usize::from(byte_at(s, 1));
+    let ks = usize::from(byte_at(s, 2));
+    let count = usize::from(word_at(s, 6));
     Rows {
         count,
         a: [0, 8, 8, 8, 8, 1, 1, 8],

@@ -2,23 +2,33 @@
 ghost use Rattle.std.specs.Prelude.{◌≡◌, ◌+◌, ◌<◌, ◌≤◌, ◌^◌, length};
 ghost use Rattle.file_format.specs.Fields.{byte, word, quad, head, next};
 
-pub fn wide(x: u8) -> usize
-    ensures { (result ≡ x) × (result < 256) }
-{
-    x as usize
-}
-
-pub fn wide_word(x: u16) -> usize
-    ensures { (result ≡ x) × (result < 65536) }
-{
-    x as usize
-}
-
 // The byte at i.
-pub fn byte_at(s: &[u8], i: usize) -> usize
-    ensures { (result ≡ byte s.now i) × (result < 256) }
+pub fn byte_at(s: &[u8], i: usize) -> u8
+    ensures { result ≡ byte s.now i }
 {
-    usize::from(s.get(i).copied().unwrap_or(0))
+    s.get(i).copied().unwrap_or(0)
+}
+
+// The 16-bit field at i.
+pub fn word_at(s: &[u8], i: usize) -> u16
+    ensures { (result ≡ word s.now i) × (result < 65536) }
+{
+    if i < s.len() {
+        u16::from(byte_at(s, i)) + 256 * u16::from(byte_at(s, i + 1))
+    } else {
+        0
+    }
+}
+
+// The 32-bit field at i.
+pub fn quad_at(s: &[u8], i: usize) -> u32
+    ensures { result ≡ quad s.now i }
+{
+    if i < s.len() {
+        u32::from(word_at(s, i)) + 65536 * u32::from(word_at(s, i + 2))
+    } else {
+        0
+    }
 }
 
 // The 16-bit field at i, both bytes of which the file has.
@@ -37,24 +47,12 @@ pub fn whole_quad(s: &[u8], i: usize) -> usize
     whole_word(s, i) + 65536 * whole_word(s, i + 2)
 }
 
-// The 16-bit field at i.
-pub fn word_at(s: &[u8], i: usize) -> usize
-    requires { i < 2 ^ 32 }
-    ensures { (result ≡ word s.now i) × (result < 65536) }
-{
-    if i + 1 < s.len() {
-        whole_word(s, i)
-    } else {
-        byte_at(s, i) + 256 * byte_at(s, i + 1)
-    }
-}
-
 // The first record of lane t.
 pub fn head_of(s: &[u8], t: usize) -> usize
     requires { t < 4 }
     ensures { (result ≡ head s.now t) × (result < 65536) }
 {
-    word_at(s, 8 + 2 * t)
+    usize::from(word_at(s, 8 + 2 * t))
 }
 
 // The record that follows record i.
@@ -62,5 +60,5 @@ pub fn next_of(s: &[u8], i: usize) -> usize
     requires { i < 65536 }
     ensures { (result ≡ next s.now i) × (result < 65536) }
 {
-    word_at(s, 4 + 12 * i + 10)
+    usize::from(word_at(s, 4 + 12 * i + 10))
 }

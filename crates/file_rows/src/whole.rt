@@ -12,7 +12,7 @@ ghost use Rattle.file_rows.specs.Chains.{chain_at};
 
 use crate::chain::write_chain;
 use sheet_rows::put::{put_counts, put_first};
-use sheet_rows::read::{byte_at, word_at};
+use file_format::fields::{byte_at, word_at};
 
 // Writes the four lanes behind the header.
 fn write_lanes(out: &mut [u8], s: &[u8], order: &[u16], place: &[u16], ends: &[usize; 4])
@@ -35,7 +35,7 @@ pub fn write_chains(out: &mut [u8], s: &[u8], order: &[u16], place: &[u16], ends
     requires order { Ordered s.now order.now place.now ends.now }
     ensures { out.new ≡ over (sheet_bytes Level0 (program_of s.now)) out.old }
 {
-    let mask = word_at(s, 4) as u16;
+    let mask = word_at(s, 4);
     put_first(out, byte_at(s, 0), byte_at(s, 1), byte_at(s, 2), 0, mask);
     let [a, b, c, d] = *ends;
     put_counts(out, a, b - a, c - b, d - c);

@@ -138,8 +138,8 @@ examples = refl
 -- the paper's number of each, and the record that it names
 every : List Refusal
 every =
-    TruncatedHeader ∷ BadHeader ∷ BadLength ∷ BadRecord 91 ∷ BadLinkage 92 ∷ ChainTooLong 93 ∷ BadTarget 94 ∷ LockFault 95
-    ∷ ShortBuffer ∷ IllegalMove ∷ ReleaseNotHeld 97 ∷ LockOrder 96 ∷ []
+    TruncatedHeader ∷ BadHeader ∷ BadLength ∷ BadRecord 91 ∷ BadLinkage 92 ∷ ChainTooLong 93 ∷ BadTarget 94
+    ∷ LockFault 95 ∷ ShortBuffer ∷ IllegalMove ∷ ReleaseNotHeld 97 ∷ LockOrder 96 ∷ []
 
 numbers_hold : map number_of every ≡ 1 ∷ 2 ∷ 3 ∷ 4 ∷ 5 ∷ 6 ∷ 7 ∷ 8 ∷ 9 ∷ 10 ∷ 11 ∷ 12 ∷ []
 unfolding every

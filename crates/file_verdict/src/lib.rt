@@ -1,4 +1,4 @@
-// The answer to a kernel file, its number, and the record that it names.
+// The refusals of the paper's table, their numbers and records, and the verdict on a kernel file.
 #![tactic(auto)]
 
 pub mod number;

@@ -21,6 +21,11 @@ pub enum Refusal {
 
 impl fmt::Display for Refusal {
     fn fmt<W: fmt::Write>(&self, f: &mut fmt::Formatter<W>) -> fmt::Result {
-        write!(f, "refused {} record {}", number_of(*self), record_of(*self))
+        write!(
+            f,
+            "refused {} record {}",
+            number_of(*self),
+            record_of(*self)
+        )
     }
 }

@@ -5,13 +5,13 @@ ghost use Rattle.machine_course.specs.Stands.{Started, RefusedStart, Stands};
 
 use crate::course::{Course, Rows, blocked, underway};
 use crate::start::start;
+use file_format::fields::word_at;
 use file_verdict::number::number_of;
 use file_verdict::refusal::Refusal;
 use machine_spec::Machine;
 use machine_start::extent::{NO_EXTENT, extent_of};
 use machine_start::program::program_of;
 use machine_state::state::State;
-use sheet_rows::read::word_at;
 
 // A refused file's start is that of its header where this is valid.
 fn start_refused(file: &[u8], refusal: Refusal, state: &mut State)
@@ -47,7 +47,7 @@ pub fn begin(machine: Machine, file: &[u8], rows: &mut Rows, state: &mut State) 
         }
         Ok(_) => {
             start_rows(rows, state);
-            underway(machine, word_at(file, 4), rows)
+            underway(machine, u32::from(word_at(file, 4)), rows)
         }
     }
 }

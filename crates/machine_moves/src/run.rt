@@ -9,7 +9,7 @@ use machine_course::finish::{Ran, finish};
 use machine_course::moves::Move;
 use machine_spec::Machine;
 
-// The answer is the definition's: number, record, state, finished, done, waited.
+// The answer is the definition's: refusal, state, finished, done, waited.
 pub fn run(machine: Machine, file: &[u8], moves: &[Move]) -> Ran
     ensures { Answers result (answer_by machine file.now (moves_of moves.now)) }
 {

@@ -10,7 +10,8 @@ use Rattle.file_verdict.specs.Verdict.{accepted, verdict}
 use Rattle.machine_spec.specs.declared.Machine.{Machine}
 use Rattle.machine_spec.specs.Schedule.{Move, limit, legal}
 use Rattle.machine_spec.specs.State.{Lane, Run, Outcome, ran, refused, idle, lane_at}
-use Rattle.machine_spec.specs.Run.{number_in, Answer, answer_of, start_of, program_for, run_on, run_by, counts_as, shown}
+use Rattle.machine_spec.specs.Run.{number_in, Answer, answer_of, start_of, program_for, run_on, run_by}
+use Rattle.machine_spec.specs.Run.{counts_as, shown}
 use Rattle.machine_spec.specs.Shape.{Shaped, Within}
 use Rattle.claims.specs.Claims.{Claims}
 use Rattle.claims.proofs.Theorem.{claims}

@@ -1,7 +1,7 @@
 // How many lanes, locations and locks there are, from the header of a file or of rows.
 ghost use Rattle.std.specs.Prelude.{◌≡◌, get_or};
 
-use sheet_rows::read::byte_at;
+use file_format::fields::byte_at;
 
 #[derive(Clone, Copy)]
 pub struct Extent {

@@ -1,15 +1,14 @@
 -- What an answer tells of the file, where the buffer takes the bytes of every kernel, and how small a refusal is.
 use Prim.Native.Nat.{ℕ, ◌+◌, ◌*◌, ◌≤◌}
-use mathlib.Core.Path.{◌≡◌, refl, sym, ap, ap₂, ◌∙◌, subst}
+use mathlib.Core.Path.{◌≡◌, refl, sym, ap, ◌∙◌, subst}
 use mathlib.Core.Bool.{Bool, true, false, cond}
 use mathlib.Core.List.{List}
-use mathlib.Core.Logic.{◌≢◌}
 use native.Mathlib.Omega.{arith}
-use lib.Dec.{eqb, ltb}
+use lib.Dec.{ltb}
 use lib.ListN.{length}
-use Rattle.file_format.specs.Accepted.{Program, program_of}
+use Rattle.file_format.specs.Accepted.{Program}
 use Rattle.file_format.specs.Lawful.{Lawful}
-use Rattle.file_verdict.specs.Verdict.{Verdict, refused, accepted, verdict, refusal_of, number_of, record_of}
+use Rattle.file_verdict.specs.Verdict.{Verdict, refused, accepted, verdict, number_of, record_of}
 use Rattle.file_verdict.proofs.Laws.Verdict.{refused_as}
 use Rattle.file_wellformed.proofs.Lawful.{accepted_lawful}
 use Rattle.file_wellformed.proofs.Named.{number_small, record_named}

@@ -8,6 +8,7 @@ use barrier_pass::table::Tables;
 use sheet_rows::parts::Parts;
 
 // Writes the plan of the lane of n rows that begin at byte `first`, from `place` of `plan` on; the number of its end.
+// A function of its own, so that the proof of the loop below has what the slices keep from one contract.
 fn plan_at(
     tables: &Tables,
     rows: &[u8],

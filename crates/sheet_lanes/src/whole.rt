@@ -12,7 +12,8 @@ use sheet_rows::parts::Parts;
 
 impl Encoder {
     // Writes the lane of n rows that begin at byte `first` by its plan, which begins at `place`, from `at` on; the
-    // position behind it.
+    // position behind it. A function of its own, so that the proof of the loop below has what the slices keep from
+    // one contract.
     fn put_lane(
         self,
         out: &mut [u8],

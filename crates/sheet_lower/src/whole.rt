@@ -7,13 +7,13 @@ ghost use Rattle.sheet_format.specs.Bytes.{level_number, mask_at, write_into};
 ghost use Rattle.sheet_lower.specs.Sheet.{sheet_of};
 ghost use Rattle.sheet_lower.specs.Chained.{ChainsOf};
 
+use file_format::fields::{byte_at, word_at};
 use sheet_format::Level;
 use sheet_lanes::plan::plan_lanes;
 use sheet_lanes::starts::begin_in;
 use sheet_lanes::whole::write_lanes;
 use sheet_rows::parts::parts_of;
 use sheet_rows::put::{put_counts, put_first};
-use sheet_rows::read::{byte_at, word_at};
 
 // The level in a sheet's header.
 fn level_number(level: Level) -> u8
@@ -47,7 +47,7 @@ pub fn write_sheet(level: Level, out: &mut [u8], s: &[u8], rows: &[u8], plan: &m
     ensures size { result ≡ length (sheet_of level s.now) }
     ensures wrote { out.new ≡ (write_into (sheet_of level s.now) out.old).1 }
 {
-    let mask = word_at(s, 4) as u16;
+    let mask = word_at(s, 4);
     let parts = parts_of(rows);
     let ends = plan_lanes(rows, parts, mask, plan);
     let count = parts.count;

@@ -3,7 +3,7 @@ ghost use Rattle.std.specs.Prelude.{◌≡◌, ◌<◌, get_or};
 ghost use Rattle.sheet_format.specs.Read.{counts};
 ghost use Rattle.sheet_rows.specs.Rows.{parts_in};
 
-use crate::read::{byte_at, word_at};
+use file_format::fields::{byte_at, word_at};
 
 // Of each lane the byte at which its rows begin, and how many they are: none past the header's lanes.
 #[derive(Clone, Copy, PartialEq, Eq)]
@@ -17,7 +17,7 @@ fn count_of(sheet: &[u8], t: u8) -> usize
     ensures { (result ≡ get_or (counts sheet.now) t 0) × (result < 65536) }
 {
     if t < byte_at(sheet, 0) {
-        word_at(sheet, 8 + 2 * usize::from(t)) as usize
+        usize::from(word_at(sheet, 8 + 2 * usize::from(t)))
     } else {
         0
     }

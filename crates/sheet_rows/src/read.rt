@@ -1,9 +1,9 @@
-// The fields of a sheet, read from its bytes. Past the end every byte reads as 0.
-ghost use Rattle.std.specs.Prelude.{◌≡◌, ◌+◌, ◌<◌, ◌≤◌, length, drop};
-ghost use Rattle.file_format.specs.Fields.{byte, word, quad};
+// The instructions of a sheet, read from its bytes. Past the end every byte reads as 0.
+ghost use Rattle.std.specs.Prelude.{◌≡◌, ◌+◌, ◌≤◌, length, drop};
 ghost use Rattle.sheet_rows.specs.Rows.{row_in};
 
 use crate::number::fits;
+use file_format::fields::{byte_at, quad_at};
 
 // The fields of an instruction: its code, a, b, and the constant or the target's position.
 #[derive(Clone, Copy, PartialEq, Eq)]
@@ -12,37 +12,6 @@ pub struct Row {
     pub a: u8,
     pub b: u8,
     pub word: u32,
-}
-
-pub fn byte_at(s: &[u8], i: usize) -> u8
-    ensures { result ≡ byte s.now i }
-{
-    match s.get(i) {
-        Some(x) => *x,
-        None => 0,
-    }
-}
-
-// The 16-bit field at i.
-pub fn word_at(s: &[u8], i: usize) -> u32
-    ensures { (result ≡ word s.now i) × (result < 65536) }
-{
-    if i < s.len() {
-        u32::from(byte_at(s, i)) + 256 * u32::from(byte_at(s, i + 1))
-    } else {
-        0
-    }
-}
-
-// The 32-bit field at i.
-pub fn quad_at(s: &[u8], i: usize) -> u32
-    ensures { result ≡ quad s.now i }
-{
-    if i < s.len() {
-        word_at(s, i) + 65536 * word_at(s, i + 2)
-    } else {
-        0
-    }
 }
 
 // The instruction whose bytes begin at `at`, all eight of them.

@@ -8,11 +8,11 @@ ghost use Rattle.text_listing.specs.Line.{refusal_line};
 ghost use Rattle.text_listing.specs.Listing.{printed};
 ghost use Rattle.text_kernel.specs.Printed.{printed_pages};
 
+use file_format::fields::word_at;
 use file_verdict::number::{number_of, record_of};
 use file_verdict::refusal::Refusal;
 use sheet_format::WriteResult;
 use sheet_lower::lower::lower2;
-use sheet_rows::read::word_at;
 use text_listing::refusal::list_refusal;
 use text_listing::whole::list_sheet;
 use text_page::write::write_page;
@@ -24,7 +24,7 @@ pub fn print_kernel(file: &[u8], out: &mut [u8]) -> WriteResult
     let mut sheet = [0u8; 4112];
     match lower2(file, &mut sheet) {
         Err(refusal) => list_refused(refusal, out),
-        Ok(_) => list_sheet(&sheet, word_at(file, 4) as u16, out),
+        Ok(_) => list_sheet(&sheet, word_at(file, 4), out),
     }
 }
 

@@ -5,7 +5,7 @@ ghost use Rattle.sheet_format.specs.Put.{Puts};
 ghost use Rattle.text_listing.specs.Line.{first_line};
 ghost use Rattle.text_listing.specs.Ones.{ones};
 
-use sheet_rows::read::byte_at;
+use file_format::fields::byte_at;
 use text_put::put::put;
 use text_put::words::put_one;
 

@@ -9,7 +9,7 @@ use crate::line::put_line;
 use crate::measured::list;
 use crate::title::put_first;
 use sheet_format::WriteResult;
-use sheet_rows::read::{byte_at, word_at};
+use file_format::fields::{byte_at, word_at};
 
 // The lines of a lane of `count` instructions, whose bytes begin at `from`.
 fn put_lane(out: &mut [u8], start: usize, lane: u32, count: u32, sheet: &[u8], from: usize) -> usize
@@ -44,7 +44,7 @@ fn put_lanes(out: &mut [u8], start: usize, sheet: &[u8]) -> usize
     let mut at = start;
     let mut from: usize = 16;
     for t in 0..lanes {
-        let count = word_at(sheet, 8 + 2 * (t as usize));
+        let count = u32::from(word_at(sheet, 8 + 2 * (t as usize)));
         at = put_lane(out, at, t, count, sheet, from);
         from += 8 * (count as usize);
     }

@@ -4,7 +4,7 @@ ghost use Rattle.sheet_format.specs.Put.{Puts};
 ghost use Rattle.machine_record.specs.Fields.{entry_in};
 ghost use Rattle.text_run.specs.Lanes.{entry_text};
 
-use sheet_rows::read::{byte_at, quad_at};
+use file_format::fields::{byte_at, quad_at};
 use text_put::words::put_one;
 
 // The entry whose bytes begin at `from`: a store, which is kind 1, or the release of a lock.

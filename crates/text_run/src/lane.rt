@@ -8,7 +8,7 @@ ghost use Rattle.text_run.specs.Lanes.{lane_line, mark_text, pending_line, lane_
 use crate::entry::put_entry;
 use crate::numbers::{Width, put_numbers_line};
 use crate::places::{entry_from, lane_from};
-use sheet_rows::read::{byte_at, word_at};
+use file_format::fields::{byte_at, word_at};
 use text_put::put::{put, put_text};
 use text_put::words::put_one;
 
@@ -20,7 +20,7 @@ fn put_lane_line(out: &mut [u8], at: usize, s: &[u8], t: u8) -> usize
 {
     let i = put_one(out, at, b"lane ", t as u32);
     let from = lane_from(t);
-    let j = put_one(out, i, b" position ", word_at(s, from));
+    let j = put_one(out, i, b" position ", u32::from(word_at(s, from)));
     put_numbers_line(out, j, b" registers", s, from + 4, Width::Quad, 8)
 }
 
@@ -38,8 +38,8 @@ fn put_mark(out: &mut [u8], at: usize, s: &[u8], t: u8, from: usize) -> usize
 }
 
 // The entry in place i of its pending list, and its mark.
-fn put_pending(out: &mut [u8], at: usize, s: &[u8], t: u8, i: u32) -> usize
-    requires { (at + 88 ≤ 2 ^ 62) × (i < 2 ^ 16) }
+fn put_pending(out: &mut [u8], at: usize, s: &[u8], t: u8, i: u16) -> usize
+    requires { at + 88 ≤ 2 ^ 62 }
     ensures { (result ≤ at + 88)
         × Puts out.old at (pending_line (fields_in s.now) t i) out.new result }
 {

@@ -9,6 +9,7 @@ ghost use Rattle.text_run.specs.Moves.{loaded_text, carried_text, done_text, out
 use crate::entry::put_entry;
 use crate::names::put_named;
 use crate::places::{entry_from, next_row, register_at};
+use file_format::fields::quad_at;
 use machine_spec::Machine;
 use sheet_format::code::Code;
 use sheet_rows::read::{Row, quad_at, row_at};

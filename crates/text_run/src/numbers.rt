@@ -3,7 +3,7 @@ ghost use Rattle.std.specs.Prelude.{◌≡◌, ◌+◌, ◌*◌, ◌≤◌, ◌<
 ghost use Rattle.sheet_format.specs.Put.{Puts};
 ghost use Rattle.text_run.specs.Lanes.{number_at, numbers_line};
 
-use sheet_rows::read::{byte_at, quad_at};
+use file_format::fields::{byte_at, quad_at};
 use text_put::put::{put, put_text};
 use text_put::words::put_one;
 

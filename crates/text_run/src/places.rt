@@ -5,8 +5,8 @@ ghost use Rattle.machine_record.specs.Places.{lane_from, entry_from};
 ghost use Rattle.machine_record.specs.Fields.{fields_in};
 ghost use Rattle.text_run.specs.Places.{next_row};
 
+use file_format::fields::{quad_at, word_at};
 use sheet_rows::parts::parts_of;
-use sheet_rows::read::{quad_at, word_at};
 
 // The byte of a state record at which lane t begins.
 pub fn lane_from(t: u8) -> usize
@@ -41,5 +41,5 @@ fn first_row(rows: &[u8], t: u8) -> usize
 pub fn next_row(rows: &[u8], before: &[u8], t: u8) -> usize
     ensures { (result ≡ next_row rows.now (fields_in before.now) t) × (result < 2 ^ 32) }
 {
-    first_row(rows, t) + 8 * (word_at(before, lane_from(t)) as usize)
+    first_row(rows, t) + 8 * usize::from(word_at(before, lane_from(t)))
 }

@@ -7,7 +7,7 @@ ghost use Rattle.text_run.specs.States.{counts_line, finished_line, memory_line,
 
 use crate::lane::put_lane;
 use crate::numbers::{Width, put_numbers_line};
-use sheet_rows::read::{byte_at, quad_at};
+use file_format::fields::{byte_at, quad_at};
 use text_put::put::{put, put_text};
 use text_put::words::put_one;
 

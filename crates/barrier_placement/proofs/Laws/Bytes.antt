@@ -1,5 +1,5 @@
 -- Laws of what is due as a number, of the table's cells as numbers, and of where a step lands.
-use Prim.Native.Nat.{ℕ, ◌*◌, ◌/◌, ◌%◌, ◌^◌, ◌<◌, ◌≤◌}
+use Prim.Native.Nat.{ℕ, ◌*◌, ◌^◌, ◌<◌, ◌≤◌}
 use native.Mathlib.Omega.{arith}
 use mathlib.Core.Path.{◌≡◌, refl}
 use mathlib.Core.Bool.{Bool, true, false, cond, beq}
@@ -8,25 +8,13 @@ use lib.Dec.{leb, ltb}
 use borrow.Author.Tests.{leb-true, ltb-true}
 use Rattle.laws.proofs.Bools.{beq_true}
 use Rattle.laws.proofs.Numbers.{values_at}
-use Rattle.barrier_placement.specs.Cookbook.{Class, Barrier, LL, LS, SS, SL, code_of, cell_code}
+use Rattle.barrier_placement.specs.Cookbook.{Class, Barrier}
 use Rattle.barrier_placement.specs.Chain.{Step, Access, Skip, Other}
 use Rattle.barrier_placement.specs.Placed.{bit, bit_of, due_in, set_of, landing}
 use Rattle.barrier_placement.proofs.Laws.Cookbook.{every_class, class_at, every_barrier, barrier_at}
 
 pub bit_small : (b : Barrier) → bit_of b < 4
 bit_small b = ltb-true (bit_of b) 4 (barrier_at (λ a. ltb (bit_of a) 4) refl b)
-
--- the code of a barrier, from 11 up, as a shift
-pub code_small : (o : Option Barrier) → cell_code o < 16
-code_small none = omega arith
-code_small (some b) = ltb-true (code_of b) 16 (barrier_at (λ a. ltb (code_of a) 16) refl b)
-
-pub code_set : (o : Option Barrier) → 1 * 2 ^ cell_code o % 2 ^ 32 / 2 ^ 11 ≡ set_of o
-code_set none = refl
-code_set (some LL) = refl
-code_set (some LS) = refl
-code_set (some SS) = refl
-code_set (some SL) = refl
 
 pub set_small : (o : Option Barrier) → set_of o ≤ 8
 set_small none = omega arith

@@ -1,14 +1,13 @@
 -- Laws of the verdict: what each check that did not refuse leaves.
-use Prim.Native.Nat.{ℕ, ◌+◌, ◌*◌, ◌<◌}
+use Prim.Native.Nat.{ℕ, ◌+◌, ◌*◌}
 use mathlib.Core.Path.{◌≡◌, refl, ap, sym, subst, ◌∙◌}
 use mathlib.Core.List.{List}
 use mathlib.Core.Bool.{Bool, true, false, not, cond}
 use mathlib.Core.Logic.{◌⊎◌, inl, inr}
-use native.Mathlib.Omega.{arith}
 use borrow.Author.Tests.{eq-eqb, ne_eqb, eqb-true, not-false}
 use lib.ListN.{length}
 use lib.Dec.{ltb, eqb}
-use Rattle.std.specs.Prelude.{Result, Ok, Err}
+use Rattle.std.specs.Prelude.{Ok, Err}
 use Rattle.file_verdict.specs.declared.refusal.Refusal.{Refusal}
 use Rattle.file_verdict.specs.declared.refusal.Refusal.TheVariants.{TruncatedHeader, BadHeader}
 use Rattle.file_verdict.specs.declared.refusal.Refusal.TheVariants.{BadLength, BadRecord, BadLinkage}
@@ -22,7 +21,8 @@ use Rattle.file_format.specs.Structured.{Structured}
 use Rattle.file_format.specs.Accepted.{Program, program_of}
 use Rattle.file_format.specs.Held.{lock_fault}
 use Rattle.file_format.specs.Rising.{lock_order}
-use Rattle.file_verdict.specs.Verdict.{Checked, unless, refused_if, fields_then, structure_then, refusal_of, Verdict, refused, accepted}
+use Rattle.file_verdict.specs.Verdict.{Checked, unless, refused_if, fields_then, structure_then, refusal_of}
+use Rattle.file_verdict.specs.Verdict.{Verdict, refused, accepted}
 use Rattle.file_verdict.specs.Verdict.{verdict, verdict_from}
 
 -- a check that names a record, and one that names none

@@ -32,14 +32,20 @@ legal_snoc n k (x ∷ mvs) mv = go (allowed n k x) (legal_snoc n k mvs mv)
     go true e = e
     go false e = refl
 
--- whether there is a refusal
-pub none_is : (o : Option Refusal) → is_some o ≡ false → o ≡ None
+-- whether there is a refusal, by the code's test
+none_is : (o : Option Refusal) → is_some o ≡ false → o ≡ None
 none_is None e = refl
 none_is (Some r) e = absurd cc
 
-pub some_is : (o : Option Refusal) → is_some o ≡ true → o ≡ None → ⊥
+some_is : (o : Option Refusal) → is_some o ≡ true → o ≡ None → ⊥
 some_is None e z = absurd cc
 some_is (Some r) e z = none-some r (sym z)
+
+pub none_by : {o : Option Refusal} {b : Bool} → b ≡ is_some o → b ≡ false → o ≡ None
+none_by {o} is e = none_is o (sym is ∙ e)
+
+pub some_by : {o : Option Refusal} {b : Bool} → b ≡ is_some o → b ≡ true → o ≡ None → ⊥
+some_by {o} is e = some_is o (sym is ∙ e)
 
 module _ (m : Machine) (s : List ℕ) (mvs : List Move) where
   abbrev lets : Program → List Move → Bool

@@ -4,7 +4,6 @@ use mathlib.Core.Path.{◌≡◌, refl, sym, ap, ◌∙◌}
 use mathlib.Core.Bool.{true}
 use mathlib.Core.List.{List, [], ◌∷◌, ◌++◌, map}
 use native.Mathlib.Omega.{arith}
-use borrow.Author.Tests.{ne_eqb}
 use lib.ListN.{length, get_or, length-map, get_or-map}
 use lib.Seq.{sets}
 use Rattle.file_format.specs.Fields.{lane_count, locations, locks, mask, head}
@@ -13,7 +12,7 @@ use Rattle.file_format.specs.Accepted.{Program, program_of, is_volatile, ops_at}
 use Rattle.file_format.proofs.Laws.Lanes.{lane_ops}
 use Rattle.file_format.proofs.Laws.Rules.{four_lanes_lem}
 use Rattle.file_format.proofs.Laws.Stored.{lane_count_lem}
-use Rattle.file_verdict.specs.Verdict.{verdict, accepted, refusal_of, number_of, record_of}
+use Rattle.file_verdict.specs.Verdict.{verdict, accepted, refusal_of}
 use Rattle.file_verdict.proofs.Laws.Verdict.{sound, accepted_as}
 use Rattle.std.specs.Prelude.{Ok, Err}
 use Rattle.file_verdict.specs.declared.refusal.Refusal.{Refusal}

@@ -52,7 +52,8 @@ module _ (text : Program → List ℕ) (s own : List ℕ) where
       let w = short_any text s own p in
       accepted_printed w.0 w.1 p
 
-  pub refused_printed : {r : Refusal} {after : List ℕ} → ¬ r ≡ ShortBuffer → (Err r, after) ≡ answer_by text (verdict s) own
+  pub refused_printed : {r : Refusal} {after : List ℕ} → ¬ r ≡ ShortBuffer
+      → (Err r, after) ≡ answer_by text (verdict s) own
       → (after ≡ own) × (refusal_line (number_of r) (record_of r) ≡ printed_by text (verdict s))
   refused_printed other p =
       let e = refuses_any text s own other p in (

@@ -66,4 +66,5 @@ returns c =
 pub returns-in_err-accept : goal.returns-in_err-accept
 returns-in_err-accept c =
     let p = err_from_is_err_and c.from_residual.result c.from_residual.ensures.1 in
-    rw (p.1, p.2) (sym (refused_by c.args.file.now (sheet_bytes Level0) c.args.out.now (sym c.in_err-accept.ensures.answer)))
+    rw (p.1, p.2)
+    (sym (refused_by c.args.file.now (sheet_bytes Level0) c.args.out.now (sym c.in_err-accept.ensures.answer)))

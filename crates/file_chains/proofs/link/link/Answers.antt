@@ -45,17 +45,20 @@ loop-t-preserved c = (
 
 pub returns-then-k-n : goal.returns-then-k-n
 returns-then-k-n c =
-    let fine = sym (linking_full c.loop-t.invariant.0 (omega arith) (c.if-k-n.true ∙ c.word_at-n.ensures.0)) in
+    let fine =
+    sym (linking_full c.loop-t.invariant.0 (omega arith) (c.if-k-n.true ∙ c.from-n.ensures ∙ c.word_at.ensures.0)) in
     (fine, linked c.loop-t.invariant.0 (omega arith) fine)
 
 pub returns-in-Some : goal.returns-in-Some
 returns-in-Some c =
-    let it = is_named _ c.in-Some.ensures in
-    (it.1, it.0 ∙ ap (lowest _ 1) c.word_at-n.ensures.0 ∙ linking_end c.loop-t.invariant.0 (omega arith))
+    let it = is_named _ c.in-Some.ensures in (
+      it.1,
+      it.0 ∙ ap (lowest _ 1) (c.from-n.ensures ∙ c.word_at.ensures.0) ∙ linking_end c.loop-t.invariant.0 (omega arith),
+    )
 
 pub returns-in-None : goal.returns-in-None
 returns-in-None c =
     let fine =
-    sym (ap (lowest _ 1) c.word_at-n.ensures.0 ∙ linking_end c.loop-t.invariant.0 (omega arith))
+    sym (ap (lowest _ 1) (c.from-n.ensures ∙ c.word_at.ensures.0) ∙ linking_end c.loop-t.invariant.0 (omega arith))
     ∙ none_named _ c.in-None.ensures in
     (fine, linked c.loop-t.invariant.0 (omega arith) fine)

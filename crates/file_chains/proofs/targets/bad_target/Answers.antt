@@ -10,7 +10,7 @@ use Rattle.file_chains.proofs.targets.bad_target.Goals as goal
 
 pub loop-i-init : goal.loop-i-init
 unfolding bad_target
-loop-i-init c = search_start _ 1 c.word_at-n.result ∙ ap (lowest _ 1) c.word_at-n.ensures.0
+loop-i-init c = search_start _ 1 c.from-n.result ∙ ap (lowest _ 1) (c.from-n.ensures ∙ c.word_at.ensures.0)
 
 pub strays-requires : goal.strays-requires
 strays-requires c =

@@ -20,28 +20,32 @@ returns-in_err-program_of c =
 
 pub returns-then-not-legal_moves : goal.returns-then-not-legal_moves
 returns-then-not-legal_moves c =
-    illegal_moves c.args.machine (file_accepted c.args.machine c.args.file.now (replicate 4112 0) (omega arith) c.in_ok-program_of.ensures) c.args.moves.now
-    c.args.out.now (omega arith) (λ e. absurd (omega (arith, e))) c.byte_at.ensures c.limit_of.ensures
-    c.legal_moves.ensures c.if-not-legal_moves.true
+    illegal_moves c.args.machine
+    (file_accepted c.args.machine c.args.file.now (replicate 4112 0) (omega arith) c.in_ok-program_of.ensures)
+    c.args.moves.now
+    c.args.out.now (omega arith) (λ e. absurd (omega (arith, e)))
+    (c.from.ensures ∙ c.byte_at.ensures) c.limit_of.ensures c.legal_moves.ensures c.if-not-legal_moves.true
 
 pub run_rows-requires-clause-start : goal.run_rows-requires-clause-start
 run_rows-requires-clause-start c =
-    let t : Takes c.args.machine c.word_at.result c.program_of.new.rows c.args.moves.now c.args.file.now
+    let t : Takes c.args.machine c.from-2.result c.program_of.new.rows c.args.moves.now c.args.file.now
     c.args.out.now =
     takes_place c.args.machine
     (file_accepted c.args.machine c.args.file.now (replicate 4112 0) (omega arith) c.in_ok-program_of.ensures)
-    c.args.moves.now c.args.out.now (omega arith) (λ e. absurd (omega (arith, e))) c.byte_at.ensures c.limit_of.ensures
-    c.legal_moves.ensures c.if-not-legal_moves.false c.word_at.ensures.0 (omega arith)
+    c.args.moves.now c.args.out.now (omega arith) (λ e. absurd (omega (arith, e)))
+    (c.from.ensures ∙ c.byte_at.ensures) c.limit_of.ensures c.legal_moves.ensures c.if-not-legal_moves.false
+    (c.from-2.ensures ∙ c.word_at.ensures.0) (omega arith)
     in
     record { file = c.args.file.now; kernel = t.kernel; program = t.program }
 
 pub returns : goal.returns
 returns c =
-    let t : Takes c.args.machine c.word_at.result c.program_of.new.rows c.args.moves.now c.args.file.now
+    let t : Takes c.args.machine c.from-2.result c.program_of.new.rows c.args.moves.now c.args.file.now
     c.args.out.now =
     takes_place c.args.machine
     (file_accepted c.args.machine c.args.file.now (replicate 4112 0) (omega arith) c.in_ok-program_of.ensures)
-    c.args.moves.now c.args.out.now (omega arith) (λ e. absurd (omega (arith, e))) c.byte_at.ensures c.limit_of.ensures
-    c.legal_moves.ensures c.if-not-legal_moves.false c.word_at.ensures.0 (omega arith)
+    c.args.moves.now c.args.out.now (omega arith) (λ e. absurd (omega (arith, e)))
+    (c.from.ensures ∙ c.byte_at.ensures) c.limit_of.ensures c.legal_moves.ensures c.if-not-legal_moves.false
+    (c.from-2.ensures ∙ c.word_at.ensures.0) (omega arith)
     in
     c.run_rows.ensures _ _ t.program ∙ t.answers

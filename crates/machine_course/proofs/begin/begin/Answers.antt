@@ -15,5 +15,5 @@ returns-in-Ok c =
     let b = file_accepted c.args.machine c.args.file.now c.args.rows.now c.requires.0
     c.in-Ok.ensures in
     begins_accepted c.args.machine b c.requires.0
-    c.word_at.ensures.0 c.underway.ensures
+    (c.from.ensures ∙ c.word_at.ensures.0) c.underway.ensures
     c.start_rows.ensures

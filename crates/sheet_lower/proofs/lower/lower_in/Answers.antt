@@ -28,7 +28,8 @@ structured s v = (sound s (accepted_as s (program_of s) v).0).0
 pub returns-in_err-linked_refusal : goal.returns-in_err-linked_refusal
 returns-in_err-linked_refusal c =
     let p = err_from_is_err_and c.from_residual.result c.from_residual.ensures.1 in
-    let answer = c.in_err-linked_refusal.ensures.answer ∙ sym (fields_kept c.args.file.now c.requires.fields) in record {
+    let answer = c.in_err-linked_refusal.ensures.answer ∙ sym (fields_kept c.args.file.now c.requires.fields) in
+    record {
       answer = rw (p.1, p.2) (sym (refused_by c.args.file.now (sheet_bytes c.args.level) c.args.out.now (sym answer)));
       order = λ v. absurd (not_accepted c.args.file.now answer v);
     }

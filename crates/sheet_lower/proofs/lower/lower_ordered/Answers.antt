@@ -1,6 +1,6 @@
 -- `sheet_lower::lower::lower_ordered` meets its contract: the buffers have room for the records of any file.
 use native.Mathlib.Omega.{arith}
-use mathlib.Core.Path.{refl, sym}
+use mathlib.Core.Path.{sym}
 use Rattle.std.proofs.lemmas.Result.{err_from_is_err_and}
 use Rattle.file_accept.proofs.Laws.Checks.{fields_passed}
 use Rattle.file_format.proofs.Laws.Rules.{few_records}

@@ -18,12 +18,12 @@ pub loop-t-preserved : goal.loop-t-preserved
 loop-t-preserved c =
     let more : c.loop-t.t < length (counts c.args.sheet.now) = omega (arith, c.lanes_of-lanes.ensures.0) in (
       puts_length c.put_lane-at.ensures.1 ∙ c.loop-t.invariant.0,
-      from_next c.args.sheet.now c.loop-t.t c.loop-t.from c.word_at-count.result more c.loop-t.invariant.1
-          c.word_at-count.ensures.0,
-      omega (arith, c.put_lane-at.ensures.0, c.loop-t.invariant.2, c.word_at-count.ensures.1),
-      omega (arith, c.loop-t.invariant.3, c.word_at-count.ensures.1),
-      puts_as (lanes_next c.args.sheet.now c.loop-t.t c.loop-t.from c.word_at-count.result more c.loop-t.invariant.1
-          c.word_at-count.ensures.0)
+      from_next c.args.sheet.now c.loop-t.t c.loop-t.from c.from-count.result more c.loop-t.invariant.1
+          (c.from-count.ensures ∙ c.word_at.ensures.0),
+      omega (arith, c.put_lane-at.ensures.0, c.loop-t.invariant.2, c.from-count.ensures, c.word_at.ensures.1),
+      omega (arith, c.loop-t.invariant.3, c.from-count.ensures, c.word_at.ensures.1),
+      puts_as (lanes_next c.args.sheet.now c.loop-t.t c.loop-t.from c.from-count.result more c.loop-t.invariant.1
+          (c.from-count.ensures ∙ c.word_at.ensures.0))
           (puts_on c.loop-t.invariant.4 c.put_lane-at.ensures.1),
     )
 

@@ -14,16 +14,8 @@ pub loop-i-init : goal.loop-i-init
 loop-i-init c = (omega arith, turn_none _)
 
 pub put_pending-at-requires : goal.put_pending-at-requires
-put_pending-at-requires c = (
-  omega (
-    arith,
-    c.requires,
-    c.put_lane_line-at.ensures.0,
-    c.loop-i.invariant.0,
-    c.word_at-count.ensures.1,
-  ),
-  omega (arith, c.word_at-count.ensures.1),
-)
+put_pending-at-requires c =
+    omega (arith, c.requires, c.put_lane_line-at.ensures.0, c.loop-i.invariant.0, c.word_at-count.ensures.1)
 
 pub loop-i-preserved : goal.loop-i-preserved
 loop-i-preserved c = (

@@ -16,7 +16,8 @@ returns c =
     let text =
     ap₂ (λ p k. named lane_start c.args.t ++ named position_word p
     ++ numbers_line registers_word (number_at c.args.s.now (k + 4) Quad) 8)
-    (c.word_at.ensures.0 ∙ ap (word c.args.s.now) c.lane_from-from.ensures.0) c.lane_from-from.ensures.0 in (
+    (c.from.ensures ∙ c.word_at.ensures.0 ∙ ap (word c.args.s.now) c.lane_from-from.ensures.0)
+    c.lane_from-from.ensures.0 in (
       omega (arith, c.put_one-i.ensures.0, c.put_one-j.ensures.0, c.put_numbers_line.ensures.0),
       puts_as text
           (puts_on (puts_on c.put_one-i.ensures.1 c.put_one-j.ensures.1) c.put_numbers_line.ensures.1),

@@ -7,6 +7,6 @@ use Rattle.text_run.proofs.places.next_row.Goals as goal
 
 pub returns : goal.returns
 returns c =
-    let e : c.word_at.result ≡ (fields_in c.args.before.now).position c.args.t =
-    c.word_at.ensures.0 ∙ ap (word c.args.before.now) c.lane_from.ensures.0 in
-    (omega (arith, e, c.first_row.ensures.0), omega (arith, c.first_row.ensures.1, c.word_at.ensures.1))
+    let e : c.from.result ≡ (fields_in c.args.before.now).position c.args.t =
+    c.from.ensures ∙ c.word_at.ensures.0 ∙ ap (word c.args.before.now) c.lane_from.ensures.0 in
+    (omega (arith, e, c.first_row.ensures.0), omega (arith, c.first_row.ensures.1, c.from.ensures, c.word_at.ensures.1))
