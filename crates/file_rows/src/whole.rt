@@ -11,8 +11,8 @@ ghost use Rattle.sheet_format.specs.Put.{in_turn};
 ghost use Rattle.file_rows.specs.Chains.{chain_at};
 
 use crate::chain::write_chain;
-use sheet_rows::put::{put_counts, put_first};
 use file_format::fields::{byte_at, word_at};
+use sheet_rows::put::{put_counts, put_first};
 
 // Writes the four lanes behind the header.
 fn write_lanes(out: &mut [u8], s: &[u8], order: &[u16], place: &[u16], ends: &[usize; 4])

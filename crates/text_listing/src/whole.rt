@@ -8,8 +8,8 @@ ghost use Rattle.sheet_format.specs.Bytes.{write_into};
 use crate::line::put_line;
 use crate::measured::list;
 use crate::title::put_first;
-use sheet_format::WriteResult;
 use file_format::fields::{byte_at, word_at};
+use sheet_format::WriteResult;
 
 // The lines of a lane of `count` instructions, whose bytes begin at `from`.
 fn put_lane(out: &mut [u8], start: usize, lane: u32, count: u32, sheet: &[u8], from: usize) -> usize
