@@ -65,10 +65,10 @@ impl Lane {
         self.len += 1;
     }
 
-    // The entry at an index leaves the pending list.
-    pub fn commit(&mut self, index: usize)
-        requires { index < length (lane_in self.old).pending }
-        ensures { lane_in self.new ≡ with_pending (lane_in self.old) (without index (lane_in self.old).pending) }
+    // The entry at an index leaves the pending list. By value: through a reference the cells are copied once more.
+    pub fn commit(mut self, index: usize) -> Lane
+        requires { index < length (lane_in self).pending }
+        ensures { lane_in result ≡ with_pending (lane_in self) (without index (lane_in self).pending) }
     {
         let last = self.count() - 1;
         let mut c = self.cells;
@@ -80,6 +80,7 @@ impl Lane {
         self.cells = c;
         self.values = v;
         self.len = last as u32;
+        self
     }
 
     // The newest pending value for a location, else `otherwise`.

@@ -58,8 +58,7 @@ pub fn commit(
         return Moved::Waited;
     }
     // the list is taken before anything is written
-    let mut rest = take(state, t);
-    rest.commit(index);
+    let rest = take(state, t).commit(index);
     settle(
         word_at(state, t, CELLS, index),
         word_at(state, t, VALUES, index),

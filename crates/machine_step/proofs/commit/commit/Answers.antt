@@ -29,8 +29,8 @@ returns c =
     (ap (freed (state_in c.args.state.now).locks) entry)
     c.settle.ensures in
     let rest : Lane → List Entry = λ l. without c.args.index (lane_in l).pending in
-    let left = ap (λ l. l.pending) c.commit.ensures
-    ∙ ap rest c.take-rest.ensures in
+    let left = ap (λ l. l.pending) c.commit-rest.ensures
+    ∙ ap rest c.take.ensures in
     let listed = became (ap₂ with_pending (same_lane settled c.requires.lane) left)
     c.put_list.ensures in
     commit_does c.args.machine _ c.args.state.now c.args.t c.args.index _ _

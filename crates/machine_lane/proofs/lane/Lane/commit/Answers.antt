@@ -27,7 +27,7 @@ loop-i-preserved c =
 
 pub returns : goal.returns
 returns c =
-    let es = entries_of c.args.self.now.cells c.args.self.now.values in
+    let es = entries_of c.args.self.cells c.args.self.values in
     let last = c.count-last.result - 1 in
     let h : c.args.index ≤ last = omega arith in
     let at_end : c.loop-i.i ≡ last = omega arith in
@@ -35,7 +35,7 @@ returns c =
     omega (arith, entries_length 64 c.loop-i.c c.loop-i.v c.loop-i.invariant.cells c.loop-i.invariant.values) in
     let kept : take last (entries_of c.loop-i.c c.loop-i.v) ≡ without c.args.index (take (suc last) es) =
     shifted _ es c.args.index last inside h (rw at_end at c.loop-i.invariant.moved) in
-    let whole : suc last ≡ length (take c.args.self.now.len es) = omega arith in
-    let rest : take (suc last) es ≡ take c.args.self.now.len es =
-    ap (λ n. take n es) whole ∙ take_length_take c.args.self.now.len es in
+    let whole : suc last ≡ length (take c.args.self.len es) = omega arith in
+    let rest : take (suc last) es ≡ take c.args.self.len es =
+    ap (λ n. take n es) whole ∙ take_length_take c.args.self.len es in
     lane_eq refl refl refl (kept ∙ ap (without c.args.index) rest)
