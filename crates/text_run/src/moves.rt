@@ -12,7 +12,7 @@ use crate::places::{entry_from, next_row, register_at};
 use file_format::fields::quad_at;
 use machine_spec::Machine;
 use sheet_format::code::Code;
-use sheet_rows::read::{Row, quad_at, row_at};
+use sheet_rows::read::{Row, row_at};
 use text_put::put::{put, put_text};
 use text_put::words::{put_decimal, put_one};
 
