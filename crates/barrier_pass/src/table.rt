@@ -49,7 +49,7 @@ fn row(c: Class) -> u32
 }
 
 // By operation code, at a plain location and then at a volatile one.
-fn known_table() -> [u32; 16]
+pub fn known_table() -> [u32; 16]
     ensures { result ≡ known_table }
 {
     let none = 16;
@@ -64,7 +64,7 @@ fn known_table() -> [u32; 16]
 
 // By a plan's set of barriers: 32 times the instructions that an operation makes behind it at level 1, 8,192 times
 // those at level 2 and 2,097,152 times those at level 3.
-fn width_table() -> [u32; 32]
+pub fn width_table() -> [u32; 32]
     ensures { Widths result }
 {
     [

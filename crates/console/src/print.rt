@@ -1,7 +1,6 @@
 // Standard output. A text that cannot be written is an error.
 
 use crate::input::read_full;
-use file_verdict::refusal::Refusal;
 use sheet_format::WriteResult;
 use std::io;
 use std::io::Read;
@@ -22,8 +21,14 @@ pub fn say_number(rt: &impl Print, n: usize) -> io::Result<()> {
     rt.print(n)
 }
 
-pub fn say_refusal(rt: &impl Print, refusal: Refusal) -> io::Result<()> {
-    println!(rt; "{refusal}")
+// The line of a refusal, of whatever number and record. It goes out word by word: where standard output takes no more,
+// the words before stand.
+pub fn say_refusal(rt: &impl Print, number: usize, rec: usize) -> io::Result<()> {
+    say(rt, b"refused ")?;
+    say_number(rt, number)?;
+    say(rt, b" record ")?;
+    say_number(rt, rec)?;
+    say(rt, b"\n")
 }
 
 pub fn say_unread(rt: &impl Print, name: &[u8]) -> io::Result<()> {

@@ -4,9 +4,17 @@ ghost use Rattle.io.specs.Counts.{IsPrefixLen};
 ghost use Rattle.text_schedule.specs.Text.{moves_of};
 
 use crate::files::read_named;
+use crate::print::{say, say_number};
 use std::io;
 use std::rt::{Env, Files};
 use text_schedule::whole::{ScheduleError, read_schedule};
+
+// Word by word: where standard output takes no more, the words before stand.
+fn say_malformed(rt: &impl Print, line: usize) -> io::Result<()> {
+    say(rt, b"schedule line ")?;
+    say_number(rt, line)?;
+    say(rt, b" is not a move\n")
+}
 
 // The moves of a text, two bytes each; if it is no schedule, that is said. An error is of standard output alone.
 fn read_text(rt: &impl Print, text: &[u8], moves: &mut [u8]) -> io::Result<Option<usize>>
@@ -16,12 +24,11 @@ fn read_text(rt: &impl Print, text: &[u8], moves: &mut [u8]) -> io::Result<Optio
     ensures err { OnErr result (moves.new ≡ moves.old) }
 {
     match read_schedule(text, moves) {
-        Ok(size) => Ok(Some(size)),
-        Err(error) => {
-            rt.println(error)?;
-            Ok(None)
-        }
+        Ok(size) => return Ok(Some(size)),
+        Err(ScheduleError::Malformed(line)) => say_malformed(rt, line)?,
+        Err(ScheduleError::TooLong) => rt.println(ScheduleError::TooLong)?,
     }
+    Ok(None)
 }
 
 // The moves of the schedule that argument i names; if it cannot be read, or is none, that is said. An error is of

@@ -13,10 +13,10 @@ pub fn byte_at(s: &[u8], i: usize) -> u8
 pub fn word_at(s: &[u8], i: usize) -> u16
     ensures { (result ≡ word s.now i) × (result < 65536) }
 {
-    if i < s.len() {
-        u16::from(byte_at(s, i)) + 256 * u16::from(byte_at(s, i + 1))
+    if i < s.len().saturating_sub(1) {
+        u16::from(s[i]) + 256 * u16::from(s[i + 1])
     } else {
-        0
+        u16::from(byte_at(s, i))
     }
 }
 

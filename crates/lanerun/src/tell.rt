@@ -8,6 +8,7 @@ ghost use Rattle.machine_course.specs.Stands.{Stands, Judged, answer_by};
 ghost use Rattle.text_run.specs.Runs.{Between};
 
 use console::print::{say, say_part, say_refusal};
+use file_verdict::number;
 use machine_course::begin::begin;
 use machine_course::course::{Course, Rows, no_rows, no_state};
 use machine_course::fold::fold_move;
@@ -33,7 +34,7 @@ pub(crate) fn run_and_tell(
             say_part(rt, &end, size)?;
             say(rt, b"ran\n")
         }
-        Err(refusal) => say_refusal(rt, refusal),
+        Err(refusal) => say_refusal(rt, number::number_of(refusal), number::record_of(refusal)),
     }
 }
 

@@ -1,6 +1,6 @@
 // What C is given of an answer.
-ghost use Rattle.std.specs.Prelude.{◌≡◌};
-ghost use Rattle.lanes_answers.specs.Interface.{Small, packed_answer};
+ghost use Rattle.std.specs.Prelude.{◌≡◌, ◌<◌, ◌^◌};
+ghost use Rattle.lanes_answers.specs.Interface.{Small, packed, packed_answer};
 
 use file_verdict::number::{number_of, record_of};
 use sheet_format::WriteResult;
@@ -12,6 +12,14 @@ pub fn packed(answer: WriteResult) -> u64
 {
     match answer {
         Ok(n) => n as u64,
-        Err(refusal) => number_of(refusal) as u64 * 4294967296 + record_of(refusal) as u64,
+        Err(refusal) => packed_refusal(number_of(refusal), record_of(refusal)),
     }
+}
+
+// A refusal of whatever number and record.
+pub fn packed_refusal(number: usize, rec: usize) -> u64
+    requires { (number < 2 ^ 32) × (rec < 2 ^ 32) }
+    ensures { result ≡ packed number rec }
+{
+    number as u64 * 4294967296 + rec as u64
 }

@@ -2,7 +2,8 @@
 ghost use Rattle.std.specs.Prelude.{◌≡◌, [], suc, ◌<◌, ◌≤◌, length, get_or};
 ghost use Rattle.std.proofs.Math.Option.{some};
 ghost use Rattle.machine_spec.specs.Entries.{append_entry};
-ghost use Rattle.machine_lane.specs.Lanes.{entry_of, lane_in, placed_at, with_marks, with_pending, with_register};
+ghost use Rattle.machine_lane.specs.Lanes.{Appended, entry_of, lane_in, placed_at};
+ghost use Rattle.machine_lane.specs.Lanes.{with_marks, with_pending, with_register};
 ghost use Rattle.machine_state.specs.States.{HEAD, firsts, word_at, stored_in, lane_of, Lies, Became};
 
 use crate::state::{
@@ -129,13 +130,13 @@ pub fn write_register(t: usize, a: u8, value: u32, next: u32, state: &mut State)
 }
 
 // The lane's newest entry becomes the newest of lane t, which has one fewer.
-fn put_newest(lane: &Lane, t: usize, state: &mut State)
-    requires { Lies state.old t × (lane.now.len ≡ suc (stored_in (get_or state.old t [])).len) × (lane.now.len ≤ 64) }
+fn put_newest(lane: Lane, t: usize, state: &mut State)
+    requires { Lies state.old t × (lane.len ≡ suc (stored_in (get_or state.old t [])).len) × (lane.len ≤ 64) }
     ensures { Became state.old t
         (with_pending (lane_of state.old t)
         (append_entry (lane_of state.old t).pending
-        (some (entry_of (get_or lane.now.cells (stored_in (get_or state.old t [])).len 0)
-        (get_or lane.now.values (stored_in (get_or state.old t [])).len 0)))))
+        (some (entry_of (get_or lane.cells (stored_in (get_or state.old t [])).len 0)
+        (get_or lane.values (stored_in (get_or state.old t [])).len 0)))))
         state.new }
 {
     let n = lane.len as usize - 1;
@@ -147,14 +148,26 @@ fn put_newest(lane: &Lane, t: usize, state: &mut State)
 }
 
 // The lane's pending list becomes that of lane t.
-pub fn put_list(lane: &Lane, t: usize, state: &mut State)
+pub fn put_list(lane: Lane, t: usize, state: &mut State)
     requires { Lies state.old t }
     ensures { Became state.old t
-        (with_pending (lane_of state.old t) (lane_in lane.now).pending) state.new }
+        (with_pending (lane_of state.old t) (lane_in lane).pending) state.new }
 {
-    state[t][CELLS] = lane.cells;
-    state[t][VALUES] = lane.values;
+    let c = lane.cells;
+    state[t][CELLS] = c;
+    let v = lane.values;
+    state[t][VALUES] = v;
     put_word(t, HEAD, LENGTH, lane.len, state);
+}
+
+// The lane with one more pending entry. Lanes go by value from here on: with a lane that is lent, the ways on which a
+// move waits are no longer compiled apart from the others, and a commit that waits takes half as much again (measured).
+fn appended(mut lane: Lane, cell: u32, value: u32) -> Lane
+    requires { length (lane_in lane).pending < 64 }
+    ensures { Appended lane cell value result }
+{
+    lane.append(cell, value);
+    lane
 }
 
 // Lane t, at `next` with one entry more pending.
@@ -165,8 +178,6 @@ pub fn issue(t: usize, cell: u32, value: u32, next: u32, state: &mut State)
         (append_entry (lane_of state.old t).pending (some (entry_of cell value)))) next)
         state.new }
 {
-    let mut lane = take(state, t);
-    lane.append(cell, value);
-    put_newest(&lane, t, state);
+    put_newest(appended(take(state, t), cell, value), t, state);
     go(t, next, state);
 }

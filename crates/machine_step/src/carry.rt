@@ -1,4 +1,7 @@
 // The instruction of a sheet row, carried out by a lane of the borrowed state.
+ghost use Rattle.std.specs.Prelude.{◌≡◌};
+ghost use Rattle.barrier_placement.specs.declared.cookbook.Barrier.{Barrier};
+ghost use Rattle.sheet_format.specs.Code.{barrier_kind};
 ghost use Rattle.sheet_format.specs.Read.{instr_by};
 ghost use Rattle.machine_lane.specs.Lanes.{flags};
 ghost use Rattle.machine_state.specs.Ready.{Ready};
@@ -11,6 +14,18 @@ use barrier_placement::cookbook::Barrier;
 use machine_spec::Machine;
 use machine_state::state::{Moved, State};
 use sheet_format::code::Code;
+
+// The barrier of a kind that is one.
+fn barrier_of(kind: Code) -> Barrier
+    ensures { (b : Barrier) → kind ≡ barrier_kind b → result ≡ b }
+{
+    match kind {
+        Code::LL => Barrier::LL,
+        Code::LS => Barrier::LS,
+        Code::SS => Barrier::SS,
+        _ => Barrier::SL,
+    }
+}
 
 // The instruction of operation code o, with its fields.
 pub fn carry(
@@ -35,9 +50,8 @@ pub fn carry(
         Code::Lock => lock(machine, volatile, b, t, state),
         Code::Unlock => unlock(b, t, state),
         Code::Skip => skip(a, c, t, state),
-        Code::LL => pass(machine, Barrier::LL, t, state),
-        Code::LS => pass(machine, Barrier::LS, t, state),
-        Code::SS => pass(machine, Barrier::SS, t, state),
-        Code::SL => pass(machine, Barrier::SL, t, state),
+        kind @ (Code::LL | Code::LS | Code::SS | Code::SL) => {
+            pass(machine, barrier_of(kind), t, state)
+        }
     }
 }

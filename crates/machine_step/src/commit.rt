@@ -64,7 +64,7 @@ pub fn commit(
         word_at(state, t, VALUES, index),
         state,
     );
-    put_list(&rest, t, state);
+    put_list(rest, t, state);
     shift_marks(t, state);
     Moved::Done
 }

@@ -2,4 +2,5 @@
 pub mod Put
 pub mod Begins
 pub mod Lane
+pub mod Level
 pub mod Rows

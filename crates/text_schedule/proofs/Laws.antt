@@ -1,4 +1,6 @@
 -- Small laws by subject.
+pub mod Place
+pub mod Move
 pub mod Few
 pub mod Lines
 pub mod Read

@@ -5,6 +5,7 @@ use crate::schedules::tell_schedule;
 use console::arguments::argument;
 use console::files::read_named;
 use console::print::{say, say_number, say_refusal};
+use file_verdict::number::{number_of, record_of};
 use sheet_format::WriteResult;
 use sheet_lower::lower::{lower1, lower2, lower3};
 use std::io;
@@ -54,13 +55,13 @@ fn tell_kernel(rt: &impl Print, file: &[u8]) -> io::Result<()> {
             say_size(rt, third)?;
             say(rt, b" bytes\n")
         }
-        Err(refusal) => say_refusal(rt, refusal),
+        Err(refusal) => say_refusal(rt, number_of(refusal), record_of(refusal)),
     }
 }
 
 fn say_size(rt: &impl Print, answer: WriteResult) -> io::Result<()> {
     match answer {
         Ok(size) => say_number(rt, size),
-        Err(refusal) => say_refusal(rt, refusal),
+        Err(refusal) => say_refusal(rt, number_of(refusal), record_of(refusal)),
     }
 }

@@ -5,6 +5,7 @@ use crate::kernels::say_argument;
 use console::arguments::argument;
 use console::print::{say_part, say_refusal};
 use console::schedules::read_moves;
+use file_verdict::number::{number_of, record_of};
 use machine_spec::{Machine, Model};
 use std::io;
 use std::rt::{Env, Files};
@@ -50,6 +51,6 @@ fn tell_run(rt: &impl Print, machine: Machine, file: &[u8], moves: &[u8]) -> io:
     let mut text = [0u8; 65536];
     match tell_end(machine, file, moves, &mut text) {
         Ok(size) => say_part(rt, &text, size),
-        Err(refusal) => say_refusal(rt, refusal),
+        Err(refusal) => say_refusal(rt, number_of(refusal), record_of(refusal)),
     }
 }

@@ -8,13 +8,18 @@ use lib.Dec.{leb, ltb}
 use borrow.Author.Tests.{leb-true, ltb-true}
 use Rattle.laws.proofs.Bools.{beq_true}
 use Rattle.laws.proofs.Numbers.{values_at}
-use Rattle.barrier_placement.specs.Cookbook.{Class, Barrier}
+use Rattle.barrier_placement.specs.Cookbook.{Class, Barrier, code_of, cell_code}
 use Rattle.barrier_placement.specs.Chain.{Step, Access, Skip, Other}
 use Rattle.barrier_placement.specs.Placed.{bit, bit_of, due_in, set_of, landing}
 use Rattle.barrier_placement.proofs.Laws.Cookbook.{every_class, class_at, every_barrier, barrier_at}
 
 pub bit_small : (b : Barrier) → bit_of b < 4
 bit_small b = ltb-true (bit_of b) 4 (barrier_at (λ a. ltb (bit_of a) 4) refl b)
+
+-- the code of a cell, as a shift
+pub code_small : (o : Option Barrier) → cell_code o < 16
+code_small none = omega arith
+code_small (some b) = ltb-true (code_of b) 16 (barrier_at (λ a. ltb (code_of a) 16) refl b)
 
 pub set_small : (o : Option Barrier) → set_of o ≤ 8
 set_small none = omega arith

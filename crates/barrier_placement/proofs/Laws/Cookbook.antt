@@ -1,12 +1,12 @@
 -- Laws of the cookbook table, each by one computed test of every class and every barrier.
-use Prim.Native.Nat.{ℕ}
+use Prim.Native.Nat.{ℕ, ◌≤◌}
 use mathlib.Core.Path.{◌≡◌, refl, sym, ◌∙◌, ap, subst}
 use mathlib.Core.Bool.{Bool, true, ◌&&◌, cond, false≢true}
 use mathlib.Core.List.{[]}
 use mathlib.Core.Option.{Option, none, some}
-use lib.Dec.{eqb}
+use lib.Dec.{eqb, leb}
 use lib.ListN.{get_or}
-use borrow.Author.Tests.{eqb-true, eq-eqb}
+use borrow.Author.Tests.{eqb-true, leb-true, eq-eqb}
 use Rattle.std.specs.Prelude.{Option as Found, None, MatchOption}
 use Rattle.laws.proofs.Bools.{all_four}
 use Rattle.barrier_placement.specs.declared.cookbook.TheConstants.{TABLE}
@@ -79,3 +79,6 @@ table_cell VS PL = refl
 table_cell VS PS = refl
 table_cell VS VL = refl
 table_cell VS VS = refl
+
+pub number_small : (c : Class) → number_of c ≤ 3
+number_small c = leb-true (number_of c) 3 (class_at (λ a. leb (number_of a) 3) refl c)

@@ -1,20 +1,21 @@
 -- What a header and a record that keep their rules have.
 use Prim.Native.Nat.{ℕ, zero, suc, ◌+◌, ◌^◌, ◌≤◌, ◌<◌}
-use mathlib.Core.Path.{◌≡◌, refl, ap₂, ◌∙◌}
-use mathlib.Core.List.{List}
-use mathlib.Core.Bool.{true, not, cond}
-use lib.Dec.{ltb}
-use lib.ListN.{get_or}
+use mathlib.Core.Path.{◌≡◌, refl, ap, ap₂, ◌∙◌}
+use mathlib.Core.List.{List, [], ◌∷◌}
+use mathlib.Core.Bool.{Bool, true, not, cond}
+use lib.Dec.{ltb, leb, eqb}
+use lib.ListN.{length, get_or}
 use native.Mathlib.Omega.{arith}
 use borrow.Author.Tests.{ltb-true, leb-true, le-ltb, not-false}
 use Rattle.laws.proofs.Bools.{cond_by}
 use Rattle.laws.proofs.Lists.{get_d_within}
 use Rattle.laws.proofs.Numbers.{below_four}
 use Rattle.file_format.specs.Fields.{lane_count, locations, locks, mask, record_count, head}
-use Rattle.file_format.specs.Fields.{operation, target, next}
+use Rattle.file_format.specs.Fields.{operation, register_a, operand_b, reserved, constant, target, next}
 use Rattle.file_format.specs.Rules.{head_rule, header_tests, header_rule, record_tests, record_rule, bad_record}
 use Rattle.file_format.specs.Rules.{row_a, row_b, row_constant, row_target, limit_a, limit_b, limit_constant}
 use Rattle.file_format.specs.Rules.{limit_target, Limits}
+use Rattle.file_format.specs.Search.{all}
 use Rattle.file_format.proofs.Laws.Search.{all_at, nothing_found}
 
 module _ (s : List ℕ) (ok : header_rule s ≡ true) where
@@ -104,20 +105,24 @@ module _ (s : List ℕ) (ok : bad_record s ≡ 0) (i : ℕ) (lo : 1 ≤ i) (hi :
 -- ## the limits of an operation
 
 module _ {s : List ℕ} {n : ℕ} {a b constant target : List ℕ} (l : Limits s n a b constant target) where
+  -- there are eight rows
+  pub rows_eight : (length a ≡ 8) × (length b ≡ 8) × (length constant ≡ 8) × (length target ≡ 8)
+  rows_eight = (ap length l.a_row, ap length l.b_row, ap length l.constant_row, ap length l.target_row)
+
   module _ {r : ℕ} (op : ℕ) (e : r ≡ cond (ltb op 8) op 0) where
-    limit_a_lem : get_or a r 0 ≡ limit_a op
+    pub limit_a_lem : get_or a r 0 ≡ limit_a op
     unfolding limit_a
     limit_a_lem = ap₂ (λ x y. get_or x y 0) l.a_row e ∙ get_d_within row_a 8 refl refl op
 
-    limit_b_lem : get_or b r 0 ≡ limit_b (locations s) (locks s) op
+    pub limit_b_lem : get_or b r 0 ≡ limit_b (locations s) (locks s) op
     unfolding limit_b
     limit_b_lem = ap₂ (λ x y. get_or x y 0) l.b_row e ∙ get_d_within (row_b (locations s) (locks s)) 8 refl refl op
 
-    limit_constant_lem : get_or constant r 0 ≡ limit_constant op
+    pub limit_constant_lem : get_or constant r 0 ≡ limit_constant op
     unfolding limit_constant
     limit_constant_lem = ap₂ (λ x y. get_or x y 0) l.constant_row e ∙ get_d_within row_constant 8 refl refl op
 
-    limit_target_lem : get_or target r 0 ≡ limit_target (record_count s) op
+    pub limit_target_lem : get_or target r 0 ≡ limit_target (record_count s) op
     unfolding limit_target
     limit_target_lem =
         ap₂ (λ x y. get_or x y 0) l.target_row e ∙ get_d_within (row_target (record_count s)) 8 refl refl op
@@ -126,3 +131,15 @@ module _ {s : List ℕ} {n : ℕ} {a b constant target : List ℕ} (l : Limits s
     pub limits_at : (get_or a r 0 ≡ limit_a op) × (get_or b r 0 ≡ limit_b (locations s) (locks s) op)
         × (get_or constant r 0 ≡ limit_constant op) × (get_or target r 0 ≡ limit_target (record_count s) op)
     limits_at = (limit_a_lem, limit_b_lem, limit_constant_lem, limit_target_lem)
+
+-- the six tests of a record together
+pub rule_by : (s : List ℕ) (i : ℕ) {t₁ t₂ t₃ t₄ t₅ t₆ : Bool}
+    → t₁ ≡ ltb (register_a s i) (limit_a (operation s i))
+    → t₂ ≡ ltb (operand_b s i) (limit_b (locations s) (locks s) (operation s i))
+    → t₃ ≡ eqb (reserved s i) 0
+    → t₄ ≡ ltb (constant s i) (limit_constant (operation s i))
+    → t₅ ≡ ltb (target s i) (limit_target (record_count s) (operation s i))
+    → t₆ ≡ leb (next s i) (record_count s)
+    → all (t₁ ∷ t₂ ∷ t₃ ∷ t₄ ∷ t₅ ∷ t₆ ∷ []) ≡ record_rule s i
+unfolding record_rule
+rule_by s i e₁ e₂ e₃ e₄ e₅ e₆ = λ j. all (e₁ j ∷ e₂ j ∷ e₃ j ∷ e₄ j ∷ e₅ j ∷ e₆ j ∷ [])

@@ -10,6 +10,7 @@ use lib.Bits.{bit_xor}
 use lib.Dec.{eqb}
 use lib.ListN.{length, get_or, take, drop, length-take, length-drop}
 use lib.Seq.{get_or-drop, get_or-take}
+use Rattle.std.specs.Prelude.{None, Ok}
 use Rattle.laws.proofs.Lists.{at_some}
 use Rattle.file_format.specs.declared.accepted.Op.{Op}
 use Rattle.file_format.specs.declared.accepted.Op.TheVariants.{Set, Add, Load, Store, Lock, Unlock, Skip}
@@ -21,7 +22,7 @@ use Rattle.sheet_rows.specs.Rows.{row_in}
 use Rattle.sheet_rows.specs.Lanes.{fields_of}
 use Rattle.sheet_rows.proofs.Laws.Lanes.{held_fields}
 use Rattle.file_locks.specs.Sets.{jump_or, no_jump, locks_in, meets, ways, lock_bit, barred, descends_at}
-use Rattle.file_locks.specs.Lanes.{Named, LaneIn}
+use Rattle.file_locks.specs.Lanes.{Named, LaneIn, Clean, RecordsOf}
 use Rattle.file_locks.proofs.Laws.Locks.{other_wrong, other_next}
 use Rattle.file_locks.proofs.Laws.Locks.{lock_wrong, lock_descends, lock_next, unlock_wrong, unlock_next}
 
@@ -116,6 +117,10 @@ unfolding record_at
 record_none rs x e =
     let place : min x (length rs) ≡ 0 = omega arith in
     ap (λ i. get_or (0 ∷ rs) i 0) place
+
+-- in a lane that keeps both rules no record is named
+pub clean_records : (rs : List ℕ) (ops : List Op) → Clean ops → RecordsOf rs ops (Ok None)
+clean_records rs ops clean = clean
 
 -- the place x cut to the n records of a lane that begins there
 pub record_cut : (order : List ℕ) (from n x : ℕ) {i : ℕ} → from + n ≤ length order → i ≡ min x n

@@ -1,10 +1,12 @@
 -- Laws of the bytes of entries: a store, a release, and a place of a lane's list.
-use Prim.Native.Nat.{ℕ, ◌-◌, ◌≤◌, ◌<◌}
+use Prim.Native.Nat.{ℕ, suc, ◌-◌, ◌≤◌, ◌<◌}
 use mathlib.Core.Path.{◌≡◌, sym, ap, ◌∙◌}
 use mathlib.Core.Bool.{Bool, cond}
 use mathlib.Core.List.{List}
 use mathlib.Core.Option.{none, some}
+use native.Mathlib.Decide.{dec_le}
 use native.Mathlib.Omega.{arith}
+use lib.Dec.{ltb}
 use lib.ListN.{length, get_or, get_elem?, take, length-take}
 use lib.Seq.{get_or-take}
 use borrow.Author.Tests.{lt-ltb, le-ltb}
@@ -42,3 +44,16 @@ module _ (cs vs : List ℕ) (n i : ℕ) (full : length cs ≡ 64) (whole : lengt
   place_free l =
       let es = entries_of cs vs in
       sym (at_beyond (take n es) i (omega (arith, length-take n es)))
+
+  -- both together
+  pub place_is : i < 64
+      → cond (ltb i n) (some (entry_of (get_or cs i 0) (get_or vs i 0))) none ≡ get_elem? (take n (entries_of cs vs)) i
+  place_is h = go (dec_le (suc i) n)
+    where
+      go : Dec (i < n)
+          → cond (ltb i n) (some (entry_of (get_or cs i 0) (get_or vs i 0))) none
+          ≡ get_elem? (take n (entries_of cs vs)) i
+      go (yes l) = rw (lt-ltb i n l) (place_there h l)
+      go (no l) =
+          let free : n ≤ i = omega arith in
+          rw (le-ltb i n free) (place_free free)

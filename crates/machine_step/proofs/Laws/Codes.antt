@@ -1,11 +1,14 @@
 -- Laws of the instruction of a sheet row, and of what is said of equal instructions.
 use Rattle.std.proofs.Common.{◌≡◌, ℕ, Bool, sym, ap, subst, ◌∙◌}
-use Rattle.sheet_format.specs.Layout.{Instr}
+use mathlib.Core.Logic.{◌⊎◌}
+use Rattle.barrier_placement.specs.declared.cookbook.Barrier.{Barrier}
+use Rattle.sheet_format.specs.Layout.{Instr, barrier}
 use Rattle.sheet_rows.specs.declared.read.Row.{Row}
 use Rattle.sheet_format.specs.Read.{instr_by}
 use Rattle.sheet_format.specs.declared.code.Code.{Code}
-use Rattle.sheet_format.specs.Code.{code_from, instr_named}
-use Rattle.sheet_format.proofs.Laws.Codes.{of_kind}
+use Rattle.sheet_format.specs.declared.code.Code.TheVariants as C
+use Rattle.sheet_format.specs.Code.{barrier_kind, code_from, instr_named}
+use Rattle.sheet_format.proofs.Laws.Codes.{of_kind, barrier_kinds}
 use Rattle.machine_spec.specs.declared.Machine.{Machine}
 use Rattle.machine_state.specs.declared.state.Moved.{Moved}
 use Rattle.machine_state.specs.Ready.{Ready}
@@ -29,3 +32,12 @@ pub carried_by : (m : Machine) (f : ℕ → Bool) (a b c : ℕ) {o p : ℕ} {r k
     → Carried m f (instr_by o a b c) t s q e
 carried_by m f a b c {o} same from is h =
     carried_as m f (of_kind o a b c (from ∙ ap code_from same) is) h
+
+-- by the barrier x of its kind r, which is a barrier's
+pub carried_past : (m : Machine) (f : ℕ → Bool) (a b c : ℕ) {o p : ℕ} {r : Code} {x : Barrier} {t : ℕ} {s e : Blocks}
+    {q : Moved} → p ≡ o → r ≡ code_from p → (r ≡ C.LL) ⊎ ((r ≡ C.LS) ⊎ ((r ≡ C.SS) ⊎ (r ≡ C.SL)))
+    → ((k : Barrier) → r ≡ barrier_kind k → x ≡ k) → Carried m f (barrier x) t s q e
+    → Carried m f (instr_by o a b c) t s q e
+carried_past m f a b c {o} {t = t} {s} {e} {q} same from is one h =
+    barrier_kinds (λ i. Carried m f i t s q e) o a b c (from ∙ ap code_from same) is
+    (λ k n. subst (λ y. Carried m f (barrier y) t s q e) (one k n) h)

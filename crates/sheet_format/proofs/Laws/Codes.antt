@@ -1,9 +1,13 @@
--- Laws of operation codes: the instruction of a code by its kind, and of the kinds whose fields are the same.
-use Prim.Native.Nat.{ℕ}
+-- Laws of operation codes: the instruction of a code that is known, of one that is no operation's, of a code by its
+-- kind, and of the kinds whose fields are the same.
+use Prim.Native.Nat.{ℕ, ◌≤◌, ◌<◌}
 use mathlib.Core.Path.{◌≡◌, refl, ap, sym, subst, ◌∙◌}
 use mathlib.Core.Bool.{Bool, true, false, cond}
-use lib.Dec.{eqb}
 use mathlib.Core.Logic.{◌⊎◌, ⊎_elim}
+use native.Mathlib.Omega.{arith}
+use lib.Dec.{eqb}
+use borrow.Author.Tests.{ne_eqb}
+use Rattle.laws.proofs.Numbers.{lt_or_le}
 use Rattle.file_format.specs.declared.accepted.Op.TheVariants.{Set, Add, Load, Store, Lock, Unlock, Skip}
 use Rattle.sheet_format.specs.Layout.{Instr, op, barrier}
 use Rattle.sheet_format.specs.Read.{barrier_by, instr_by}
@@ -12,6 +16,53 @@ use Rattle.sheet_format.specs.declared.code.Code.TheVariants as C
 use Rattle.barrier_placement.specs.declared.cookbook.Barrier.{Barrier}
 use Rattle.barrier_placement.specs.declared.cookbook.Barrier.TheVariants.{LL, LS, SS, SL}
 use Rattle.sheet_format.specs.Code.{barrier_kind, code_from, instr_named}
+
+pub by_code : (n : ℕ) {o : ℕ} (a b c : ℕ) → o ≡ n → instr_by n a b c ≡ instr_by o a b c
+by_code n a b c e = ap (λ x. instr_by x a b c) (sym e)
+
+pub other_code : (o a b c : ℕ) → (o ≡ 1 → ⊥) → (o ≡ 2 → ⊥) → (o ≡ 3 → ⊥) → (o ≡ 4 → ⊥) → (o ≡ 5 → ⊥) → (o ≡ 6 → ⊥)
+    → (o ≡ 7 → ⊥) → barrier (barrier_by o) ≡ instr_by o a b c
+other_code o a b c n1 n2 n3 n4 n5 n6 n7 =
+    rw (
+      ne_eqb o 1 n1,
+      ne_eqb o 2 n2,
+      ne_eqb o 3 n3,
+      ne_eqb o 4 n4,
+      ne_eqb o 5 n5,
+      ne_eqb o 6 n6,
+      ne_eqb o 7 n7,
+    ) refl
+
+-- what holds of the instruction of a code o, by bounds on o
+module _ (P : Instr → Type 0) (o a b c : ℕ) where
+  by : (n : ℕ) → o ≡ n → P (instr_by n a b c) → P (instr_by o a b c)
+  by n e = subst P (by_code n a b c e)
+
+  -- register a, and the constant or the target
+  pub word_codes : (o ≡ 1) ⊎ (o ≡ 7) → P (op (Set a c)) → P (op (Skip a c)) → P (instr_by o a b c)
+  word_codes k set skip = ⊎_elim (λ e. by 1 e set) (λ e. by 7 e skip) k
+
+  -- register a and operand b
+  pub pair_codes : (o ≡ 1 → ⊥) → 1 ≤ o → o < 5 → P (op (Add a b)) → P (op (Load a b)) → P (op (Store a b))
+      → P (instr_by o a b c)
+  pair_codes n p q add load store =
+      ⊎_elim (λ l. by 2 (omega arith) add)
+      (λ g. ⊎_elim (λ l. by 3 (omega arith) load) (λ h. by 4 (omega arith) store) (lt_or_le o 4))
+      (lt_or_le o 3)
+
+  -- operand b alone
+  pub lock_codes : 5 ≤ o → o < 7 → P (op (Lock b)) → P (op (Unlock b)) → P (instr_by o a b c)
+  lock_codes p q lock unlock =
+      ⊎_elim (λ l. by 5 (omega arith) lock) (λ g. by 6 (omega arith) unlock) (lt_or_le o 6)
+
+  -- none of them
+  pub barrier_codes : (1 ≤ o → o < 8 → ⊥) → P (barrier (barrier_by o)) → P (instr_by o a b c)
+  barrier_codes h =
+      let no : (n : ℕ) → 1 ≤ n → n < 8 → o ≡ n → ⊥ = λ n p q e. h (omega arith) (omega arith) in
+      subst P
+      (other_code o a b c (no 1 (omega arith) (omega arith)) (no 2 (omega arith) (omega arith))
+      (no 3 (omega arith) (omega arith)) (no 4 (omega arith) (omega arith)) (no 5 (omega arith) (omega arith))
+      (no 6 (omega arith) (omega arith)) (no 7 (omega arith) (omega arith)))
 
 -- the instruction of a code is that of its kind
 barrier_named : (k : Barrier) (a b c : ℕ) → barrier k ≡ instr_named (barrier_kind k) a b c
@@ -55,8 +106,9 @@ module _ (P : Instr → Type 0) (o a b c : ℕ) {r : Code} (from : r ≡ code_fr
   pub lock_kinds : (r ≡ C.Lock) ⊎ (r ≡ C.Unlock) → P (op (Lock b)) → P (op (Unlock b)) → P (instr_by o a b c)
   lock_kinds is lock unlock = ⊎_elim (λ e. by_kind e lock) (λ e. by_kind e unlock) is
 
-  pub barrier_kinds : (r ≡ C.LL) ⊎ ((r ≡ C.LS) ⊎ ((r ≡ C.SS) ⊎ (r ≡ C.SL))) → ((k : Barrier) → P (barrier k))
-      → P (instr_by o a b c)
-  barrier_kinds is all =
-      ⊎_elim (λ e. by_kind e (all LL))
-      (λ f. ⊎_elim (λ e. by_kind e (all LS)) (λ g. ⊎_elim (λ e. by_kind e (all SS)) (λ e. by_kind e (all SL)) g) f) is
+  pub barrier_kinds : (r ≡ C.LL) ⊎ ((r ≡ C.LS) ⊎ ((r ≡ C.SS) ⊎ (r ≡ C.SL)))
+      → ((k : Barrier) → r ≡ barrier_kind k → P (barrier k)) → P (instr_by o a b c)
+  barrier_kinds is one =
+      ⊎_elim (λ e. by_kind e (one LL e))
+      (λ f. ⊎_elim (λ e. by_kind e (one LS e))
+      (λ g. ⊎_elim (λ e. by_kind e (one SS e)) (λ e. by_kind e (one SL e)) g) f) is

@@ -68,7 +68,7 @@ module _ (o a b c : ℕ) {r : Code} (from : r ≡ code_from o) where
   pub none_behind : (r ≡ C.LL) ⊎ ((r ≡ C.LS) ⊎ ((r ≡ C.SS) ⊎ (r ≡ C.SL)))
       → instr_name (instr_by o a b c) ≡ instr_text (instr_by o a b c)
   unfolding instr_text
-  none_behind is = barrier_kinds (λ i. instr_name i ≡ instr_text i) o a b c from is (λ k. refl)
+  none_behind is = barrier_kinds (λ i. instr_name i ≡ instr_text i) o a b c from is (λ k e. refl)
 
 pub pair_few : (a b : ℕ) → a < 2 ^ 32 → b < 2 ^ 32 → length (pair a b) ≤ 21
 pair_few a b ha hb =

@@ -14,16 +14,16 @@ use Rattle.machine_state.proofs.held.issue.Goals as goal
 
 pub put_newest-requires : goal.put_newest-requires
 put_newest-requires c =
-    let more = c.append.ensures.len ∙ ap (λ (l : Lane). suc l.len) c.take-lane.ensures in
+    let more = c.appended.ensures.len ∙ ap (λ (l : Lane). suc l.len) c.take.ensures in
     let few = pending_count_lem c.args.state.now c.args.t c.requires.0 in
     (c.requires.0, more, omega (arith, more, few, c.requires.1))
 
 pub returns : goal.returns
 returns c =
     let n = (stored_in (get_or c.args.state.now c.args.t [])).len in
-    let own : c.take-lane.result.len ≡ n = ap (λ (l : Lane). l.len) c.take-lane.ensures in
-    let cell = ap (λ m. get_or c.append.new.self.cells m 0) (sym own) ∙ c.append.ensures.cell in
-    let value = ap (λ m. get_or c.append.new.self.values m 0) (sym own) ∙ c.append.ensures.value in
+    let own : c.take.result.len ≡ n = ap (λ (l : Lane). l.len) c.take.ensures in
+    let cell = ap (λ m. get_or c.appended.result.cells m 0) (sym own) ∙ c.appended.ensures.cell in
+    let value = ap (λ m. get_or c.appended.result.values m 0) (sym own) ∙ c.appended.ensures.value in
     let put = became (ap (λ e. with_pending (lane_of c.args.state.now c.args.t)
     (append_entry (lane_of c.args.state.now c.args.t).pending (some e)))
     (ap₂ entry_of cell value)) c.put_newest.ensures in

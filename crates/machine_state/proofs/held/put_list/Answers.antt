@@ -10,7 +10,7 @@ use Rattle.machine_state.proofs.held.put_list.Goals as goal
 pub returns : goal.returns
 returns c =
     came c.put_word.ensures
-    (list_set c.args.state.now c.args.t c.requires _ c.args.lane.now.cells c.args.lane.now.values c.args.lane.now.len
+    (list_set c.args.state.now c.args.t c.requires _ c.args.lane.cells c.args.lane.values c.args.lane.len
     (omega arith) (omega arith)
-    (again c.args.state.now c.args.t c.requires (set (get_or c.args.state.now c.args.t []) CELLS c.args.lane.now.cells)
-    (λ b. set b VALUES c.args.lane.now.values)))
+    (again c.args.state.now c.args.t c.requires (set (get_or c.args.state.now c.args.t []) CELLS c.args.lane.cells)
+    (λ b. set b VALUES c.args.lane.values)))

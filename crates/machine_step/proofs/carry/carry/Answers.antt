@@ -1,6 +1,6 @@
 -- `machine_step::carry::carry` meets its contract.
 use Rattle.machine_lane.specs.Lanes.{flags}
-use Rattle.machine_step.proofs.Laws.Codes.{carried_by}
+use Rattle.machine_step.proofs.Laws.Codes.{carried_by, carried_past}
 use Rattle.machine_step.proofs.carry.carry.Goals as goal
 
 pub returns-in-Set : goal.returns-in-Set
@@ -30,20 +30,5 @@ returns-in-Skip c =
 
 pub returns-in-LL : goal.returns-in-LL
 returns-in-LL c =
-    carried_by c.args.machine (flags c.args.volatile.now) c.args.a c.args.b c.args.c c.from.ensures c.from-2.ensures
-    c.in-LL.is (c.pass.ensures (flags c.args.volatile.now))
-
-pub returns-in-LS : goal.returns-in-LS
-returns-in-LS c =
-    carried_by c.args.machine (flags c.args.volatile.now) c.args.a c.args.b c.args.c c.from.ensures c.from-2.ensures
-    c.in-LS.is (c.pass-in-LS.ensures (flags c.args.volatile.now))
-
-pub returns-in-SS : goal.returns-in-SS
-returns-in-SS c =
-    carried_by c.args.machine (flags c.args.volatile.now) c.args.a c.args.b c.args.c c.from.ensures c.from-2.ensures
-    c.in-SS.is (c.pass-in-SS.ensures (flags c.args.volatile.now))
-
-pub returns-in-SL : goal.returns-in-SL
-returns-in-SL c =
-    carried_by c.args.machine (flags c.args.volatile.now) c.args.a c.args.b c.args.c c.from.ensures c.from-2.ensures
-    c.in-SL.is (c.pass-in-SL.ensures (flags c.args.volatile.now))
+    carried_past c.args.machine (flags c.args.volatile.now) c.args.a c.args.b c.args.c c.from.ensures c.from-2.ensures
+    c.in-LL.is c.barrier_of.ensures (c.pass.ensures (flags c.args.volatile.now))

@@ -35,4 +35,4 @@ pub returns-in-LL : goal.returns-in-LL
 unfolding in_columns
 returns-in-LL c =
     barrier_kinds (Laid c.args.line.now _ c.args.rec) c.args.code c.args.a c.args.b c.args.word
-    c.from.ensures c.in-LL.is (λ k. refl)
+    c.from.ensures c.in-LL.is (λ k e. refl)
