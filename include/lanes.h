@@ -2,8 +2,8 @@
  *
  * A kernel file, a schedule and an output buffer are each a pointer and a length in bytes. A pointer is never NULL,
  * also where the length is 0. The buffers of one call do not overlap. A call keeps no pointer and needs no memory but
- * stack: measured on x86-64 and the longest kernel, lanes_lower1, lanes_lower2 and lanes_lower3 5,120 bytes, lanes_page
- * 11,832, lanes_run_source 9,496, lanes_run_tso and lanes_run_pso 14,384.
+ * stack: measured on x86-64 and the longest kernel, lanes_lower1, lanes_lower2 and lanes_lower3 5,096 bytes, lanes_page
+ * 11,768, lanes_run_source 9,496, lanes_run_tso and lanes_run_pso 14,360.
  *
  * Answer: a success is the number of bytes written, below 2^32. A refusal is number * 2^32 + record, the record being
  * 0 where none is named. After a refusal the output buffer is as it was; after a success the bytes behind the result

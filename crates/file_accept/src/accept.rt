@@ -19,7 +19,9 @@ use file_locks::lock_refusal;
 use file_rows::whole::write_chains;
 use file_verdict::refusal::Refusal;
 
-// Checks 1 to 4, which need no buffer: whether the header and the records keep their rules.
+// Checks 1 to 4, which need no buffer: whether the header and the records keep their rules. A call would pass the
+// answer through memory.
+#[inline(always)]
 pub fn field_refusal(file: &[u8]) -> Result<(), Refusal>
     ensures { result ≡ fields_then file.now (Ok tt) }
 {

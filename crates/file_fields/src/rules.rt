@@ -6,7 +6,9 @@ ghost use Rattle.file_format.specs.Rules.{bad_record};
 
 use crate::limits::{record_rule, rows_of};
 
-// The lowest record that breaks its rule.
+// The lowest record that breaks its rule. Where it is inlined behind the tests of the header, the compiler takes its
+// loop for one that is rarely run, and does not align it.
+#[inline(never)]
 pub fn bad_record(s: &[u8]) -> Option<usize>
     requires { length s.now ≡ 16 + 12 * record_count s.now }
     ensures { result ≡ named (bad_record s.now) }

@@ -12,7 +12,7 @@ use machine_spec::Machine;
 use machine_state::held::position;
 use machine_state::state::{Moved, State};
 use sheet_rows::number::wide;
-use sheet_rows::read::row_at;
+use sheet_rows::read::whole_row;
 
 // The instruction at the lane's position; past the last one is the end, where the lane waits.
 fn carry_next(
@@ -33,7 +33,7 @@ fn carry_next(
     if p >= count {
         return Moved::Waited;
     }
-    let row = row_at(sheet, first + 8 * p);
+    let row = whole_row(sheet, first + 8 * p);
     carry(
         machine, volatile, row.code, row.a, row.b, row.word, t, state,
     )

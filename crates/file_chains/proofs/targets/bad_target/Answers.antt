@@ -15,7 +15,13 @@ loop-i-init c = search_start _ 1 c.from-n.result ∙ ap (lowest _ 1) (c.from-n.e
 pub strays-requires : goal.strays-requires
 strays-requires c =
     record {
-      s_bound = (few_records _ c.requires.fielded.header, c.requires.fielded.records, omega arith, omega arith);
+      s_bound = (
+        few_records _ c.requires.fielded.header,
+        c.requires.fielded.records,
+        omega arith,
+        omega arith,
+        omega (arith, c.requires.fielded.sized),
+      );
       s_value = c.requires.s_value;
     }
 

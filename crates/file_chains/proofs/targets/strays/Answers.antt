@@ -13,7 +13,7 @@ use Rattle.file_chains.proofs.targets.strays.Goals as goal
 pub bounds-place-x : goal.bounds-place-x
 bounds-place-x c =
     let small = target_small c.args.s.now c.requires.s_bound.1 c.args.i c.requires.s_bound.2 c.requires.s_bound.3 in
-    omega (arith, c.from-x.ensures, c.word_at.ensures.0, c.requires.s_value.1.1.place_room)
+    omega (arith, c.whole_word-x.ensures.0, c.requires.s_value.1.1.place_room)
 
 pub returns-then-x-ne0 : goal.returns-then-x-ne0
 returns-then-x-ne0 c =
@@ -21,12 +21,12 @@ returns-then-x-ne0 c =
     ap not
     (c.reaches.ensures
     ∙ ap₂ (reached c.args.ends.now) c.from.ensures
-    (c.from-then-x-ne0.ensures ∙ ap (λ x. get_or c.args.place.now x 0) (c.from-x.ensures ∙ c.word_at.ensures.0)))
+    (c.from-then-x-ne0.ensures ∙ ap (λ x. get_or c.args.place.now x 0) (c.whole_word-x.ensures.0)))
     ∙ strays_as c.requires.s_value.1.1 c.requires.s_value.0 c.args.i c.requires.s_bound.2 c.requires.s_bound.3
-    (λ z. c.if-x-ne0.true (c.from-x.ensures ∙ c.word_at.ensures.0 ∙ z)) small
+    (λ z. c.if-x-ne0.true (c.whole_word-x.ensures.0 ∙ z)) small
 
 pub returns-else-x-ne0 : goal.returns-else-x-ne0
 unfolding unreachable_target
 returns-else-x-ne0 c =
     let none = c.if-x-ne0.false in
-    rw (eq-eqb _ _ none, eq-eqb _ _ (sym (c.from-x.ensures ∙ c.word_at.ensures.0) ∙ none)) refl
+    rw (eq-eqb _ _ none, eq-eqb _ _ (sym (c.whole_word-x.ensures.0) ∙ none)) refl

@@ -23,7 +23,7 @@ carry-requires c =
     let prog = read_rows c.args.count b in
     let at = ap (get_elem? prog) (sym (c.wide-p.ensures ∙ c.position.ensures)) in
     let here = at ∙ row_from c.args.count c.args.first c.args.sheet.now c.wide-p.result c.if-p-count.false in
-    ready_as (of_row c.row_at-row.ensures) (ready_at c.requires.0 here)
+    ready_as (of_row c.whole_row-row.ensures) (ready_at c.requires.0 here)
 
 pub returns : goal.returns
 returns c =
@@ -33,4 +33,4 @@ returns c =
     let here = at ∙ row_from c.args.count c.args.first c.args.sheet.now c.wide-p.result c.if-p-count.false in
     let f = flags c.args.volatile.now in
     made_carry c.args.machine f prog _ c.args.t here
-    (carried_as c.args.machine f (of_row c.row_at-row.ensures) c.carry.ensures)
+    (carried_as c.args.machine f (of_row c.whole_row-row.ensures) c.carry.ensures)
